@@ -1,0 +1,10 @@
+pub mod Batch
+pub mod Cell
+pub mod Column
+pub mod Examples
+pub mod Frame
+pub mod Lists
+pub mod Refusal
+pub mod Schema
+pub mod SchemaLaws
+pub mod Stream

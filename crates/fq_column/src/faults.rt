@@ -1,0 +1,87 @@
+// Refusals of schemas, steps and batches, and want of memory.
+use std::alloc::{AllocError, AllocFailed};
+
+/// Why a schema or a step is refused; the numbers are those of the plan language's reference.
+#[derive(Clone, Copy, Debug, PartialEq, Eq)]
+pub enum StepFault {
+    /// A name that is not a column's.
+    NoSuchColumn = 1,
+    /// An operand, key or column of another kind than is wanted.
+    WrongKind = 2,
+    /// Two columns of one name.
+    DoubleName = 3,
+    /// A filter whose expression is not a truth value.
+    NotBool = 4,
+    /// More than 64 columns.
+    TooMany = 5,
+    /// No column, key or item where at least one is wanted.
+    NoColumn = 6,
+    /// A join with a source that is not before the last.
+    NoSuchSource = 7,
+    /// A rolling window that is not 1 to 65,536 rows long.
+    Window = 8,
+    /// A least number of values that is not 1 to the window.
+    Samples = 9,
+    /// A growth was refused.
+    Memory = 10,
+}
+
+/// Why columns do not make a batch of a schema.
+#[derive(Clone, Copy, Debug, PartialEq, Eq)]
+pub enum BatchFault {
+    /// Another number of columns than the schema has.
+    Width = 1,
+    /// A column of another kind than the schema says.
+    Kind = 2,
+    /// Columns of different lengths.
+    Length = 3,
+}
+
+/// A growth was refused.
+#[derive(Clone, Copy, Debug, PartialEq, Eq)]
+pub struct Memory;
+
+impl From<AllocError> for Memory {
+    fn from(_error: AllocError) -> Memory {
+        Memory
+    }
+}
+
+impl<T: Drop> From<AllocFailed<T>> for Memory {
+    fn from(_failed: AllocFailed<T>) -> Memory {
+        Memory
+    }
+}
+
+impl From<Memory> for StepFault {
+    ghost use Rattle.std.specs.Prelude.{◌≡◌};
+    ghost use Rattle.fq_column.specs.declared.faults.StepFault.TheVariants as fault;
+
+    ghost from_gives = { λ _ e. e ≡ fault.Memory };
+
+    fn from(_refused: Memory) -> StepFault {
+        StepFault::Memory
+    }
+}
+
+impl From<AllocError> for StepFault {
+    ghost use Rattle.std.specs.Prelude.{◌≡◌};
+    ghost use Rattle.fq_column.specs.declared.faults.StepFault.TheVariants as fault;
+
+    ghost from_gives = { λ _ e. e ≡ fault.Memory };
+
+    fn from(_error: AllocError) -> StepFault {
+        StepFault::Memory
+    }
+}
+
+impl<T: Drop> From<AllocFailed<T>> for StepFault {
+    ghost use Rattle.std.specs.Prelude.{◌≡◌};
+    ghost use Rattle.fq_column.specs.declared.faults.StepFault.TheVariants as fault;
+
+    ghost from_gives = { λ _ e. e ≡ fault.Memory };
+
+    fn from(_failed: AllocFailed<T>) -> StepFault {
+        StepFault::Memory
+    }
+}
