@@ -1,0 +1,38 @@
+-- The cell that a field is, by the kind of its column. A whole number is read as Rust reads one, a truth value as Polars writes one but in any letter case.
+use Rattle.std.specs.Prelude.{◌&&◌, Bool, true, false, ℕ, ℤ, List, [], ◌∷◌, Option, Some, None, option_map, map, if◌then◌else◌}
+use Rattle.std.specs.Str.{is_utf8, all_ascii_digits, bytes_eq}
+use Rattle.std.specs.Char.{to_ascii_lowercase}
+use Rattle.std.specs.Str.Parse.{signed_digits_value, without_leading_sign, true_text, false_text}
+use Rattle.fq_column.specs.declared.cells.Kind.{Kind}
+use Rattle.fq_column.specs.declared.cells.Kind.TheVariants as kind
+use Rattle.fq_column.specs.declared.cells.Cell.{Cell}
+use Rattle.fq_column.specs.declared.cells.Cell.TheVariants.{Null, Whole, Text, Truth}
+use Rattle.fq_column.specs.Cell.{fits}
+
+-- one decimal digit or more
+abbrev pub is_numeral : List ℕ → Bool
+is_numeral [] = false
+is_numeral (c ∷ cs) = all_ascii_digits (c ∷ cs)
+
+-- the whole number that a field spells: an optional sign and digits, within 64 bits
+abbrev pub whole_of : List ℕ → Option ℤ
+whole_of field =
+    if is_numeral (without_leading_sign field) && fits (signed_digits_value 10 field) then Some (signed_digits_value 10 field) else None
+
+-- the truth value that a field names, in any ASCII letter case
+abbrev pub truth_of : List ℕ → Option Bool
+truth_of field =
+    if bytes_eq (map to_ascii_lowercase field) true_text then Some true
+    else if bytes_eq (map to_ascii_lowercase field) false_text then Some false
+    else None
+
+-- the text that a field is, if its bytes are UTF-8
+abbrev pub text_of : List ℕ → Option (List ℕ)
+text_of field = if is_utf8 field then Some field else None
+
+-- the cell of a column's kind that a field is, if it is one; an empty field is null
+abbrev pub cell_of : Kind → List ℕ → Option Cell
+cell_of k [] = Some Null
+cell_of kind.Whole (c ∷ cs) = option_map Whole (whole_of (c ∷ cs))
+cell_of kind.Text (c ∷ cs) = option_map Text (text_of (c ∷ cs))
+cell_of kind.Truth (c ∷ cs) = option_map Truth (truth_of (c ∷ cs))

@@ -1,0 +1,9 @@
+pub mod Field
+pub mod File
+pub mod Printed
+pub mod Records
+pub mod Rows
+pub mod Scan
+pub mod Stage
+pub mod Writing
+pub mod Run

@@ -1,0 +1,61 @@
+-- What a scanner has still to hand out, and what one call of it hands out.
+use Rattle.std.specs.Prelude.{◌≡◌, ◌+◌, ◌<◌, ◌≤◌, ◌⊎◌, ℕ, length, take, Option, Some, None, IsSome}
+use Rattle.fq_column.specs.Frame.{Fields, Frame}
+use Rattle.fq_column.specs.Stream.{Stream}
+use Rattle.fq_csv.specs.Stage.{ended, without}
+use Rattle.fq_csv.specs.declared.faults.ScanFault.{ScanFault}
+use Rattle.fq_csv.specs.declared.faults.ScanFault.TheVariants.{Read, Memory}
+use Rattle.fq_csv.specs.declared.scans.Scan.{Scan}
+use Rattle.fq_csv.specs.declared.scans.Scan.TheVariants.{Batch, End}
+
+-- the file and its schema, the size of a batch, how many batches went before, how many rows may still come,
+-- the stream still to come, where the reader tells its bytes and has not failed, and the end, once it is known
+pub record Scanning : Type 0 where
+  pub file : ℕ
+  pub fields : Fields
+  pub batch_size : ℕ
+  pub serial : ℕ
+  pub room : ℕ
+  pub upcoming : Option (Stream ScanFault)
+  pub ending : Option (Option ScanFault)
+
+-- the file, its schema and the size of a batch are the same
+pub record IsSameScan (old new : Scanning) : Type 0 where
+  pub file : new.file ≡ old.file
+  pub schema : new.fields ≡ old.fields
+  pub size : new.batch_size ≡ old.batch_size
+
+-- the form of a batch, whatever the reader gives: it has the next serial and some rows, which count, and it is full unless the rows end after it
+pub record IsNextBatch (old : Scanning) (file serial : ℕ) (batch : Frame) (new : Scanning) : Type 0 where
+  pub number : file ≡ old.file
+  pub in_order : serial ≡ old.serial
+  pub schema : batch.fields ≡ old.fields
+  pub some : 0 < length batch.rows
+  pub fits : length batch.rows ≤ old.batch_size
+  pub full : length batch.rows < old.batch_size → IsSome new.ending
+  pub not_ended : old.ending ≡ None
+  pub same : IsSameScan old new
+  pub counted : new.serial ≡ old.serial + 1
+  pub in_room : new.room + length batch.rows ≡ old.room
+
+-- the form of an end: it has the number of batches, and is known from now on
+pub record IsLastWord (old : Scanning) (file batches : ℕ) (fault : Option ScanFault) (new : Scanning) : Type 0 where
+  pub number : file ≡ old.file
+  pub counted : batches ≡ old.serial
+  pub known : new.ending ≡ Some fault
+  pub same : IsSameScan old new
+  pub serial : new.serial ≡ old.serial
+  pub room : new.room ≡ old.room
+
+abbrev pub HasForm : Scanning → Scan → Scanning → Type 0
+HasForm old (Batch file serial batch) new = IsNextBatch old file serial batch new
+HasForm old (End file batches fault) new = IsLastWord old file batches fault new
+
+-- the reader failed, or memory was refused
+abbrev pub IsFailed : ℕ → Option ScanFault → Type 0
+IsFailed file fault = (fault ≡ Some (Read file)) ⊎ (fault ≡ Some Memory)
+
+-- what is handed out of a stream: its first rows, and the rest is left; or its end, which is left; or word of a failure
+abbrev pub HandsOut : ℕ → ℕ → Stream ScanFault → Scan → Option (Stream ScanFault) → Type 0
+HandsOut file size u (Batch number serial batch) after = (batch.rows ≡ take size u.rows) × (after ≡ Some (without size u))
+HandsOut file size u (End number batches fault) after = ((u ≡ ended fault) × (after ≡ Some u)) ⊎ IsFailed file fault

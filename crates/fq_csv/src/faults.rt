@@ -1,0 +1,53 @@
+// Why the rows of a file end before its bytes do.
+use fq_column::Memory;
+
+/// Why a scan of a file ended before the end of the file.
+///
+/// Files and columns count from 0, rows from 1, the header not counted.
+#[derive(Clone, Copy, Debug, PartialEq, Eq)]
+pub enum ScanFault {
+    /// The first record isn't the schema's names in their order, or there is no record.
+    Header {
+        /// The file.
+        file: u16,
+    },
+    /// A row has more or fewer fields than the schema has columns.
+    Width {
+        /// The file.
+        file: u16,
+        /// The row.
+        row: u32,
+    },
+    /// A field isn't a cell of its column's kind.
+    BadCell {
+        /// The file.
+        file: u16,
+        /// The row.
+        row: u32,
+        /// The first such column of the row.
+        column: u16,
+    },
+    /// There are more rows than the limit.
+    TooLong {
+        /// The file.
+        file: u16,
+    },
+    /// The reader failed.
+    Read {
+        /// The file.
+        file: u16,
+    },
+    /// A growth was refused.
+    Memory,
+}
+
+impl From<Memory> for ScanFault {
+    ghost use Rattle.std.specs.Prelude.{◌≡◌};
+    ghost use Rattle.fq_csv.specs.declared.faults.ScanFault.TheVariants.{Memory as OutOfMemory};
+
+    ghost from_gives = { λ _ fault. fault ≡ OutOfMemory };
+
+    fn from(_memory: Memory) -> ScanFault {
+        ScanFault::Memory
+    }
+}

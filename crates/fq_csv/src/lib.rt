@@ -1,0 +1,28 @@
+//! CSV files as streams of batches, and batches as CSV text.
+#![tactic(auto)]
+
+mod batches;
+mod faults;
+mod fields;
+mod frames;
+mod headers;
+mod laws;
+mod printing;
+mod records;
+mod rows;
+mod scanners;
+mod scans;
+mod spans;
+mod stages;
+
+pub use faults::ScanFault;
+pub use frames::scan_all;
+pub use laws::scan_laws;
+pub use printing::{WriteFault, print_frame, write_frame};
+pub use scanners::{MAX_BATCH_SIZE, MAX_ROWS, Scanner};
+pub use scans::Scan;
+
+#[cfg(test)]
+mod examples;
+#[cfg(test)]
+mod tests;
