@@ -1,0 +1,17 @@
+pub mod DistinctLemmas
+pub mod DivisionLemmas
+pub mod EvaluationLemmas
+pub mod EvaluatedItems
+pub mod FilterLemmas
+pub mod FrontLemmas
+pub mod ItemLemmas
+pub mod JudgementLemmas
+pub mod KindLemmas
+pub mod OperandLemmas
+pub mod OutcomeLemmas
+pub mod OutputLemmas
+pub mod PrefixLemmas
+pub mod ProjectionLemmas
+pub mod RowLemmas
+pub mod SelectionLemmas
+pub mod StepLemmas

@@ -1,0 +1,184 @@
+-- Columns that are functions of the rows, and the rows that stand in them.
+use Rattle.std.proofs.Common.{◌≡◌, ℕ, zero, suc, ◌+◌, ◌<◌, ◌≤◌, Bool, true, false, cond, not, List, [], ◌∷◌, ◌++◌, length, map, drop, set, replicate, refl, ap, sym, ◌∙◌, arith, Option, Some, None}
+use Rattle.std.specs.Prelude.{All}
+use Rattle.std.specs.Bool.{◌==◌}
+use Rattle.std.specs.List.{zip, list_all}
+use Rattle.std.specs.Cmp.Lexicographic.{pointwise}
+use Rattle.std.proofs.Math.Seq.{drop-cons}
+use Rattle.std.proofs.lemmas.List.{length-map, length-set, length-append, map-append}
+use Rattle.std.proofs.lemmas.Bool.Decides.{nat_tests}
+use Rattle.std.proofs.lemmas.Bool.{and_from}
+use Rattle.fq_column.specs.declared.cells.Cell.{Cell}
+use Rattle.fq_column.specs.declared.cells.Kind.{Kind}
+use Rattle.fq_column.specs.declared.faults.BatchFault.{BatchFault}
+use Rattle.fq_column.specs.declared.faults.BatchFault.TheVariants.{Width, Kind as WrongKind, Length}
+use Rattle.fq_column.specs.Batch.{batch_fault, has_kind_of, height_of, kind_of_cells, frame_of}
+use Rattle.fq_column.specs.Cell.{same_kind}
+use Rattle.fq_column.specs.Column.{Cells}
+use Rattle.fq_column.specs.Frame.{Field, Fields, Name, Row, kinds_of, names_of, rows_of, value_at, position_of, put_named, put_all, same_name}
+use Rattle.fq_column.specs.Lists.{zip_with}
+use Rattle.fq_column.specs.SchemaLaws.{same_kind_decides}
+use Rattle.fq_column.proofs.BatchLemmas.{HaveHeight, height_of-is, lengths-all, column_at-rows_of, pass-lengths}
+use Rattle.fq_column.proofs.PutLemmas.{put_named-new, zip-set, zip-push}
+use Rattle.fq_expr.specs.Outputs.{cells_of_column}
+
+-- ---- the rows of columns that are functions of the rows
+
+replicate-rows : (rs : List Row) → replicate (length rs) (let none : Row = [] in none) ≡ map (λ row. let none : Row = [] in none) rs
+replicate-rows [] = refl
+replicate-rows (r ∷ rs) = ap (λ l. (let none : Row = [] in none) ∷ l) (replicate-rows rs)
+
+zip_with-maps : {X Y Z R : Type 0} (f : X → Y → Z) (g : R → X) (h : R → Y) (rs : List R) → zip_with f (map g rs) (map h rs) ≡ map (λ r. f (g r) (h r)) rs
+zip_with-maps f g h [] = refl
+zip_with-maps f g h (r ∷ rs) = ap (λ l. f (g r) (h r) ∷ l) (zip_with-maps f g h rs)
+
+pub rows_of-functions : (hs : List (Row → Cell)) (rs : List Row) → rows_of (length rs) (map (λ h. map h rs) hs) ≡ map (λ row. map (λ h. h row) hs) rs
+rows_of-functions [] rs = replicate-rows rs
+rows_of-functions (h ∷ hs) rs = ap (zip_with (λ c row. c ∷ row) (map h rs)) (rows_of-functions hs rs) ∙ zip_with-maps (λ c row. c ∷ row) h (λ row. map (λ h. h row) hs) rs
+
+pub height-of-functions : (rs : List Row) (columns : List Cells) (hs : List (Row → Cell)) → map cells_of_column columns ≡ map (λ h. map h rs) hs → HaveHeight (length rs) columns
+height-of-functions rs [] hs e = tt
+height-of-functions rs (c ∷ columns) [] e = absurd (cc)
+height-of-functions rs (c ∷ columns) (h ∷ hs) e = (ap length (let g : c.cells ≡ map h rs = cc in g) ∙ length-map rs h, height-of-functions rs columns hs (cc))
+
+-- the frame that stands in such columns, of which there is one
+pub frame-of-functions : (fields : Fields) (rs : List Row) (columns : List Cells) (hs : List (Row → Cell)) → 0 < length columns → map cells_of_column columns ≡ map (λ h. map h rs) hs →
+    (frame_of fields columns).rows ≡ map (λ row. map (λ h. h row) hs) rs
+frame-of-functions fields rs columns hs some e =
+    (λ i. rows_of (height_of-is (length rs) columns (height-of-functions rs columns hs e) some i) (e i)) ∙ rows_of-functions hs rs
+
+pub lengths-of-functions : (rs : List Row) (columns : List Cells) (hs : List (Row → Cell)) → map cells_of_column columns ≡ map (λ h. map h rs) hs → All (λ (c : Cells). length c.cells ≡ height_of columns) columns
+lengths-of-functions rs columns hs e = lengths-all (length rs) columns (height-of-functions rs columns hs e)
+
+-- ---- columns of the kinds of a schema and of one length are not refused
+
+same-kind-same : (k : Kind) → same_kind k k ≡ true
+same-kind-same k = (same_kind_decides k k).1 refl
+
+kinds-pass : (fields : Fields) (columns : List Cells) → map kind_of_cells columns ≡ kinds_of fields → pointwise has_kind_of fields columns ≡ true
+kinds-pass [] [] e = refl
+kinds-pass [] (c ∷ columns) e = absurd (cc)
+kinds-pass (f ∷ fields) [] e = absurd (cc)
+kinds-pass (f ∷ fields) (c ∷ columns) e = and_from (has_kind_of f c) (pointwise has_kind_of fields columns) (ap (λ k. same_kind k f.1) (let g : c.kind ≡ f.1 = cc in g) ∙ same-kind-same f.1) (kinds-pass fields columns (cc))
+
+same-number : (m n : ℕ) → m ≡ n → not (m == n) ≡ false
+same-number m n e = ap (λ k. not (k == n)) e ∙ ap not (let h : (n == n) ≡ true = grind (arith, nat_tests) in h)
+
+pub batch_fault-none : (fields : Fields) (columns : List Cells) → map kind_of_cells columns ≡ kinds_of fields → All (λ (c : Cells). length c.cells ≡ height_of columns) columns → batch_fault fields columns ≡ None
+batch_fault-none fields columns k l =
+    go (not (length columns == length fields)) (not (pointwise has_kind_of fields columns)) (not (list_all (λ (c : Cells). length c.cells == height_of columns) columns))
+    (same-number (length columns) (length fields) (sym (length-map columns kind_of_cells) ∙ ap length k ∙ length-map fields (λ (f : Field). f.1)))
+    (ap not (kinds-pass fields columns k)) (ap not (pass-lengths (height_of columns) columns l))
+  where
+    go : (a b c : Bool) → a ≡ false → b ≡ false → c ≡ false → (let none : Option BatchFault = None in cond a (Some Width) (cond b (Some WrongKind) (cond c (Some Length) none))) ≡ None
+    go true b c e f g = absurd (cc)
+    go false true c e f g = absurd (cc)
+    go false false true e f g = absurd (cc)
+    go false false false e f g = refl
+
+-- ---- the columns of a batch, as functions of its rows
+
+abbrev pub places : ℕ → ℕ → List (Row → Cell)
+places i zero = []
+places i (suc n) = value_at i ∷ places (suc i) n
+
+columns-from : (h : ℕ) (cs : List Cells) (d : Cells) → HaveHeight h cs → (i n : ℕ) → i + n ≡ length cs → map cells_of_column (drop i cs) ≡ map (λ f. map f (rows_of h (map cells_of_column cs))) (places i n)
+columns-from h cs d t i zero e = ap (map cells_of_column) (nothing cs i (omega (arith, e)))
+  where
+    nothing : (xs : List Cells) (i : ℕ) → length xs ≤ i → drop i xs ≡ []
+    nothing [] zero l = refl
+    nothing [] (suc i) l = refl
+    nothing (x ∷ xs) zero l = absurd (omega (arith, l))
+    nothing (x ∷ xs) (suc i) l = nothing xs i (omega (arith, l))
+columns-from h cs d t i (suc n) e =
+    ap (map cells_of_column) (drop-cons cs i d (omega (arith, e)))
+    ∙ (λ j. column_at-rows_of h cs i d t (omega (arith, e)) j ∷ columns-from h cs d t (suc i) n (omega (arith, e)) j)
+
+pub columns-are-functions : (h : ℕ) (cs : List Cells) (d : Cells) → HaveHeight h cs → map cells_of_column cs ≡ map (λ f. map f (rows_of h (map cells_of_column cs))) (places 0 (length cs))
+columns-are-functions h cs d t = columns-from h cs d t 0 (length cs) (omega arith)
+
+-- lists that are equal item by item, under a function of the item and its place
+pub map-under : {R X Y : Type 0} (f g : R → X) (w : X → R → Y) (rs : List R) → map f rs ≡ map g rs → map (λ r. w (f r) r) rs ≡ map (λ r. w (g r) r) rs
+map-under f g w [] e = refl
+map-under f g w (r ∷ rs) e = λ i. w ((let h : f r ≡ g r = cc in h) i) r ∷ map-under f g w rs (cc) i
+
+-- ---- what stands under names, under a function
+
+module _ {X Y : Type 0} (f : X → Y) where
+  abbrev pub second : Name × X → Name × Y
+  second p = (p.0, f p.1)
+
+  pub put_named-map : (ps : List (Name × X)) (x : Name × X) → put_named (map second ps) (second x) ≡ map second (put_named ps x)
+  put_named-map [] x = refl
+  put_named-map (p ∷ ps) x = go (put_named-map ps x) (same_name x.0 p.0)
+    where
+      go : put_named (map second ps) (second x) ≡ map second (put_named ps x) → (b : Bool) → cond b (second x ∷ map second ps) (second p ∷ put_named (map second ps) (second x)) ≡ map second (cond b (x ∷ ps) (p ∷ put_named ps x))
+      go rest true = refl
+      go rest false = ap (λ l. second p ∷ l) rest
+
+  pub put_all-map : (ps xs : List (Name × X)) → put_all (map second ps) (map second xs) ≡ map second (put_all ps xs)
+  put_all-map ps [] = refl
+  put_all-map ps (x ∷ xs) = ap (λ qs. put_all qs (map second xs)) (put_named-map ps x) ∙ put_all-map (put_named ps x) xs
+
+  pub zip-map : (names : List Name) (xs : List X) → zip names (map f xs) ≡ map second (zip names xs)
+  zip-map [] xs = refl
+  zip-map (n ∷ names) [] = refl
+  zip-map (n ∷ names) (x ∷ xs) = ap (λ l. (n, f x) ∷ l) (zip-map names xs)
+
+  pub put_all-zip : (names : List Name) (xs : List X) (outs : List Name) (ys : List X) → put_all (zip names (map f xs)) (zip outs (map f ys)) ≡ map second (put_all (zip names xs) (zip outs ys))
+  put_all-zip names xs outs ys = (λ i. put_all (zip-map names xs i) (zip-map outs ys i)) ∙ put_all-map (zip names xs) (zip outs ys)
+
+  pub values-second : (ps : List (Name × X)) → map (λ p. p.1) (map second ps) ≡ map f (map (λ p. p.1) ps)
+  values-second [] = refl
+  values-second (p ∷ ps) = ap (λ l. f p.1 ∷ l) (values-second ps)
+
+pub values-zip : {X : Type 0} (names : List Name) (xs : List X) → length names ≡ length xs → map (λ p. p.1) (zip names xs) ≡ xs
+values-zip [] [] e = refl
+values-zip [] (x ∷ xs) e = absurd (omega (arith, e))
+values-zip (n ∷ names) [] e = absurd (omega (arith, e))
+values-zip (n ∷ names) (x ∷ xs) e = ap (λ l. x ∷ l) (values-zip names xs (omega (arith, e)))
+
+-- ---- a column put among others, as its field is
+
+pub zip-eta : (fields : Fields) → zip (names_of fields) (kinds_of fields) ≡ fields
+zip-eta [] = refl
+zip-eta (f ∷ fields) = ap (λ l. f ∷ l) (zip-eta fields)
+
+names-zip : {X : Type 0} (names : List Name) (xs : List X) → length names ≡ length xs → map (λ p. p.0) (zip names xs) ≡ names
+names-zip [] xs e = refl
+names-zip (n ∷ names) [] e = absurd (omega (arith, e))
+names-zip (n ∷ names) (x ∷ xs) e = ap (λ l. n ∷ l) (names-zip names xs (omega (arith, e)))
+
+module _ (schema after : Fields) (columns : List Cells) (n : Name) (column : Cells) (width : length columns ≡ length schema) (put : after ≡ put_named schema (n, column.kind)) where
+  named : length (names_of schema) ≡ length columns
+  named = length-map schema (λ f. f.0) ∙ sym width
+
+  kinded : length (names_of schema) ≡ length (kinds_of schema)
+  kinded = length-map schema (λ f. f.0) ∙ sym (length-map schema (λ f. f.1))
+
+  after-replaced : (i : ℕ) → position_of n (names_of schema) ≡ Some i → after ≡ zip (names_of schema) (set (kinds_of schema) i column.kind)
+  after-replaced i e = put ∙ ap (λ (f : Fields). put_named f (n, column.kind)) (sym (zip-eta schema)) ∙ zip-set (names_of schema) (kinds_of schema) i n column.kind kinded e
+
+  after-appended : position_of n (names_of schema) ≡ None → after ≡ schema ++ (n, column.kind) ∷ []
+  after-appended e = put ∙ put_named-new schema n column.kind e
+
+  pub column-replaced : (i : ℕ) → position_of n (names_of schema) ≡ Some i → zip (names_of after) (set columns i column) ≡ put_named (zip (names_of schema) columns) (n, column)
+  column-replaced i e =
+      ap (λ (f : Fields). zip (names_of f) (set columns i column)) (after-replaced i e)
+      ∙ ap (λ l. zip l (set columns i column)) (names-zip (names_of schema) (set (kinds_of schema) i column.kind) (kinded ∙ sym (length-set (kinds_of schema) i column.kind)))
+      ∙ sym (zip-set (names_of schema) columns i n column named e)
+
+  pub width-replaced : (i : ℕ) → position_of n (names_of schema) ≡ Some i → length (set columns i column) ≡ length after
+  width-replaced i e = length-set columns i column ∙ width
+      ∙ sym (ap length (after-replaced i e) ∙ sym (length-map (zip (names_of schema) (set (kinds_of schema) i column.kind)) (λ p. p.0))
+      ∙ ap length (names-zip (names_of schema) (set (kinds_of schema) i column.kind) (kinded ∙ sym (length-set (kinds_of schema) i column.kind))) ∙ length-map schema (λ f. f.0))
+
+  pub column-appended : position_of n (names_of schema) ≡ None → zip (names_of after) (columns ++ column ∷ []) ≡ put_named (zip (names_of schema) columns) (n, column)
+  column-appended e =
+      ap (λ (f : Fields). zip (names_of f) (columns ++ column ∷ [])) (after-appended e)
+      ∙ ap (λ l. zip l (columns ++ column ∷ [])) (map-append (λ (f : Field). f.0) schema ((n, column.kind) ∷ []))
+      ∙ zip-push (names_of schema) columns n column named
+      ∙ sym (put_named-new (zip (names_of schema) columns) n column (ap (position_of n) (names-zip (names_of schema) columns named) ∙ e))
+
+  pub width-appended : position_of n (names_of schema) ≡ None → length (columns ++ column ∷ []) ≡ length after
+  width-appended e = length-append columns (column ∷ []) ∙ ap (λ k. k + 1) width ∙ sym (ap length (after-appended e) ∙ length-append schema ((n, column.kind) ∷ []))

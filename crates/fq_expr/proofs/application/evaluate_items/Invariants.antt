@@ -1,0 +1,7 @@
+use Rattle.std.proofs.Common.{take}
+use Rattle.fq_expr.specs.Meaning.{items_of}
+use Rattle.fq_expr.proofs.EvaluatedItems.{SoFar}
+use Rattle.fq_expr.proofs.application.evaluate_items.Given as goal
+
+abbrev pub invariant-loop-i : goal.invariant-loop-i
+invariant-loop-i l = SoFar l.batch.fields (take l.i (items_of l.items)) l.batch.rows l.columns.items l.rows l.item

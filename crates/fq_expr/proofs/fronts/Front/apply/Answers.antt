@@ -1,0 +1,43 @@
+use Rattle.std.proofs.Common.{◌≡◌, ◌+◌, ◌∙◌, ◌∷◌, List, ℕ, ap, sym, subst, arith, map, drop, Option}
+use Rattle.std.specs.Prelude.{IsOk}
+use Rattle.fq_column.specs.Frame.{Fields}
+use Rattle.fq_expr.specs.Expression.{Step}
+use Rattle.fq_expr.specs.Front.{fault_at}
+use Rattle.fq_expr.specs.Kinds.{steps_schema}
+use Rattle.fq_expr.specs.Meaning.{step_of}
+use Rattle.fq_expr.specs.Steps.{apply_steps, fields_after_all}
+use Rattle.fq_expr.proofs.FrontLemmas.{first-step, later-steps, drop-map, fault_or_end, stream-step}
+use Rattle.fq_expr.proofs.fronts.Front.apply.Goals.{in-Some, in-None, After-index}
+use Rattle.fq_expr.proofs.fronts.Front.apply.Goals as goal
+
+-- the steps that are left: this one, then the others
+left : (c : After-index) → drop c.loop-i.i (map step_of c.self.inside.steps.items) ≡ step_of c.index.result.now ∷ drop (c.loop-i.i + 1) (map step_of c.self.inside.steps.items)
+left c = drop-map step_of c.self.inside.steps.items c.loop-i.i c.index.result.now (omega (arith, c.loop-i-test.true, c.len-i-end.ensures, c.self.inside.steps.ok.0)) c.index.ensures
+
+schemas : (c : After-index) → IsOk (steps_schema c.loop-i.piece.batch.fields (step_of c.index.result.now ∷ drop (c.loop-i.i + 1) (map step_of c.self.inside.steps.items)))
+schemas c = let P : List Step → Type 0 = λ l. IsOk (steps_schema c.loop-i.piece.batch.fields l) in subst P (left c) c.loop-i.invariant.schemas
+
+pub apply-requires : goal.apply-requires
+apply-requires c = first-step c.loop-i.piece.batch.fields (step_of c.index.result.now) (drop (c.loop-i.i + 1) (map step_of c.self.inside.steps.items)) (schemas (goal.at.apply-requires c).After-index)
+
+pub loop-i-preserved : goal.loop-i-preserved
+loop-i-preserved c = let d = (goal.at.loop-i-preserved c).After-index in
+    let rest = drop (c.loop-i.i + 1) (map step_of c.self.inside.steps.items) in
+    let s = step_of c.index.result.now in
+    let f = c.loop-i.piece.batch.fields in
+    let P : Fields → Type 0 = λ g. IsOk (steps_schema g rest) in
+    let n = c.self.inside.first + c.loop-i.i in
+    let fault : c.match-item.fault ≡ fault_or_end (fault_at n) c.in_ok-batch.field-0.item c.loop-i.piece.fault =
+    elim c.match-item.branch [
+      | in-Some w ↦ w.fault-is ∙ ap (λ (o : Option ℕ). fault_or_end (fault_at n) o c.loop-i.piece.fault) (sym w.in-Some.is)
+      | in-None w ↦ w.fault-is ∙ ap (λ (o : Option ℕ). fault_or_end (fault_at n) o c.loop-i.piece.fault) (sym w.in-None.is)
+    ] in
+    record {
+      schemas = subst P (sym c.in_ok-batch.ensures.fields) (later-steps f s rest (schemas d));
+      fields = ap (λ g. fields_after_all g rest) c.in_ok-batch.ensures.fields ∙ ap (fields_after_all f) (sym (left d)) ∙ c.loop-i.invariant.fields;
+      stream = ap (λ k. apply_steps fault_at k c.in_ok-batch.field-0.batch.fields rest (record { rows = c.in_ok-batch.field-0.batch.rows; fault = c.match-item.fault })) (let e : c.self.inside.first + (c.loop-i.i + 1) ≡ n + 1 = omega arith in e)
+          ∙ stream-step fault_at n f c.in_ok-batch.field-0.batch.fields s rest c.loop-i.piece.batch.rows c.in_ok-batch.field-0.batch.rows c.loop-i.piece.fault c.match-item.fault c.in_ok-batch.field-0.item
+          c.in_ok-batch.ensures.fields c.in_ok-batch.ensures.rows c.in_ok-batch.ensures.item fault
+          ∙ ap (λ l. apply_steps fault_at n f l (record { rows = c.loop-i.piece.batch.rows; fault = c.loop-i.piece.fault })) (sym (left d))
+          ∙ c.loop-i.invariant.stream;
+    }

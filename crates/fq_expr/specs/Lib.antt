@@ -1,0 +1,15 @@
+pub mod Comparison
+pub mod Computed
+pub mod Division
+pub mod Examples
+pub mod Expression
+pub mod ExpressionCode
+pub mod Front
+pub mod Kinds
+pub mod Kleene
+pub mod Meaning
+pub mod Operand
+pub mod Outcome
+pub mod Outputs
+pub mod Steps
+pub mod Value

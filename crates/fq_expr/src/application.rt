@@ -1,0 +1,252 @@
+// One row-wise step on a batch.
+ghost use Rattle.std.specs.Prelude.{◌≡◌, ◌≤◌, ◌<◌, All, map, take, length, zip, IfOk, IsOk, OnOk};
+ghost use Rattle.std.specs.Vec.Iter.{into_iter_items};
+ghost use Rattle.fq_column.specs.declared.cells.Cell.TheVariants as cell;
+ghost use Rattle.fq_column.specs.Batch.{frame_of, height_of, kind_of_cells, with_cells};
+ghost use Rattle.fq_column.specs.Frame.{kinds_of, names_of, put_all, put_named};
+ghost use Rattle.fq_column.specs.Lists.{before_missing, keep as kept};
+ghost use Rattle.fq_column.specs.Stream.{one_by_one};
+ghost use Rattle.fq_expr.specs.Expression.{filter_by, with_columns, select};
+ghost use Rattle.fq_expr.specs.Kinds.{item_names, step_schema};
+ghost use Rattle.fq_expr.specs.Meaning.{expression_of, items_of, step_of};
+ghost use Rattle.fq_expr.specs.Operand.{AnyHasRows, HasRows, cells_in, cells_in_rows, kind_in_rows};
+ghost use Rattle.fq_expr.specs.Outputs.{AreOutputs, all_kinds};
+ghost use Rattle.fq_expr.specs.Steps.{fields_after, is_true, rows_after};
+ghost use Rattle.fq_expr.specs.Value.{value_of};
+
+use crate::expressions::Expr;
+use crate::operands::{AnyOperand, Operand};
+use crate::steps::{RowStep, select_schema};
+use fq_column::{Batch, Column, Kind, Memory, Schema};
+use std::alloc::Global;
+use std::vec::IntoIter;
+
+/// What a step made of a batch: the rows before the first that faults, and the lowest item that faults there.
+#[derive(Drop)]
+pub struct Stepped {
+    /// The rows before the first that faults.
+    pub batch: Batch,
+    /// The lowest item that faults on the next row; a filter's is 0.
+    pub item: Option<u16>,
+}
+
+impl RowStep {
+    /// The step on the rows of a batch.
+    pub(crate) fn apply(&self, alloc: Global, batch: Batch) -> Result<Stepped, Memory>
+        requires { IsOk (step_schema batch.fields (step_of self.now)) }
+        ensures fields { IfOk result (λ s. s.batch.fields ≡ fields_after batch.fields (step_of self.now)) }
+        ensures rows { let u = one_by_one (rows_after batch.fields (step_of self.now)) batch.rows in
+            IfOk result (λ s. s.batch.rows ≡ u.rows) }
+        ensures item { let u = one_by_one (rows_after batch.fields (step_of self.now)) batch.rows in
+            IfOk result (λ s. s.item ≡ u.fault) }
+    {
+        match self {
+            RowStep::Filter(predicate) => filter(alloc, predicate, batch),
+            RowStep::WithColumns(items) => add_columns(alloc, items.as_slice(), batch),
+            RowStep::Select(items) => project(alloc, items.as_slice(), batch),
+        }
+    }
+}
+
+// The rows for which a predicate is true.
+fn filter(alloc: Global, predicate: &Expr, batch: Batch) -> Result<Stepped, Memory>
+    requires { IsOk (step_schema batch.fields (filter_by (expression_of predicate.now))) }
+    ensures fields { IfOk result (λ s. s.batch.fields ≡ fields_after batch.fields (filter_by (expression_of predicate.now))) }
+    ensures rows { let u = one_by_one (rows_after batch.fields (filter_by (expression_of predicate.now))) batch.rows in
+        IfOk result (λ s. s.batch.rows ≡ u.rows) }
+    ensures item { let u = one_by_one (rows_after batch.fields (filter_by (expression_of predicate.now))) batch.rows in
+        IfOk result (λ s. s.item ≡ u.fault) }
+{
+    let mask = predicate_mask(alloc, predicate, &batch)?;
+    let item = (mask.len() < batch.rows()).then_some(0u16);
+    let mut batch = batch;
+    batch.cut(mask.len());
+    keep_marked(&mut batch, mask.as_slice());
+    Ok(Stepped { batch, item })
+}
+
+// Whether a predicate is true, for each row before the first that faults.
+fn predicate_mask(alloc: Global, predicate: &Expr, batch: &Batch) -> Result<Vec<bool>, Memory>
+    requires { IsOk (step_schema batch.now.fields (filter_by (expression_of predicate.now))) }
+    ensures { IfOk result (λ mask. mask.items ≡ map is_true (before_missing (map (value_of batch.now.fields (expression_of predicate.now)) batch.now.rows))) }
+{
+    let outcome = predicate.evaluate(alloc, batch, batch.rows())?;
+    truths(alloc, outcome.rows, &outcome.operand)
+}
+
+// Which of the first rows are true; null is not.
+fn truths(alloc: Global, rows: usize, operand: &AnyOperand<'_>) -> Result<Vec<bool>, Memory>
+    requires kind { kind_in_rows operand.now ≡ Kind.Truth }
+    requires rows { AnyHasRows rows operand.now }
+    ensures { IfOk result (λ mask. mask.items ≡ map is_true (cells_in_rows rows operand.now)) }
+{
+    match operand {
+        AnyOperand::Truth(operand) => truth_mask(alloc, rows, operand),
+        _ => unreachable!(),
+    }
+}
+
+fn truth_mask(alloc: Global, rows: usize, operand: &Operand<'_, bool>) -> Result<Vec<bool>, Memory>
+    requires { HasRows rows operand.now }
+    ensures { IfOk result (λ mask. mask.items ≡ map is_true (cells_in cell.Truth rows operand.now)) }
+{
+    let mut mask = Vec::with_capacity(alloc, rows)?;
+    for i in 0..rows {
+        mask.push(operand.get(i).copied().unwrap_or(false))?;
+    }
+    Ok(mask)
+}
+
+// Keeps the rows that the mask marks; where it marks all, nothing is touched.
+fn keep_marked(batch: &mut Batch, mask: &[bool])
+    requires { length mask.now ≡ length batch.old.rows }
+    ensures { batch.new ≡ record batch.old { rows = kept mask.now batch.old.rows } }
+{
+    if mask.contains(&false) {
+        batch.keep(mask);
+    }
+}
+
+// What the items of a step were evaluated to: their columns in the rows before the first that faults, how many those
+// are, and the lowest item that faults there.
+#[derive(Drop)]
+struct Outputs {
+    columns: Vec<Column>,
+    rows: usize,
+    item: Option<u16>,
+}
+
+// Each item on the rows of a batch before the first on which an item faults.
+fn evaluate_items(alloc: Global, items: &[(String, Expr)], batch: &Batch) -> Result<Outputs, Memory>
+    requires kinds { IsOk (all_kinds batch.now.fields (items_of items.now)) }
+    requires bound { length items.now ≤ 64 }
+    ensures { IfOk result (λ outputs. AreOutputs batch.now.fields (items_of items.now) batch.now.rows outputs.columns.items outputs.rows outputs.item) }
+{
+    let mut columns = Vec::with_capacity(alloc, items.len())?;
+    let mut rows = batch.rows();
+    let mut item = None;
+    for i in 0..items.len() {
+        let outcome = items[i].1.evaluate(alloc, batch, rows)?;
+        if outcome.rows < rows {
+            rows = outcome.rows;
+            item = Some(i as u16);
+        }
+        columns.push(outcome.into_column(alloc)?)?;
+    }
+    cut_columns(&mut columns, rows);
+    Ok(Outputs {
+        columns,
+        rows,
+        item,
+    })
+}
+
+// Keeps the first `rows` cells of each column.
+fn cut_columns(columns: &mut Vec<Column>, rows: usize)
+    ensures { columns.new.items ≡ map (λ c. with_cells c (take rows c.cells)) columns.old.items }
+{
+    for i in 0..columns.len() {
+        columns[i].cut(rows);
+    }
+}
+
+// The items alone.
+fn project(alloc: Global, items: &[(String, Expr)], batch: Batch) -> Result<Stepped, Memory>
+    requires { IsOk (step_schema batch.fields (select (items_of items.now))) }
+    ensures fields { IfOk result (λ s. s.batch.fields ≡ fields_after batch.fields (select (items_of items.now))) }
+    ensures rows { let u = one_by_one (rows_after batch.fields (select (items_of items.now))) batch.rows in
+        IfOk result (λ s. s.batch.rows ≡ u.rows) }
+    ensures item { let u = one_by_one (rows_after batch.fields (select (items_of items.now))) batch.rows in
+        IfOk result (λ s. s.item ≡ u.fault) }
+{
+    let outputs = evaluate_items(alloc, items, &batch)?;
+    let Ok(schema) = select_schema(alloc, items, batch.schema()) else {
+        return Err(Memory);
+    };
+    let Outputs { columns, item, .. } = outputs;
+    Ok(Stepped {
+        batch: standing(schema, columns),
+        item,
+    })
+}
+
+// The rows with the items under their names: in the place of the column of a name, or else last.
+fn add_columns(alloc: Global, items: &[(String, Expr)], batch: Batch) -> Result<Stepped, Memory>
+    requires { IsOk (step_schema batch.fields (with_columns (items_of items.now))) }
+    ensures fields { IfOk result (λ s. s.batch.fields ≡ fields_after batch.fields (with_columns (items_of items.now))) }
+    ensures rows { let u = one_by_one (rows_after batch.fields (with_columns (items_of items.now))) batch.rows in
+        IfOk result (λ s. s.batch.rows ≡ u.rows) }
+    ensures item { let u = one_by_one (rows_after batch.fields (with_columns (items_of items.now))) batch.rows in
+        IfOk result (λ s. s.item ≡ u.fault) }
+{
+    let outputs = evaluate_items(alloc, items, &batch)?;
+    let Outputs {
+        columns: made,
+        rows,
+        item,
+    } = outputs;
+    let mut batch = batch;
+    batch.cut(rows);
+    let (mut schema, mut columns) = batch.into_parts();
+    put_columns(items, &mut made.into_iter(), &mut schema, &mut columns)?;
+    Ok(Stepped {
+        batch: standing(schema, columns),
+        item,
+    })
+}
+
+// Puts each item's column in the place of the column of its name, or else last.
+fn put_columns(
+    items: &[(String, Expr)],
+    made: &mut IntoIter<Column>,
+    schema: &mut Schema,
+    columns: &mut Vec<Column>,
+) -> Result<(), Memory>
+    requires width { length columns.old.items ≡ length schema.old }
+    requires room { length (put_all schema.old (zip (item_names (items_of items.now)) (map kind_of_cells (into_iter_items made.old)))) ≤ 64 }
+    ensures schema { OnOk result (schema.new
+        ≡ put_all schema.old (zip (item_names (items_of items.now)) (map kind_of_cells (into_iter_items made.old)))) }
+    ensures columns { OnOk result (zip (names_of schema.new) columns.new.items
+        ≡ put_all (zip (names_of schema.old) columns.old.items) (zip (item_names (items_of items.now)) (into_iter_items made.old))) }
+    ensures width { OnOk result (length columns.new.items ≡ length schema.new) }
+{
+    let (Some((item, rest)), Some(column)) = (items.split_first(), made.next()) else {
+        return Ok(());
+    };
+    put_column(item.0.as_str(), column, schema, columns)?;
+    put_columns(rest, made, schema, columns)
+}
+
+// Puts a column in the place of the column of its name, or else last.
+fn put_column(
+    name: &str,
+    column: Column,
+    schema: &mut Schema,
+    columns: &mut Vec<Column>,
+) -> Result<(), Memory>
+    requires width { length columns.old.items ≡ length schema.old }
+    requires room { length (put_named schema.old (name.now, column.kind)) ≤ 64 }
+    ensures schema { OnOk result (schema.new ≡ put_named schema.old (name.now, column.kind)) }
+    ensures columns { OnOk result (zip (names_of schema.new) columns.new.items
+        ≡ put_named (zip (names_of schema.old) columns.old.items) (name.now, column)) }
+    ensures width { OnOk result (length columns.new.items ≡ length schema.new) }
+{
+    let kind = column.kind();
+    match schema.position(name) {
+        Some(i) => columns[i] = column,
+        None => columns.push(column)?,
+    }
+    schema.put(name, kind)
+}
+
+// The batch of columns that have the kinds of a schema and one length.
+fn standing(schema: Schema, columns: Vec<Column>) -> Batch
+    requires kinds { map kind_of_cells columns.items ≡ kinds_of schema }
+    requires lengths { All (λ c. length c.cells ≡ height_of columns.items) columns.items }
+    ensures { result ≡ frame_of schema columns.items }
+{
+    match Batch::from_columns(schema, columns) {
+        Ok(batch) => batch,
+        Err(_) => unreachable!(),
+    }
+}

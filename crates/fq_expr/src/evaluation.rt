@@ -1,0 +1,94 @@
+// The values of an expression over the rows of a batch.
+ghost use Rattle.std.specs.Prelude.{◌≡◌, ◌≤◌, map, take, length, IfOk, IsOk, Ok};
+ghost use Rattle.fq_column.specs.Frame.{value_named};
+ghost use Rattle.fq_column.specs.Lists.{before_missing, first_missing};
+ghost use Rattle.fq_column.specs.Schema.{kind_named};
+ghost use Rattle.fq_expr.specs.Kinds.{kind_of};
+ghost use Rattle.fq_expr.specs.Meaning.{expression_of};
+ghost use Rattle.fq_expr.specs.Operand.{kind_in_rows, AnyHasRows, cells_in_rows};
+ghost use Rattle.fq_expr.specs.Outcome.{IsOutcome};
+ghost use Rattle.fq_expr.specs.Value.{value_of};
+
+use crate::expressions::Expr;
+use crate::operands::{AnyOperand, Operand, Outcome, borrowed, nulls, owned};
+use crate::operators::{binary, unary};
+use fq_column::{Batch, Column, Memory};
+use std::alloc::Global;
+
+/// The values of an expression in the rows of a batch before the first that faults, and that row.
+///
+/// Column by column: each operation is one loop; a column that is only read and a literal are not copied.
+pub fn eval(alloc: Global, expr: &Expr, batch: &Batch) -> Result<(Column, Option<usize>), Memory>
+    requires { IsOk (kind_of batch.now.fields (expression_of expr.now)) }
+    ensures kind { IfOk result (λ r. kind_of batch.now.fields (expression_of expr.now) ≡ Ok r.0.kind) }
+    ensures values { let values = map (value_of batch.now.fields (expression_of expr.now)) batch.now.rows in
+        IfOk result (λ r. r.0.cells ≡ before_missing values) }
+    ensures fault { let values = map (value_of batch.now.fields (expression_of expr.now)) batch.now.rows in
+        IfOk result (λ r. r.1 ≡ first_missing values) }
+{
+    let outcome = expr.evaluate(alloc, batch, batch.rows())?;
+    let fault = (outcome.rows < batch.rows()).then_some(outcome.rows);
+    Ok((outcome.into_column(alloc)?, fault))
+}
+
+impl Expr {
+    /// The values of the expression in the first `rows` rows of a batch.
+    pub(crate) fn evaluate<'a>(
+        &'a self,
+        alloc: Global,
+        batch: &'a Batch,
+        rows: usize,
+    ) -> Result<Outcome<'a>, Memory>
+        requires kind { IsOk (kind_of batch.now.fields (expression_of self.now)) }
+        requires rows { rows ≤ length batch.now.rows }
+        ensures outcome { IfOk result (IsOutcome batch.now.fields (expression_of self.now) (take rows batch.now.rows)) }
+        ensures rows { IfOk result (λ outcome. outcome.rows ≤ rows) }
+    {
+        match self {
+            Expr::Col(name) => Ok(Outcome {
+                operand: named(batch, name.as_str()),
+                rows,
+            }),
+            Expr::Null(kind) => Ok(Outcome {
+                operand: nulls(*kind),
+                rows,
+            }),
+            Expr::Whole(number) => Ok(Outcome {
+                operand: AnyOperand::Whole(Operand::Scalar(Some(number))),
+                rows,
+            }),
+            Expr::Text(text) => Ok(Outcome {
+                operand: AnyOperand::Text(Operand::Scalar(Some(text))),
+                rows,
+            }),
+            Expr::Truth(truth) => Ok(Outcome {
+                operand: AnyOperand::Truth(Operand::Scalar(Some(truth))),
+                rows,
+            }),
+            Expr::One(op, part) => {
+                let part = part.evaluate(alloc, batch, rows)?;
+                let values = unary(alloc, *op, part.rows, &part.operand)?;
+                Ok(owned(values))
+            }
+            Expr::Two(op, left, right) => {
+                let left = left.evaluate(alloc, batch, rows)?;
+                let right = right.evaluate(alloc, batch, left.rows)?;
+                let values = binary(alloc, *op, right.rows, &left.operand, &right.operand)?;
+                Ok(owned(values))
+            }
+        }
+    }
+}
+
+// The column of a name, with no copy.
+fn named<'a>(batch: &'a Batch, name: &str) -> AnyOperand<'a>
+    requires { IsOk (kind_named batch.now.fields name.now) }
+    ensures kind { kind_named batch.now.fields name.now ≡ Ok (kind_in_rows result) }
+    ensures rows { AnyHasRows (length batch.now.rows) result }
+    ensures cells { cells_in_rows (length batch.now.rows) result ≡ map (value_named batch.now.fields name.now) batch.now.rows }
+{
+    match batch.schema().position(name) {
+        Some(i) => borrowed(batch.column(i)),
+        None => unreachable!(),
+    }
+}

@@ -1,0 +1,108 @@
+// The row-wise steps of a plan, over one batch at a time.
+ghost use Rattle.std.specs.Prelude.{◌≡◌, ◌+◌, ◌≤◌, map, vec_len, IfOk, IsOk};
+ghost use Rattle.fq_column.specs.Stream.{done};
+ghost use Rattle.fq_expr.specs.Front.{fault_at};
+ghost use Rattle.fq_expr.specs.Kinds.{steps_schema};
+ghost use Rattle.fq_expr.specs.Meaning.{step_of};
+ghost use Rattle.fq_expr.specs.Steps.{apply_steps, fields_after_all};
+
+use crate::application::Stepped;
+use crate::steps::RowStep;
+use fq_column::{Batch, Memory, Schema};
+use std::alloc::Global;
+use std::marker::Model;
+
+/// An expression whose value on a row doesn't fit 64 bits: the step's number, and the item's in the step (a filter's is 0).
+#[derive(Clone, Copy, Debug, PartialEq, Eq)]
+pub struct RowFault {
+    /// The step's number in the plan.
+    pub step: u16,
+    /// The number of the item in the step; a filter's is 0.
+    pub item: u16,
+}
+
+/// What a front made of a batch: the rows before the first that faults, and that fault.
+#[derive(Drop)]
+pub struct Piece {
+    /// The rows that the steps made of the rows before the first that faults.
+    pub batch: Batch,
+    /// The fault of that row, or none where no row faults.
+    pub fault: Option<RowFault>,
+}
+
+/// Row-wise steps one after the other, numbered from a first number on.
+#[derive(Drop)]
+pub struct Front {
+    steps: Vec<RowStep>,
+    schema: Schema,
+    first: u16,
+}
+
+impl Model for Front {
+    ghost use Rattle.fq_expr.specs.Front.{NumberedSteps};
+
+    ghost Value = { NumberedSteps };
+
+    ghost use Rattle.std.specs.Coded.{codes};
+    ghost use Rattle.fq_expr.specs.ExpressionCode.{expression_code};
+
+    ghost coded = { Prim.hlevel (codes, expression_code (Prim.hlevel codes)) };
+
+    ghost use Rattle.std.specs.Prelude.{◌+◌, ◌≤◌, map, length, IsOk};
+    ghost use Rattle.fq_expr.specs.Kinds.{steps_schema};
+    ghost use Rattle.fq_expr.specs.Meaning.{step_of};
+
+    ghost view = { λ f. record { steps = map step_of f.steps.items; fields = f.schema; first = f.first } };
+
+    ghost invariant = { λ f. IsOk (steps_schema f.schema (map step_of f.steps.items)) × (f.first + length f.steps.items ≤ 64) };
+}
+
+impl Front {
+    /// The front of these steps on batches of a schema; the list may be empty.
+    ///
+    /// Its faults number the steps from `first`. `Memory` where a growth is refused.
+    pub fn new(
+        _alloc: Global,
+        steps: Vec<RowStep>,
+        schema: Schema,
+        first: u16,
+    ) -> Result<Front, Memory>
+        requires schemas { IsOk (steps_schema schema (map step_of steps.items)) }
+        requires numbers { first + vec_len steps ≤ 64 }
+        ensures { IfOk result (λ f. f ≡ record { steps = map step_of steps.items; fields = schema; first = first }) }
+    {
+        Ok(Front {
+            steps,
+            schema,
+            first,
+        })
+    }
+
+    /// The steps on the rows of a batch.
+    ///
+    /// Each step sees the rows that the step before it made, so the fault of the earliest row wins whatever the batch;
+    /// within a row the lowest step, then the lowest item. The rows before it stay.
+    pub fn apply(&self, alloc: Global, batch: Batch) -> Result<Piece, Memory>
+        requires { batch.fields ≡ self.now.fields }
+        ensures fields { IfOk result (λ p. p.batch.fields ≡ fields_after_all self.now.fields self.now.steps) }
+        ensures rows { let u = apply_steps fault_at self.now.first self.now.fields self.now.steps (done batch.rows) in
+            IfOk result (λ p. p.batch.rows ≡ u.rows) }
+        ensures fault { let u = apply_steps fault_at self.now.first self.now.fields self.now.steps (done batch.rows) in
+            IfOk result (λ p. p.fault ≡ u.fault) }
+    {
+        let mut piece = Piece { batch, fault: None };
+        for i in 0..self.steps.len() {
+            let Piece { batch, fault } = piece;
+            let Stepped { batch, item } = self.steps[i].apply(alloc, batch)?;
+            let fault = match item {
+                Some(item) => Some(RowFault {
+                    step: self.first + i as u16,
+                    item,
+                }),
+                None => fault,
+            };
+            piece = Piece { batch, fault };
+        }
+        Ok(piece)
+    }
+}

@@ -1,0 +1,41 @@
+//! Expressions over the columns of a batch, and the row-wise steps `filter`, `with_columns` and `select`.
+//!
+//! What they mean is defined row by row: the value of an expression on a row, or a fault where it doesn't fit 64 bits
+//! (specs/Value.antt), the kind of an expression in a schema (specs/Kinds.antt), and the rows of a step before the first
+//! that faults (specs/Steps.antt). They are evaluated column by column, which gives the same:
+//!
+//! - [`Expr`], with [`Unary`] and [`Binary`]: expressions, their kind in a schema (`kind_in`).
+//! - [`eval`]: an expression on the rows of a batch.
+//! - [`RowStep`]: a step, and the schema of its rows (`schema`) or why it is refused.
+//! - [`Front`]: steps one after the other on one batch at a time, each giving a [`Piece`], with the [`RowFault`] of the
+//!   earliest row that faults.
+//! - [`steps_of_joined_streams`]: the law that the steps of a stream cut anywhere are those of its parts, joined.
+//!
+//! Modules, from the bottom: operands (a borrowed column, an owned one, or a scalar); operations (one loop over rows);
+//! arithmetic, comparison and logic (the operations themselves); operators (which operation an operator is); expressions
+//! and their evaluation; steps and their application to a batch; fronts; laws.
+#![tactic(auto)]
+
+mod application;
+mod arithmetic;
+mod comparison;
+mod evaluation;
+mod expressions;
+mod fronts;
+mod laws;
+mod logic;
+mod operands;
+mod operations;
+mod operators;
+mod steps;
+
+pub use evaluation::eval;
+pub use expressions::{Binary, Expr, Unary};
+pub use fronts::{Front, Piece, RowFault};
+pub use laws::steps_of_joined_streams;
+pub use steps::RowStep;
+
+#[cfg(test)]
+mod examples;
+#[cfg(test)]
+mod tests;
