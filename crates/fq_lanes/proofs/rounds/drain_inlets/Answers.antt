@@ -1,0 +1,22 @@
+use Rattle.std.proofs.Common.{◌≡◌, sym, subst, ◌∙◌, arith, rules, Some, false}
+use Rattle.std.specs.List.{slice_get}
+use Rattle.std.proofs.Math.ListN.{length-set}
+use Rattle.fq_lanes.specs.Engine.{BlamesFeed}
+use Rattle.fq_lanes.proofs.FaultLemmas.{first_blames}
+use Rattle.fq_lanes.proofs.InletLemmas.{drains_get}
+use Rattle.fq_lanes.proofs.ListLemmas.{get_or_place, get_set_other}
+use Rattle.fq_lanes.proofs.rounds.drain_inlets.Goals as goal
+
+pub loop-file-preserved : goal.loop-file-preserved
+loop-file-preserved g c = record {
+  len = length-set c.loop-file.inlets.items c.loop-file.file c.drain-other.new.self ∙ c.loop-file.invariant.len;
+  rest = λ i le. get_set_other c.loop-file.inlets.items c.loop-file.file i c.drain-other.new.self (λ e. omega (arith, e, le)) ∙ c.loop-file.invariant.rest i (omega (arith, le));
+  blames = λ feeds drains b.
+      let inlet = c.index_mut.result.now in
+      let at : slice_get c.loop-file.inlets.items c.loop-file.file ≡ Some inlet =
+      get_or_place c.loop-file.inlets.items c.loop-file.file inlet (search rules) c.index_mut.ensures.value in
+      let one = drains_get g.F.Feed.is_open g.F.Feed.may_fail feeds c.args.inlets.now.items c.loop-file.file inlet drains (sym (c.loop-file.invariant.rest c.loop-file.file (omega arith)) ∙ at) in
+      subst (λ e. BlamesFeed g.F.Feed.may_fail feeds e) (sym c.first_fault-first.ensures)
+      (first_blames g.F.Feed.may_fail feeds c.loop-file.first c.drain-other.result c.loop-file.file one.0 (inlet.ended ≡ false) (g.F.Feed.may_fail inlet.feed) one.1
+      (λ going fails. (one.2 going).1 fails) c.drain-other.ensures (c.loop-file.invariant.blames feeds drains b));
+}

@@ -1,0 +1,14 @@
+use Rattle.std.proofs.Common.{◌≡◌, ◌≤◌, ℕ, List, length}
+use Rattle.std.specs.List.{slice_get}
+use Rattle.fq_lanes.specs.Engine.{BlamesFeed}
+use Rattle.fq_lanes.specs.Inlet.{DrainsOne}
+use Rattle.fq_lanes.specs.Lists.{Each}
+use Rattle.fq_lanes.proofs.rounds.drain_inlets.Given as goal
+
+abbrev pub invariant-loop-file : goal.invariant-loop-file
+invariant-loop-file g l = record {
+  len : length l.inlets.items ≡ length l.initial.inlets.items;
+  rest : (i : ℕ) → l.file ≤ i → slice_get l.inlets.items i ≡ slice_get l.initial.inlets.items i;
+  blames : (feeds : List g.row.F.Denot) → Each (DrainsOne g.F.Feed.is_open g.F.Feed.may_fail) feeds l.initial.inlets.items
+      → BlamesFeed g.F.Feed.may_fail feeds l.initial.first → BlamesFeed g.F.Feed.may_fail feeds l.first;
+}

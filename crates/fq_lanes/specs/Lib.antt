@@ -1,0 +1,16 @@
+pub mod Due
+pub mod Refusals
+pub mod FileFacts
+pub mod FileState
+pub mod Sink
+pub mod Numbering
+pub mod Lists
+pub mod Taking
+pub mod Engine
+pub mod Ledger
+pub mod Inlet
+pub mod Hub
+pub mod Faults
+pub mod Round
+pub mod Schedule
+pub mod Examples

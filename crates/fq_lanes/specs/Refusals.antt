@@ -1,0 +1,81 @@
+-- When a sink refuses an event.
+use Rattle.std.specs.Prelude.{◌≡◌, ◌==◌, ◌&&◌, ◌||◌, ◌++◌, ℕ, suc, List, [], ◌∷◌, Option, Some, None, Bool, false, if◌then◌else◌, nat_lt, nat_le}
+use Rattle.std.specs.Option.{is_some}
+use Rattle.fq_lanes.specs.Due.{offer_at, close_at}
+use Rattle.fq_lanes.specs.declared.events.Why.{Why}
+use Rattle.fq_lanes.specs.declared.events.Why.TheVariants.{Stranger, Closed, Double, Memory, Short}
+use Rattle.fq_lanes.specs.declared.events.Event.{Event}
+use Rattle.fq_lanes.specs.declared.events.Refused.{Refused}
+use Rattle.fq_lanes.specs.declared.events.Event.TheVariants.{Offer, Close}
+
+-- closed at s or before
+abbrev pub is_past : Option ℕ → ℕ → Bool
+is_past None s = false
+is_past (Some n) s = nat_le n s
+
+-- the refusal that the rules name, or else want of memory
+abbrev pub IsRefusal : Option Why → Why → Type 0
+IsRefusal (Some rule) why = why ≡ rule
+IsRefusal None why = why ≡ Memory
+
+module _ {T : Type 0} where
+  -- an offer of f with serial n or more
+  abbrev pub offers_from : List (Event T) → ℕ → ℕ → Bool
+  offers_from [] f n = false
+  offers_from (Offer g r x ∷ es) f n = ((g == f) && nat_le n r) || offers_from es f n
+  offers_from (Close g m ∷ es) f n = offers_from es f n
+
+  -- within a file: the first refusal of an offer, and of a close
+  abbrev pub offer_refusal : List (Event T) → ℕ → ℕ → Option Why
+  offer_refusal es f s = if is_past (close_at es f) s then Some Closed else (if is_some (offer_at es f s) then Some Double else None)
+
+  abbrev pub close_refusal : List (Event T) → ℕ → ℕ → Option Why
+  close_refusal es f n = if is_some (close_at es f) then Some Closed else (if offers_from es f n then Some Short else None)
+
+  -- so of either event
+  abbrev pub event_refusal : List (Event T) → Event T → Option Why
+  event_refusal es (Offer f s x) = offer_refusal es f s
+  event_refusal es (Close f n) = close_refusal es f n
+
+  -- the file that an event is of
+  abbrev pub file_of : Event T → ℕ
+  file_of (Offer f s x) = f
+  file_of (Close f n) = f
+
+  -- the first refusal of an event, where there are so many files and these events were accepted
+  abbrev pub refusal : ℕ → List (Event T) → Event T → Option Why
+  refusal files es e = if nat_lt (file_of e) files then event_refusal es e else Some Stranger
+
+  -- each of these events is accepted after those before it
+  abbrev pub AcceptedAfter : ℕ → List (Event T) → List (Event T) → Type 0
+  AcceptedAfter files before [] = Unit {0}
+  AcceptedAfter files before (e ∷ es) = (refusal files before e ≡ None) × AcceptedAfter files (before ++ e ∷ []) es
+
+  -- each of these events is accepted, on a fresh sink
+  abbrev pub Accepted : ℕ → List (Event T) → Type 0
+  Accepted files es = AcceptedAfter files [] es
+
+  -- the accepted events after an event, by its refusal
+  abbrev pub after : Option Why → List (Event T) → Event T → List (Event T)
+  after None es e = es ++ e ∷ []
+  after (Some why) es e = es
+
+  -- the events accepted of a list, after those before it
+  abbrev pub accepted_of : ℕ → List (Event T) → List (Event T) → List (Event T)
+  accepted_of files before [] = before
+  accepted_of files before (e ∷ es) = accepted_of files (after (refusal files before e) before e) es
+
+  -- the item of an offer
+  abbrev pub item_of : Event T → Option T
+  item_of (Offer f s x) = Some x
+  item_of (Close f n) = None
+
+  -- an event with its number and reason, where it was refused
+  abbrev pub refused_one : Option Why → ℕ → Event T → List (Refused T)
+  refused_one None number e = []
+  refused_one (Some rule) number e = record { event = number; why = rule; item = item_of e } ∷ []
+
+  -- the events refused of a list, whose first has this number
+  abbrev pub refused_of : ℕ → ℕ → List (Event T) → List (Event T) → List (Refused T)
+  refused_of files number before [] = []
+  refused_of files number before (e ∷ es) = refused_one (refusal files before e) number e ++ refused_of files (suc number) (after (refusal files before e) before e) es

@@ -1,0 +1,37 @@
+//! What a sink is told, and why it refuses.
+
+/// What a sink is told: an item under its file and serial, or that a file is closed and how many items it has.
+#[derive(Drop)]
+pub enum Event<T> {
+    /// File, serial and item.
+    Offer(u16, u32, T),
+    /// File and number of items.
+    Close(u16, u32),
+}
+
+/// Why an event is refused. Where several reasons hold, the answer is the first in the order that `Sink::offer` and
+/// `Sink::close` give.
+#[derive(Clone, Copy, PartialEq, Eq, Debug, Drop)]
+pub enum Why {
+    /// No such file.
+    Stranger,
+    /// An offer at or past its file's close, or a second close.
+    Closed,
+    /// The item of this file and serial was accepted before.
+    Double,
+    /// A growth was refused.
+    Memory,
+    /// A close below a serial that was accepted before.
+    Short,
+}
+
+/// An event that was refused.
+#[derive(Drop)]
+pub struct Refused<T> {
+    /// Its number in the list of events, from 0.
+    pub event: usize,
+    /// The first reason that holds.
+    pub why: Why,
+    /// The item, where the event was an offer.
+    pub item: Option<T>,
+}

@@ -1,0 +1,48 @@
+//! What goes wrong: want of memory, and a source that fails.
+ghost use Rattle.std.specs.Prelude.{◌≡◌};
+ghost use Rattle.fq_lanes.specs.Faults.{fault_at, first_of};
+
+/// A growth was refused, or the runtime refused a thread.
+#[derive(Clone, Copy, PartialEq, Eq, Debug, Drop)]
+pub struct Memory;
+
+/// Why a feed ended early.
+#[derive(Clone, Copy, PartialEq, Eq, Debug, Drop)]
+pub enum FeedFault {
+    /// Its source failed.
+    Read,
+    /// A growth was refused.
+    Memory,
+}
+
+/// Why a run stopped. `Memory` goes before `Read`.
+#[derive(Clone, Copy, PartialEq, Eq, Debug, Drop)]
+pub enum RunFault {
+    /// A growth was refused, or the runtime refused a thread.
+    Memory,
+    /// The source of a feed failed: the lowest file whose feed did.
+    Read { file: u16 },
+}
+
+/// The fault of a file's feed.
+pub(crate) fn feed_fault(fault: FeedFault, file: u16) -> RunFault
+    ensures { result ≡ fault_at fault file }
+{
+    match fault {
+        FeedFault::Read => RunFault::Read { file },
+        FeedFault::Memory => RunFault::Memory,
+    }
+}
+
+/// Of a fault and another one of a file's feed, if there is one, the one that is answered.
+pub(crate) fn first_fault(first: RunFault, other: Option<FeedFault>, file: u16) -> RunFault
+    ensures { result ≡ first_of first other file }
+{
+    match (first, other) {
+        (first, None) => first,
+        (RunFault::Read { file: earlier }, Some(FeedFault::Read)) => RunFault::Read {
+            file: earlier.min(file),
+        },
+        _ => RunFault::Memory,
+    }
+}

@@ -1,0 +1,3 @@
+//! What no contract says: that the calls succeed, over lists worked by hand, and what is drained.
+mod rounds;
+mod sink;
