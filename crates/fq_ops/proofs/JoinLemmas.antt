@@ -1,0 +1,104 @@
+-- A join by places is the join.
+use Rattle.std.proofs.Common.{◌≡◌, ℕ, suc, ◌+◌, ◌-◌, ◌<◌, Bool, true, false, List, [], ◌∷◌, ◌++◌, map, filter, length, get_or, nat_le, Option, Some, None, refl, sym, ap, ◌∙◌, cond, if◌then◌else◌, arith}
+use Rattle.std.specs.Option.{option_map}
+use Rattle.std.specs.List.{range_with_len}
+use Rattle.std.proofs.lemmas.List.{map-append, length-map}
+use Rattle.std.proofs.lemmas.List.FromFn.{fill_by_all}
+use Rattle.fq_column.specs.Frame.{Fields, Name, Row}
+use Rattle.fq_column.specs.Lists.{numbers}
+use Rattle.fq_column.specs.Stream.{Stream}
+use Rattle.fq_ops.specs.Join.{within_room, join_rows, joined, pairs, rows_match, right_values}
+use Rattle.fq_ops.specs.declared.joins.How.{How}
+use Rattle.fq_ops.specs.declared.joins.How.TheVariants.{Inner, Left}
+use Rattle.fq_ops.specs.Pairs.{Pair, pairs_of, pairs_within, matches_of, pair_row, named_key, join_pairs}
+
+map-filter : {X Y : Type 0} (f : X → Y) (p : Y → Bool) (xs : List X) → filter p (map f xs) ≡ map f (filter (λ x. p (f x)) xs)
+map-filter f p [] = refl
+map-filter f p (x ∷ xs) = by (p (f x)) refl (map-filter f p xs)
+  where
+    by : (b : Bool) → p (f x) ≡ b → filter p (map f xs) ≡ map f (filter (λ x. p (f x)) xs) → filter p (map f (x ∷ xs)) ≡ map f (filter (λ x. p (f x)) (x ∷ xs))
+    by true e h = ap (λ b. cond b (f x ∷ filter p (map f xs)) (filter p (map f xs))) e ∙ ap (λ l. f x ∷ l) h ∙ sym (ap (λ b. map f (cond b (x ∷ filter (λ x. p (f x)) xs) (filter (λ x. p (f x)) xs))) e)
+    by false e h = ap (λ b. cond b (f x ∷ filter p (map f xs)) (filter p (map f xs))) e ∙ h ∙ sym (ap (λ b. map f (cond b (x ∷ filter (λ x. p (f x)) xs) (filter (λ x. p (f x)) xs))) e)
+
+-- a filter by places
+filter-places : {X : Type 0} (p : X → Bool) (xs : List X) (d : X) → filter p xs ≡ map (λ n. get_or xs n d) (filter (λ n. p (get_or xs n d)) (numbers (length xs)))
+filter-places p xs d = ap (filter p) (fill_by_all (λ n. get_or xs n d) xs (length xs) d refl (λ k low. refl)) ∙ map-filter (λ n. get_or xs n d) p (numbers (length xs))
+
+module _ (left right : Fields) (on : List Name) (rows ls : List Row) where
+  pairs-rows : (l : ℕ) (ms : List ℕ) → map (λ r. get_or ls l [] ++ right_values left right on r) (map (λ n. get_or rows n []) ms) ≡ map (pair_row left right on rows ls) (map (λ r. (l, Some r)) ms)
+  pairs-rows l [] = refl
+  pairs-rows l (m ∷ ms) = ap (λ t. (get_or ls l [] ++ right_values left right on (get_or rows m [])) ∷ t) (pairs-rows l ms)
+
+  pairs-by_place : (how : How) (l : ℕ) (ms : List ℕ) → pairs left right on how (get_or ls l []) (map (λ n. get_or rows n []) ms) ≡ map (pair_row left right on rows ls) (pairs_of how l ms)
+  pairs-by_place Inner l [] = refl
+  pairs-by_place Left l [] = refl
+  pairs-by_place how l (m ∷ ms) = pairs-rows l (m ∷ ms)
+
+  -- the output of the left row at a place
+  output-by_place : (how : How) (l : ℕ) → joined left right on how rows (get_or ls l []) ≡ map (pair_row left right on rows ls) (pairs_of how l (matches_of (named_key right on rows) (length rows) (named_key left on ls l)))
+  output-by_place how l = ap (pairs left right on how (get_or ls l [])) (filter-places (rows_match left right on (get_or ls l [])) rows [])
+      ∙ pairs-by_place how l (matches_of (named_key right on rows) (length rows) (named_key left on ls l))
+
+module _ (f : Pair → Row) (out : Row → List Row) (output : ℕ → List Pair) where
+  abbrev IsTied : ℕ → (List Pair × Option ℕ) → Stream ℕ → Type 0
+  IsTied low u w = (w.rows ≡ map f u.0) × (option_map (λ x. low + x) w.fault ≡ u.1)
+
+  abbrev more_rows : Row → Stream ℕ → Stream ℕ
+  more_rows r w = record { rows = out r ++ w.rows; fault = option_map suc w.fault }
+
+  abbrev stop : Stream ℕ
+  stop = record { rows = []; fault = Some 0 }
+
+  abbrev chosen : ℕ → List Pair × Option ℕ → Bool → List Pair × Option ℕ
+  chosen low u c = if c then (output low ++ u.0, u.1) else ([], Some low)
+
+  shifted : (low : ℕ) (o : Option ℕ) → option_map (λ x. low + x) (option_map suc o) ≡ option_map (λ x. low + 1 + x) o
+  shifted low None = refl
+  shifted low (Some x) = ap Some (let e : low + suc x ≡ low + 1 + x = omega arith in e)
+
+  within-by_place : (room low : ℕ) (rs : List Row) → ((j : ℕ) → j < length rs → out (get_or rs j []) ≡ map f (output (low + j))) →
+      IsTied low (pairs_within output room (range_with_len low (length rs))) (within_room out room rs)
+  within-by_place room low [] h = (refl, refl)
+  within-by_place room low (r ∷ rest) h = by (nat_le (length (output low)) room) refl (within-by_place (room - length (output low)) (low + 1) rest (λ j b. h (suc j) (omega (arith, b)) ∙ ap (λ v. map f (output v)) (let e : low + suc j ≡ low + 1 + j = omega arith in e)))
+    where
+      here : out r ≡ map f (output low)
+      here = h 0 (omega arith) ∙ ap (λ v. map f (output v)) (let e : low + 0 ≡ low = omega arith in e)
+
+      size : length (out r) ≡ length (output low)
+      size = ap length (h 0 (omega arith) ∙ ap (λ v. map f (output v)) (let e : low + 0 ≡ low = omega arith in e)) ∙ length-map (output low) f
+
+      by : (b : Bool) → nat_le (length (output low)) room ≡ b → IsTied (low + 1) (pairs_within output (room - length (output low)) (range_with_len (low + 1) (length rest))) (within_room out (room - length (output low)) rest) →
+          IsTied low (pairs_within output room (range_with_len low (length (r ∷ rest)))) (within_room out room (r ∷ rest))
+      by true e t =
+          let e' : nat_le (length (out r)) room ≡ true = ap (λ v. nat_le v room) size ∙ e in
+          let U : ℕ → List Pair × Option ℕ = λ v. pairs_within output (room - v) (range_with_len (low + 1) (length rest)) in
+          let W : ℕ → Stream ℕ = λ v. within_room out (room - v) rest in
+          let n = length (out r) in
+          let m = length (output low) in (
+            ap (λ c. (if c then more_rows r (W n) else stop).rows) e' ∙ ap (λ v. out r ++ (W v).rows) size ∙ ap (λ l. l ++ (W m).rows) here ∙ ap (λ l. map f (output low) ++ l) t.0
+                ∙ sym (map-append f (output low) (U m).0) ∙ sym (ap (λ c. map f (chosen low (U m) c).0) e),
+            ap (λ c. option_map (λ x. low + x) (if c then more_rows r (W n) else stop).fault) e' ∙ ap (λ v. option_map (λ x. low + x) (option_map suc (W v).fault)) size
+                ∙ shifted low (W m).fault ∙ t.1 ∙ sym (ap (λ c. (chosen low (U m) c).1) e),
+          )
+      by false e t =
+          let e' : nat_le (length (out r)) room ≡ false = ap (λ v. nat_le v room) size ∙ e in
+          let U : ℕ → List Pair × Option ℕ = λ v. pairs_within output (room - v) (range_with_len (low + 1) (length rest)) in
+          let W : ℕ → Stream ℕ = λ v. within_room out (room - v) rest in
+          let n = length (out r) in
+          let m = length (output low) in (
+            ap (λ c. (if c then more_rows r (W n) else stop).rows) e' ∙ sym (ap (λ c. map f (chosen low (U m) c).0) e),
+            ap (λ c. option_map (λ x. low + x) (if c then more_rows r (W n) else stop).fault) e' ∙ ap Some (let z : low + 0 ≡ low = omega arith in z)
+                ∙ sym (ap (λ c. (chosen low (U m) c).1) e),
+          )
+
+pub join-by_place : (how : How) (left right : Fields) (on : List Name) (rows : List Row) (room : ℕ) (ls : List Row) →
+    let u = join_pairs how left right on rows room ls in join_rows how left right on rows room ls ≡ record { rows = map (pair_row left right on rows ls) u.0; fault = u.1 }
+join-by_place how left right on rows room ls =
+    let u = join_pairs how left right on rows room ls in
+    let t = within-by_place (pair_row left right on rows ls) (joined left right on how rows) (λ l. pairs_of how l (matches_of (named_key right on rows) (length rows) (named_key left on ls l))) room 0 ls
+    (λ j low. output-by_place left right on rows ls how j ∙ ap (λ v. map (pair_row left right on rows ls) (pairs_of how v (matches_of (named_key right on rows) (length rows) (named_key left on ls v)))) (let e : j ≡ 0 + j = omega arith in e)) in
+    λ i. record { rows = t.0 i; fault = (same (join_rows how left right on rows room ls).fault ∙ t.1) i }
+  where
+    same : (o : Option ℕ) → o ≡ option_map (λ x. 0 + x) o
+    same None = refl
+    same (Some x) = ap Some (let e : x ≡ 0 + x = omega arith in e)

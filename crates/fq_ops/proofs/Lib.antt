@@ -1,0 +1,13 @@
+pub mod FieldLemmas
+pub mod GroupLemmas
+pub mod JoinLemmas
+pub mod KeyLemmas
+pub mod KindLemmas
+pub mod PairLemmas
+pub mod PickLemmas
+pub mod PlaceLemmas
+pub mod ProbeLemmas
+pub mod RefusalLemmas
+pub mod RollLemmas
+pub mod WindowLemmas
+pub mod ZipLemmas

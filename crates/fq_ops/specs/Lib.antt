@@ -1,0 +1,16 @@
+pub mod Aggregate
+pub mod Examples
+pub mod Fed
+pub mod Fields
+pub mod Group
+pub mod Grouping
+pub mod Indexed
+pub mod Join
+pub mod Meaning
+pub mod Pairs
+pub mod Picks
+pub mod Roll
+pub mod Sums
+pub mod Table
+pub mod Taken
+pub mod Window

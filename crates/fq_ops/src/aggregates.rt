@@ -1,0 +1,31 @@
+// Aggregates of a group.
+
+/// An aggregate of a named column's cells in a group, or the number of the group's rows.
+#[derive(Debug, Drop)]
+pub enum What {
+    /// The sum of the whole numbers; nulls are skipped, and it is 0 where no value is there.
+    Sum(String),
+    /// The least value; nulls are skipped, and it is null where no value is there.
+    Min(String),
+    /// The greatest value; nulls are skipped, and it is null where no value is there.
+    Max(String),
+    /// The number of values that are not null.
+    Count(String),
+    /// The number of rows.
+    Len,
+    /// The first row's cell, null included.
+    First(String),
+    /// The last row's cell, null included.
+    Last(String),
+    /// The number of distinct values, null counted as one.
+    NUnique(String),
+}
+
+/// An aggregate and the name of its output.
+#[derive(Debug, Drop)]
+pub struct Agg {
+    /// The name of the output.
+    pub name: String,
+    /// The aggregate.
+    pub what: What,
+}

@@ -1,0 +1,20 @@
+// Worked examples of the definitions, each proved by computing both sides.
+ghost use Rattle.fq_ops.specs.Examples.{SumExamples, GroupExamples, AggregateExamples, GroupSchemaExamples, JoinExamples, SuffixExamples, RoomExamples, RollExamples, RollSchemaExamples, TakeExamples};
+
+fn worked_examples()
+    ensures sums { SumExamples }
+    ensures groups { GroupExamples }
+    ensures aggregates { AggregateExamples }
+    ensures group_schemas { GroupSchemaExamples }
+    ensures joins { JoinExamples }
+    ensures suffix { SuffixExamples }
+    ensures room { RoomExamples }
+    ensures rolls { RollExamples }
+    ensures roll_schemas { RollSchemaExamples }
+    ensures takes { TakeExamples }
+{}
+
+#[test]
+fn definitions_compute() {
+    worked_examples();
+}

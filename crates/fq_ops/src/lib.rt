@@ -1,0 +1,27 @@
+//! Joins and rolling sums over batches that come one after another, and the schemas that joins, groups and rolling sums
+//! leave.
+//!
+//! A [`JoinTable`] keeps the right side of a join and is probed with one left batch after another. A [`Rolling`] takes
+//! columns one after another, and answers as if all had come in one. The definitions in `specs/` speak of whole lists of
+//! rows, with no batch and no hashed table.
+#![tactic(auto)]
+
+mod aggregates;
+mod fields;
+mod index;
+mod joins;
+mod keys;
+mod pairs;
+mod rolls;
+mod schemas;
+mod sums;
+
+pub use aggregates::{Agg, What};
+pub use joins::{How, JoinTable, Probed};
+pub use rolls::Rolling;
+pub use schemas::{group_schema, join_schema, roll_schema};
+
+#[cfg(test)]
+mod examples;
+#[cfg(test)]
+mod tests;

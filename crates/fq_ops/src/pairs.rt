@@ -1,0 +1,62 @@
+// Pairs of places that a join puts together.
+ghost use Rattle.std.specs.Prelude.{◌≡◌, ◌++◌, [], ◌∷◌, map, length, OnOk};
+
+use fq_column::Memory;
+use std::alloc::Global;
+use std::marker::Model;
+
+/// Pairs of a left place and a right one, or none, kept as two lists for gathering whole columns.
+#[derive(Drop)]
+pub struct Pairs {
+    left: Vec<usize>,
+    right: Vec<Option<usize>>,
+}
+
+impl Model for Pairs {
+    ghost use Rattle.std.specs.Prelude.{◌≡◌, List, length, zip};
+    ghost use Rattle.fq_ops.specs.Pairs.{Pair};
+
+    ghost Value = { List Pair };
+
+    ghost view = { λ p. zip p.left.items p.right.items };
+
+    ghost invariant = { λ p. length p.left.items ≡ length p.right.items };
+}
+
+impl Pairs {
+    /// No pair; takes no memory.
+    pub fn new(alloc: Global) -> Pairs
+        ensures { result ≡ [] }
+    {
+        Pairs {
+            left: Vec::new(alloc),
+            right: Vec::new(alloc),
+        }
+    }
+
+    /// One more pair.
+    pub fn push(&mut self, left: usize, right: Option<usize>) -> Result<(), Memory>
+        ensures { OnOk result (self.new ≡ self.old ++ (left, right) ∷ []) }
+    {
+        self.left.push(left)?;
+        let Ok(()) = self.right.push(right) else {
+            self.left.truncate(self.right.len());
+            return Err(Memory);
+        };
+        Ok(())
+    }
+
+    /// The left places.
+    pub fn left(&self) -> &[usize]
+        ensures { result.now ≡ map (λ p. p.0) self.now }
+    {
+        self.left.as_slice()
+    }
+
+    /// The right places.
+    pub fn right(&self) -> &[Option<usize>]
+        ensures { result.now ≡ map (λ p. p.1) self.now }
+    {
+        self.right.as_slice()
+    }
+}
