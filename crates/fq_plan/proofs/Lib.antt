@@ -1,0 +1,5 @@
+pub mod ReadingLemmas
+pub mod ValueLemmas
+pub mod SpellingLemmas
+pub mod LimitLemmas
+pub mod RowPlanLemmas

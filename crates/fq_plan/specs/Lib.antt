@@ -1,0 +1,5 @@
+pub mod Parts
+pub mod Plan
+pub mod Spelling
+pub mod View
+pub mod RowPlan

@@ -1,0 +1,72 @@
+-- A plan: its sources, of which the last is the main one, and its steps.
+use Rattle.std.specs.Prelude.{ℕ, ℤ, pos, negsuc, ◌-◌, ◌≤◌, All, List, [], ◌∷◌, length, take, map, sum_by, flat_map, replicate, slice_get, slice_index_or, Option, None}
+use Rattle.fq_column.specs.Frame.{Fields, Name}
+use Rattle.fq_expr.specs.Expression.{Step}
+use Rattle.fq_ops.specs.declared.joins.How.{How}
+use Rattle.fq_ops.specs.Aggregate.{Output}
+
+-- a source: the number of its files, and its columns
+pub record Source : Type 0 where
+  pub files : ℕ
+  pub fields : Fields
+
+pub data PlanStep : Type 0 where
+  row_wise : Step → PlanStep
+  join : ℤ → List Name → How → PlanStep
+  group_by : List Name → List Output → PlanStep
+  rolling_sum : Name → ℤ → ℤ → Name → PlanStep
+
+pub record Query : Type 0 where
+  pub sources : List Source
+  pub steps : List PlanStep
+
+-- all but the last of a list
+abbrev pub but_last : {X : Type 0} → List X → List X
+but_last xs = take (length xs - 1) xs
+
+-- the last of a list, or else x
+abbrev pub last_or : {X : Type 0} → X → List X → X
+last_or x xs = slice_index_or xs (length xs - 1) x
+
+-- the item at a place, which may be no place
+abbrev pub item_at : {X : Type 0} → List X → ℤ → Option X
+item_at xs (pos n) = slice_get xs n
+item_at xs (negsuc n) = None
+
+-- how many files a plan wants
+abbrev pub files_wanted : Query → ℕ
+files_wanted p = sum_by (λ s. s.files) p.sources
+
+-- how many of them are of the sources before the last
+abbrev pub join_files : Query → ℕ
+join_files p = sum_by (λ s. s.files) (but_last p.sources)
+
+-- the columns of each file, in argument order
+abbrev pub file_fields : Query → List Fields
+file_fields p = flat_map (λ s. replicate s.files s.fields) p.sources
+
+-- the columns of the sources before the last, and of the last
+abbrev pub join_fields : Query → List Fields
+join_fields p = map (λ s. s.fields) (but_last p.sources)
+
+abbrev pub main_fields : Query → Fields
+main_fields p = last_or [] (map (λ s. s.fields) p.sources)
+
+-- the leading row-wise steps, and the steps after them
+abbrev pub front_of : List PlanStep → List Step
+front_of [] = []
+front_of (row_wise s ∷ steps) = s ∷ front_of steps
+front_of (s ∷ steps) = []
+
+abbrev pub rest_of : List PlanStep → List PlanStep
+rest_of [] = []
+rest_of (row_wise s ∷ steps) = rest_of steps
+rest_of (s ∷ steps) = s ∷ steps
+
+-- the limits of every plan that a text spells
+pub record IsWithinLimits (p : Query) : Type 0 where
+  pub some_source : 1 ≤ length p.sources
+  pub few_sources : length p.sources ≤ 8
+  pub some_files : All (λ s. 1 ≤ s.files) p.sources
+  pub few_files : files_wanted p ≤ 16
+  pub few_steps : length p.steps ≤ 64

@@ -1,0 +1,15 @@
+//! Plans over CSV files: the sources, the steps over the last of them, and why a plan or a run is refused or faults.
+//!
+//! `read_plan` reads a plan from its JSON text; the plan language is written down in `specs/Spelling.antt`.
+#![tactic(auto)]
+
+mod faults;
+mod plans;
+mod reading;
+mod rowwise;
+#[cfg(test)]
+mod tests;
+
+pub use faults::{CheckFault, Fault, Place, PlanFault};
+pub use plans::{Plan, Source, Step, read_plan};
+pub use rowwise::RowPlan;

@@ -1,0 +1,87 @@
+// Plans.
+ghost use Rattle.std.specs.Prelude.{◌≡◌, ◌⊎◌, Err};
+ghost use Rattle.fq_plan.specs.Spelling.{read_as_plan};
+
+use crate::faults::PlanFault;
+use crate::reading::Spelled;
+use fq_column::{Kind, Memory};
+use fq_expr::RowStep;
+use fq_ops::{Agg, How};
+use serde_json::Value;
+use std::alloc::Global;
+use std::marker::Model;
+
+/// The number of a source's files, and its columns.
+#[derive(Debug, Drop)]
+pub struct Source {
+    pub(crate) files: u16,
+    pub(crate) columns: Vec<(String, Kind)>,
+}
+
+/// A step of a plan.
+#[derive(Debug, Drop)]
+pub enum Step {
+    /// `filter`, `with_columns` or `select`.
+    Rows(RowStep),
+    /// A join with an earlier source on named columns.
+    Join {
+        source: i64,
+        on: Vec<String>,
+        how: How,
+    },
+    /// Aggregates of groups.
+    GroupBy {
+        keys: Vec<String>,
+        aggs: Vec<Agg>,
+    },
+    /// A rolling sum of a column, under a name.
+    RollingSum {
+        column: String,
+        window: i64,
+        min_samples: i64,
+        name: String,
+    },
+}
+
+/// A plan as its text spells it: 1 to 8 sources of 16 files at most, and 0 to 64 steps.
+#[derive(Drop)]
+pub struct Plan {
+    pub(crate) sources: Vec<Source>,
+    pub(crate) steps: Vec<Step>,
+}
+
+impl Model for Plan {
+    ghost use Rattle.fq_plan.specs.Plan.{Query};
+
+    ghost Value = { Query };
+
+    ghost use Rattle.std.specs.Coded.{codes};
+    ghost use Rattle.fq_expr.specs.ExpressionCode.{expression_code};
+
+    ghost coded = { Prim.hlevel (codes, expression_code (Prim.hlevel codes)) };
+
+    ghost use Rattle.std.specs.Prelude.{map};
+    ghost use Rattle.fq_plan.specs.Plan.{IsWithinLimits};
+    ghost use Rattle.fq_plan.specs.View.{source_data, plan_step_of};
+
+    ghost view = { λ p. record { sources = map source_data p.sources.items; steps = map plan_step_of p.steps.items } };
+
+    ghost invariant = { λ p. IsWithinLimits (record { sources = map source_data p.sources.items; steps = map plan_step_of p.steps.items }) };
+}
+
+/// The plan that a JSON text spells.
+///
+/// `Json` for what is no JSON text, nesting deeper than 127 and bad UTF-8 among it, and `Shape` for a JSON value that
+/// spells no plan. `Memory` where memory is refused. One pass over the text, and one over the value that it gives.
+pub fn read_plan(alloc: Global, text: &[u8]) -> Result<Plan, PlanFault>
+    ensures { (result ≡ read_as_plan text.now) ⊎ (result ≡ Err PlanFault.Memory) }
+{
+    match Value::from_slice(alloc, text) {
+        Ok(value) => match Plan::read(alloc, &value) {
+            Ok(plan) => plan.ok_or(PlanFault::Shape),
+            Err(Memory) => Err(PlanFault::Memory),
+        },
+        Err(error) if error.is_memory() => Err(PlanFault::Memory),
+        Err(_) => Err(PlanFault::Json),
+    }
+}

@@ -1,0 +1,68 @@
+// Aggregates of groups.
+ghost use Rattle.std.specs.Prelude.{◌≡◌, option_map, string_bytes};
+ghost use Rattle.serde_json.specs.View.{view};
+ghost use Rattle.fq_ops.specs.Aggregate.{Output};
+ghost use Rattle.fq_ops.specs.Meaning.{aggregate_of};
+ghost use Rattle.fq_plan.specs.Parts.{word};
+ghost use Rattle.fq_plan.specs.Spelling.{aggregate, row_counts, functions};
+
+use crate::reading::Spelled;
+use crate::reading::values::{three_items, two_items};
+use fq_column::Memory;
+use fq_ops::{Agg, What};
+use serde_json::Value;
+use std::alloc::Global;
+
+// `[NAME, "len"]`, or `[NAME, FUNCTION, COLUMN]`.
+impl Spelled for Agg {
+    ghost Part = { Output };
+
+    ghost spelled_by = { aggregate };
+
+    ghost part_of = { λ agg. (string_bytes agg.name, aggregate_of agg.what) };
+
+    fn read(alloc: Global, value: &Value) -> Result<Option<Agg>, Memory> {
+        if let Some((name, function)) = two_items(value) {
+            let Some(name) = String::read(alloc, name)? else {
+                return Ok(None);
+            };
+            return Ok(of_rows(function).map(|what| Agg { name, what }));
+        }
+        let Some((name, function, column)) = three_items(value) else {
+            return Ok(None);
+        };
+        let Some(name) = String::read(alloc, name)? else {
+            return Ok(None);
+        };
+        let Some(column) = String::read(alloc, column)? else {
+            return Ok(None);
+        };
+        Ok(of_column(function, column).map(|what| Agg { name, what }))
+    }
+}
+
+// The aggregate of no column that a word names.
+fn of_rows(function: &Value) -> Option<What>
+    ensures { option_map aggregate_of result ≡ word row_counts (view function.now) }
+{
+    match function.as_str()? {
+        "len" => Some(What::Len),
+        _ => None,
+    }
+}
+
+// The aggregate of a column that a word names.
+fn of_column(function: &Value, column: String) -> Option<What>
+    ensures { option_map aggregate_of result ≡ option_map (λ f. f (string_bytes column)) (word functions (view function.now)) }
+{
+    match function.as_str()? {
+        "sum" => Some(What::Sum(column)),
+        "min" => Some(What::Min(column)),
+        "max" => Some(What::Max(column)),
+        "count" => Some(What::Count(column)),
+        "first" => Some(What::First(column)),
+        "last" => Some(What::Last(column)),
+        "n_unique" => Some(What::NUnique(column)),
+        _ => None,
+    }
+}

@@ -1,0 +1,76 @@
+// Expressions.
+ghost use Rattle.std.specs.Prelude.{◌≡◌, IfOk, option_map};
+ghost use Rattle.serde_json.specs.View.{view};
+ghost use Rattle.fq_expr.specs.Expression.{Expression};
+ghost use Rattle.fq_expr.specs.Meaning.{expression_of};
+ghost use Rattle.fq_plan.specs.Spelling.{expression, leaf};
+
+use crate::reading::Spelled;
+use crate::reading::values::only_member;
+use crate::reading::words::{binary, kind, unary};
+use fq_column::{Memory, Text};
+use fq_expr::Expr;
+use serde_json::Value;
+use std::alloc::Global;
+
+impl Spelled for Expr {
+    ghost Part = { Expression };
+
+    ghost spelled_by = { expression };
+
+    ghost part_of = { expression_of };
+
+    fn read(alloc: Global, value: &Value) -> Result<Option<Expr>, Memory> {
+        read_expression(alloc, value)
+    }
+}
+
+// The expression that a value spells.
+fn read_expression(alloc: Global, value: &Value) -> Result<Option<Expr>, Memory>
+    ensures { IfOk result (λ o. option_map expression_of o ≡ expression (view value.now)) }
+{
+    match value {
+        Value::Null => Ok(None),
+        Value::Bool(truth) => Ok(Some(Expr::Truth(*truth))),
+        Value::Number(_) => Ok(value.as_i64().map(Expr::Whole)),
+        Value::String(text) => Ok(Some(Expr::Text(Text::new(alloc, text.as_str())?))),
+        Value::Array(items) => {
+            if items.len() == 2 {
+                let (name, operand) = (&items[0], &items[1]);
+                let Some(op) = unary(name) else {
+                    return Ok(None);
+                };
+                let Some(operand) = read_expression(alloc, operand)? else {
+                    return Ok(None);
+                };
+                Ok(Some(Expr::One(op, Box::new(alloc, operand)?)))
+            } else if items.len() == 3 {
+                let (name, left, right) = (&items[0], &items[1], &items[2]);
+                let Some(op) = binary(name) else {
+                    return Ok(None);
+                };
+                let Some(left) = read_expression(alloc, left)? else {
+                    return Ok(None);
+                };
+                let Some(right) = read_expression(alloc, right)? else {
+                    return Ok(None);
+                };
+                let left = Box::new(alloc, left)?;
+                Ok(Some(Expr::Two(op, left, Box::new(alloc, right)?)))
+            } else {
+                Ok(None)
+            }
+        }
+        Value::Object(_) => read_leaf(alloc, value),
+    }
+}
+
+// A column or a null: an object with one member.
+fn read_leaf(alloc: Global, value: &Value) -> Result<Option<Expr>, Memory>
+    ensures { IfOk result (λ o. option_map expression_of o ≡ leaf (view value.now)) }
+{
+    if let Some(name) = only_member(value, "col") {
+        return Ok(String::read(alloc, name)?.map(Expr::Col));
+    }
+    Ok(only_member(value, "null").and_then(kind).map(Expr::Null))
+}

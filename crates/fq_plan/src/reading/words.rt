@@ -1,0 +1,128 @@
+// Words of the plan language: numbers, names, kinds, joins and operations.
+ghost use Rattle.std.specs.Prelude.{◌≡◌, ℤ, string_bytes};
+ghost use Rattle.serde_json.specs.View.{view};
+ghost use Rattle.fq_plan.specs.Parts.{whole, name_of, word};
+ghost use Rattle.fq_plan.specs.Spelling.{kinds, hows, unaries, binaries};
+ghost use Rattle.fq_column.specs.Frame.{Name};
+ghost use Rattle.fq_column.specs.declared.cells.Kind.{Kind as KindData};
+ghost use Rattle.fq_ops.specs.declared.joins.How.{How as HowData};
+
+use crate::reading::Spelled;
+use fq_column::{Kind, Memory};
+use fq_expr::{Binary, Unary};
+use fq_ops::How;
+use serde_json::Value;
+use std::alloc::Global;
+
+// A name.
+impl Spelled for String {
+    ghost Part = { Name };
+
+    ghost spelled_by = { name_of };
+
+    ghost part_of = { string_bytes };
+
+    fn read(alloc: Global, value: &Value) -> Result<Option<String>, Memory> {
+        match value.as_str() {
+            Some(text) => Ok(Some(String::from_str(alloc, text)?)),
+            None => Ok(None),
+        }
+    }
+}
+
+// A whole number of 64 bits.
+impl Spelled for i64 {
+    ghost Part = { ℤ };
+
+    ghost spelled_by = { whole };
+
+    ghost part_of = { λ number. number };
+
+    fn read(_alloc: Global, value: &Value) -> Result<Option<i64>, Memory> {
+        Ok(value.as_i64())
+    }
+}
+
+impl Spelled for Kind {
+    ghost Part = { KindData };
+
+    ghost spelled_by = { word kinds };
+
+    ghost part_of = { λ kind. kind };
+
+    fn read(_alloc: Global, value: &Value) -> Result<Option<Kind>, Memory> {
+        Ok(kind(value))
+    }
+}
+
+impl Spelled for How {
+    ghost Part = { HowData };
+
+    ghost spelled_by = { word hows };
+
+    ghost part_of = { λ how. how };
+
+    fn read(_alloc: Global, value: &Value) -> Result<Option<How>, Memory> {
+        Ok(how(value))
+    }
+}
+
+/// The kind that a word names.
+pub fn kind(value: &Value) -> Option<Kind>
+    ensures { result ≡ word kinds (view value.now) }
+{
+    match value.as_str()? {
+        "int" => Some(Kind::Whole),
+        "text" => Some(Kind::Text),
+        "bool" => Some(Kind::Truth),
+        _ => None,
+    }
+}
+
+// What a join does with a row that has no match, by its word.
+fn how(value: &Value) -> Option<How>
+    ensures { result ≡ word hows (view value.now) }
+{
+    match value.as_str()? {
+        "inner" => Some(How::Inner),
+        "left" => Some(How::Left),
+        _ => None,
+    }
+}
+
+/// The operation on one value that a word names.
+pub fn unary(value: &Value) -> Option<Unary>
+    ensures { result ≡ word unaries (view value.now) }
+{
+    match value.as_str()? {
+        "neg" => Some(Unary::Neg),
+        "not" => Some(Unary::Not),
+        "is_null" => Some(Unary::IsNull),
+        "is_not_null" => Some(Unary::IsNotNull),
+        _ => None,
+    }
+}
+
+/// The operation on two values that a word names.
+pub fn binary(value: &Value) -> Option<Binary>
+    ensures { result ≡ word binaries (view value.now) }
+{
+    match value.as_str()? {
+        "add" => Some(Binary::Add),
+        "sub" => Some(Binary::Sub),
+        "mul" => Some(Binary::Mul),
+        "floordiv" => Some(Binary::FloorDiv),
+        "mod" => Some(Binary::Mod),
+        "eq" => Some(Binary::Eq),
+        "ne" => Some(Binary::Ne),
+        "lt" => Some(Binary::Lt),
+        "le" => Some(Binary::Le),
+        "gt" => Some(Binary::Gt),
+        "ge" => Some(Binary::Ge),
+        "eq_missing" => Some(Binary::EqMissing),
+        "and" => Some(Binary::And),
+        "or" => Some(Binary::Or),
+        "fill_null" => Some(Binary::FillNull),
+        _ => None,
+    }
+}
