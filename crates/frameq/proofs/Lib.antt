@@ -1,0 +1,4 @@
+pub mod ColumnLemmas
+pub mod InputLemmas
+pub mod StepLemmas
+pub mod ProgramLemmas
