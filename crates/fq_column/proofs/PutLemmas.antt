@@ -57,6 +57,15 @@ position-push p (x ∷ xs) y ys e h = position-cons p x (xs ++ y ∷ ys) ∙ go 
     go rest false f = ap (option_map suc) (rest (none_under (position p xs) f))
 
 module _ {X : Type 0} where
+  -- at most one more
+  pub put_named-length : (ps : List (Name × X)) (x : Name × X) → length (put_named ps x) ≤ suc (length ps)
+  put_named-length [] x = omega arith
+  put_named-length (p ∷ ps) x = go (put_named-length ps x) (same_name x.0 p.0)
+    where
+      go : length (put_named ps x) ≤ suc (length ps) → (b : Bool) → length (cond b (x ∷ ps) (p ∷ put_named ps x)) ≤ suc (suc (length ps))
+      go rest true = omega arith
+      go rest false = omega (arith, rest)
+
   -- a name that is there is replaced
   pub put_named-at : (ps : List (Name × X)) (n : Name) (x : X) (i : ℕ) → position_of n (map (λ p. p.0) ps) ≡ Some i → put_named ps (n, x) ≡ set ps i (n, x)
   put_named-at [] n x i e = absurd (cc)

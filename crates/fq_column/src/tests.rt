@@ -92,6 +92,21 @@ fn schemas(rt: HostRuntime) -> Result<(), Fail> {
 }
 
 #[test]
+fn puts_columns(rt: HostRuntime) -> Result<(), Fail> {
+    let alloc = rt.alloc();
+    let mut schema = schema_of_two(&rt, alloc)?;
+    assert!(rt; schema.len() < 64);
+    schema.put("a", Kind::Truth)?;
+    assert_eq!(rt; schema.len(), 2);
+    assert_eq!(rt; schema.kind(0), Kind::Truth);
+    schema.put("c", Kind::Text)?;
+    assert_eq!(rt; schema.position("c"), Some(2));
+    assert_eq!(rt; schema.len(), 3);
+    assert_eq!(rt; schema.kind(2), Kind::Text);
+    Ok(())
+}
+
+#[test]
 fn texts(rt: HostRuntime) -> Result<(), Fail> {
     let alloc = rt.alloc();
     let mut column = Column::with_capacity(alloc, Kind::Text, 4)?;
