@@ -28,7 +28,7 @@ abbrev pub HaveHeight : ℕ → List Cells → Type 0
 HaveHeight h [] = Unit {0}
 HaveHeight h (c ∷ cs) = (length c.cells ≡ h) × HaveHeight h cs
 
-have-height : (h : ℕ) (cs : List Cells) → All (λ (c : Cells). length c.cells ≡ h) cs → HaveHeight h cs
+pub have-height : (h : ℕ) (cs : List Cells) → All (λ (c : Cells). length c.cells ≡ h) cs → HaveHeight h cs
 have-height h [] all = tt
 have-height h (c ∷ cs) all = (all 0 c (omega arith), have-height h cs (λ k d below. all (suc k) d (omega (arith, below))))
 

@@ -3,9 +3,13 @@ use Rattle.std.proofs.Common.{◌≡◌, ℕ, zero, suc, Bool, true, List, [], �
 use Rattle.std.specs.List.{AllPass}
 use Rattle.fq_column.specs.declared.cells.Cell.{Cell}
 use Rattle.fq_column.specs.declared.cells.Cell.TheVariants as cell
+use Rattle.fq_column.specs.declared.cells.Kind.TheVariants as kind
+use Rattle.fq_column.specs.declared.columns.Values.{Values}
+use Rattle.fq_column.specs.declared.columns.Values.TheVariants.{Whole, Text, Truth}
 use Rattle.std.specs.Prelude.{slice_index_or}
 use Rattle.std.specs.Option.{option_and_then, option_map_or}
-use Rattle.fq_column.specs.Column.{nullable}
+use Rattle.fq_column.specs.Cell.{has_kind}
+use Rattle.fq_column.specs.Column.{AreOfKind, cells_of, nullable}
 use Rattle.fq_column.specs.Frame.{value_at}
 
 -- a test that null and each value pass holds of all the cells
@@ -14,6 +18,12 @@ AllPass-nullable has make h f [] k d below = absurd (omega (arith, below))
 AllPass-nullable has make h f (None ∷ xs) zero d below = h
 AllPass-nullable has make h f (Some x ∷ xs) zero d below = f x
 AllPass-nullable has make h f (x ∷ xs) (suc k) d below = AllPass-nullable has make h f xs k d (omega (arith, below))
+
+-- the cells of values are of their kind
+pub AreOfKind-values : (v : Values) → AreOfKind (cells_of v)
+AreOfKind-values (Whole array) = AllPass-nullable (has_kind kind.Whole) cell.Whole refl (λ _. refl) array
+AreOfKind-values (Text array) = AllPass-nullable (has_kind kind.Text) cell.Text refl (λ _. refl) array
+AreOfKind-values (Truth array) = AllPass-nullable (has_kind kind.Truth) cell.Truth refl (λ _. refl) array
 
 -- ---- cells at places
 

@@ -4,4 +4,5 @@ pub mod ColumnLemmas
 pub mod ListLemmas
 pub mod PieceLemmas
 pub mod SchemaLemmas
+pub mod PutColumnLemmas
 pub mod PutLemmas

@@ -58,9 +58,9 @@ position-push p (x ∷ xs) y ys e h = position-cons p x (xs ++ y ∷ ys) ∙ go 
 
 module _ {X : Type 0} where
   -- at most one more
-  pub put_named-length : (ps : List (Name × X)) (x : Name × X) → length (put_named ps x) ≤ suc (length ps)
-  put_named-length [] x = omega arith
-  put_named-length (p ∷ ps) x = go (put_named-length ps x) (same_name x.0 p.0)
+  pub length-put_named-most : (ps : List (Name × X)) (x : Name × X) → length (put_named ps x) ≤ suc (length ps)
+  length-put_named-most [] x = omega arith
+  length-put_named-most (p ∷ ps) x = go (length-put_named-most ps x) (same_name x.0 p.0)
     where
       go : length (put_named ps x) ≤ suc (length ps) → (b : Bool) → length (cond b (x ∷ ps) (p ∷ put_named ps x)) ≤ suc (suc (length ps))
       go rest true = omega arith

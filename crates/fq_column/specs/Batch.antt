@@ -1,12 +1,13 @@
 -- What contracts see of a batch: a frame, whose rows stand in columns.
 use Rattle.std.specs.Prelude.{◌≡◌, ℕ, All, Bool, List, [], ◌∷◌, ◌++◌, map, length, Option, Some, None, ◌==◌, not, if◌then◌else◌}
-use Rattle.std.specs.List.{list_all}
+use Rattle.std.specs.List.{list_all, zip}
 use Rattle.fq_column.specs.Cell.{same_kind}
 use Rattle.fq_column.specs.declared.faults.BatchFault.{BatchFault}
 use Rattle.fq_column.specs.declared.faults.BatchFault.TheVariants.{Width, Kind as WrongKind, Length}
 use Rattle.fq_column.specs.declared.cells.Cell.{Cell}
 use Rattle.fq_column.specs.declared.cells.Kind.{Kind}
-use Rattle.fq_column.specs.Frame.{Fields, Field, Frame, IsSchema, kinds_of, rows_of}
+use Rattle.fq_column.specs.Frame.{Fields, Field, Frame, IsSchema, Name, Row, kinds_of, names_of, put_named, rows_of}
+use Rattle.fq_column.specs.Lists.{zip_with}
 use Rattle.fq_column.specs.Column.{Cells, AreOfKind}
 use lib.Pointwise.{pointwise}
 
@@ -47,3 +48,11 @@ with_cells c cells = record { kind = c.kind; cells = cells }
 -- the cells of a column, then those of another
 abbrev pub joined_cells : Cells → Cells → Cells
 joined_cells c d = with_cells c (c.cells ++ d.cells)
+
+-- a row with a value under a name: in the place of the name, or else last
+abbrev pub row_with : Fields → Name → Row → Cell → Row
+row_with fields name row value = map (λ p. p.1) (put_named (zip (names_of fields) row) (name, value))
+
+-- a frame with a column under a name
+abbrev pub frame_with : Frame → Name → Cells → Frame
+frame_with f name column = record { fields = put_named f.fields (name, column.kind); rows = zip_with (row_with f.fields name) f.rows column.cells }

@@ -1,12 +1,12 @@
 // Batches: a schema and rows, kept as columns.
-ghost use Rattle.std.specs.Prelude.{◌≡◌, ◌<◌, ◌++◌, ◌==◌, Some, None, take, length, map, not, All, IfOk, IfErr, IfNone, OnOk, OnErr, MatchResult, slice_get};
+ghost use Rattle.std.specs.Prelude.{◌≡◌, ◌<◌, ◌≤◌, ◌++◌, ◌==◌, Some, None, take, length, map, not, All, IfOk, IfErr, IfNone, OnOk, OnErr, MatchResult, slice_get};
 ghost use Rattle.std.specs.Bool.{OnFalse};
-ghost use Rattle.std.specs.List.{list_all};
+ghost use Rattle.std.specs.List.{list_all, zip};
 ghost use Rattle.std.specs.Vec.Iter.{into_iter_items};
 ghost use Rattle.std.specs.Cmp.Lexicographic.{pointwise};
-ghost use Rattle.fq_column.specs.Batch.{frame_of, batch_fault, has_kind_of, height_of, joined_cells, kind_of_cells, StandsIn};
+ghost use Rattle.fq_column.specs.Batch.{frame_of, frame_with, batch_fault, has_kind_of, height_of, joined_cells, kind_of_cells, StandsIn};
 ghost use Rattle.fq_column.specs.Column.{AreOfKind};
-ghost use Rattle.fq_column.specs.Frame.{IsFrame, column_at, kinds_of};
+ghost use Rattle.fq_column.specs.Frame.{IsFrame, column_at, kinds_of, names_of, put_named};
 ghost use Rattle.fq_column.specs.Lists.{keep as kept, zip_with};
 
 use crate::cells::Cell;
@@ -131,6 +131,19 @@ impl Batch {
         Ok(())
     }
 
+    /// Puts a column in the place of the one of its name, or else last; may grow.
+    ///
+    /// A refusal leaves the batch as it was.
+    pub fn put(&mut self, name: &str, column: Column) -> Result<(), Memory>
+        requires height { length column.cells ≡ length self.old.rows }
+        requires room { length (put_named self.old.fields (name.now, column.kind)) ≤ 64 }
+        ensures ok { OnOk result (self.new ≡ frame_with self.old name.now column) }
+        ensures err { OnErr result (self.new ≡ self.old) }
+    {
+        put_column(&mut self.schema, &mut self.columns, name, column)?;
+        Ok(())
+    }
+
     /// A copy of row `i`; takes memory for the row and each of its texts.
     pub fn row(&self, alloc: Global, i: usize) -> Result<Vec<Cell>, Memory>
         requires { i < length self.now.rows }
@@ -150,6 +163,42 @@ impl Batch {
         let schema = self.schema.copy(alloc)?;
         let columns = copy_columns(alloc, self.columns.as_slice())?;
         Ok(Batch { schema, columns })
+    }
+}
+
+/// Puts a column among the columns of a schema: in the place of the one of its name, or else last; may grow.
+///
+/// A refusal leaves both as they were.
+pub fn put_column(
+    schema: &mut Schema,
+    columns: &mut Vec<Column>,
+    name: &str,
+    column: Column,
+) -> Result<(), Memory>
+    requires width { length columns.old.items ≡ length schema.old }
+    requires room { length (put_named schema.old (name.now, column.kind)) ≤ 64 }
+    ensures schema { OnOk result (schema.new ≡ put_named schema.old (name.now, column.kind)) }
+    ensures columns { OnOk result (zip (names_of schema.new) columns.new.items
+        ≡ put_named (zip (names_of schema.old) columns.old.items) (name.now, column)) }
+    ensures width { OnOk result (length columns.new.items ≡ length schema.new) }
+    ensures kind { AreOfKind column }
+    ensures err { OnErr result ((schema.new ≡ schema.old) × (columns.new.items ≡ columns.old.items)) }
+{
+    let kind = column.kind();
+    match schema.position(name) {
+        Some(i) => {
+            schema.put(name, kind)?;
+            columns[i] = column;
+            Ok(())
+        }
+        None => {
+            columns.push(column)?;
+            let Ok(()) = schema.put(name, kind) else {
+                columns.truncate(columns.len() - 1);
+                return Err(Memory);
+            };
+            Ok(())
+        }
     }
 }
 

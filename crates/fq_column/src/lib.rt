@@ -17,7 +17,7 @@ mod texts;
 mod validity;
 
 pub use arrays::{Array, Element};
-pub use batches::Batch;
+pub use batches::{Batch, put_column};
 pub use cells::{Cell, Kind};
 pub use columns::{Column, Values};
 pub use faults::{BatchFault, Memory, StepFault};

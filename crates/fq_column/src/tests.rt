@@ -291,3 +291,31 @@ fn arrays_are_written_in_place(rt: HostRuntime) -> Result<(), Fail> {
     assert_eq!(rt; array.get(1).copied(), Some(7));
     Ok(())
 }
+
+#[test]
+fn puts_columns_into_a_batch(rt: HostRuntime) -> Result<(), Fail> {
+    let alloc = rt.alloc();
+    let columns = vec![in alloc;
+        whole_column(&rt, alloc, &[Some(1), None])?,
+        text_column(&rt, alloc, &["x", "y"])?,
+    ]?;
+    let Ok(mut batch) = Batch::from_columns(schema_of_two(&rt, alloc)?, columns) else {
+        return Err(Fail::new("the columns fit"));
+    };
+    let numbers = whole_column(&rt, alloc, &[Some(7), Some(8)])?;
+    assert!(rt; batch.schema().len() < 64);
+    assert_eq!(rt; numbers.len(), batch.rows());
+    batch.put("b", numbers)?;
+    assert_eq!(rt; batch.rows(), 2);
+    assert!(rt; batch.row(alloc, 1)?.as_slice() == [Cell::Null, Cell::Whole(8)].as_slice());
+    let texts = text_column(&rt, alloc, &["p", "q"])?;
+    assert!(rt; batch.schema().len() < 64);
+    assert_eq!(rt; texts.len(), batch.rows());
+    batch.put("c", texts)?;
+    assert_eq!(rt; batch.rows(), 2);
+    assert!(rt;
+        batch.row(alloc, 0)?.as_slice()
+            == [Cell::Whole(1), Cell::Whole(7), text(alloc, "p")?].as_slice()
+    );
+    Ok(())
+}

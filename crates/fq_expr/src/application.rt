@@ -17,7 +17,7 @@ ghost use Rattle.fq_expr.specs.Value.{value_of};
 use crate::expressions::Expr;
 use crate::operands::{AnyOperand, Operand};
 use crate::steps::{RowStep, select_schema};
-use fq_column::{Batch, Column, Kind, Memory, Schema};
+use fq_column::{Batch, Column, Kind, Memory, Schema, put_column};
 use std::alloc::Global;
 use std::vec::IntoIter;
 
@@ -215,28 +215,6 @@ fn put_columns(
     };
     put_column(item.0.as_str(), column, schema, columns)?;
     put_columns(rest, made, schema, columns)
-}
-
-// Puts a column in the place of the column of its name, or else last.
-fn put_column(
-    name: &str,
-    column: Column,
-    schema: &mut Schema,
-    columns: &mut Vec<Column>,
-) -> Result<(), Memory>
-    requires width { length columns.old.items ≡ length schema.old }
-    requires room { length (put_named schema.old (name.now, column.kind)) ≤ 64 }
-    ensures schema { OnOk result (schema.new ≡ put_named schema.old (name.now, column.kind)) }
-    ensures columns { OnOk result (zip (names_of schema.new) columns.new.items
-        ≡ put_named (zip (names_of schema.old) columns.old.items) (name.now, column)) }
-    ensures width { OnOk result (length columns.new.items ≡ length schema.new) }
-{
-    let kind = column.kind();
-    match schema.position(name) {
-        Some(i) => columns[i] = column,
-        None => columns.push(column)?,
-    }
-    schema.put(name, kind)
 }
 
 // The batch of columns that have the kinds of a schema and one length.
