@@ -8,3 +8,5 @@ pub mod Sources
 pub mod Meaning
 pub mod Run
 pub mod Tail
+pub mod Answer
+pub mod Examples

@@ -4,6 +4,7 @@
 #![tactic(auto)]
 
 mod faults;
+mod laws;
 mod plans;
 mod reading;
 mod rowwise;
@@ -11,5 +12,6 @@ mod rowwise;
 mod tests;
 
 pub use faults::{CheckFault, Fault, Place, PlanFault};
+pub use laws::{meaning_of_items, renamed_steps};
 pub use plans::{Plan, Source, Step, read_plan};
 pub use rowwise::RowPlan;
