@@ -3,6 +3,8 @@
 //! `read_plan` reads a plan from its JSON text; the plan language is written down in `specs/Spelling.antt`.
 #![tactic(auto)]
 
+#[cfg(test)]
+mod examples;
 mod faults;
 mod laws;
 mod plans;
