@@ -3,3 +3,10 @@ pub mod Plan
 pub mod Spelling
 pub mod View
 pub mod RowPlan
+pub mod Judged
+pub mod Sources
+pub mod Meaning
+pub mod Run
+pub mod Tail
+pub mod Answer
+pub mod Examples

@@ -3,7 +3,10 @@
 //! `read_plan` reads a plan from its JSON text; the plan language is written down in `specs/Spelling.antt`.
 #![tactic(auto)]
 
+#[cfg(test)]
+mod examples;
 mod faults;
+mod laws;
 mod plans;
 mod reading;
 mod rowwise;
@@ -11,5 +14,6 @@ mod rowwise;
 mod tests;
 
 pub use faults::{CheckFault, Fault, Place, PlanFault};
+pub use laws::{meaning_of_items, renamed_steps};
 pub use plans::{Plan, Source, Step, read_plan};
 pub use rowwise::RowPlan;

@@ -1,0 +1,64 @@
+-- What a plan means over its files' streams: a frame, or one fault. Steps are numbered from 0, and the outputs of a step from 0.
+use Rattle.std.specs.Prelude.{ℕ, ◌+◌, nat_abs, List, [], ◌∷◌, map, drop, Some, None, Result, Ok, Err}
+use Rattle.std.specs.Result.{result_unwrap_or}
+use Rattle.fq_column.specs.Frame.{Fields, Frame}
+use Rattle.fq_column.specs.Lists.{zip_with}
+use Rattle.fq_column.specs.Stream.{Stream, rename_fault}
+use Rattle.fq_csv.specs.declared.faults.ScanFault.{ScanFault}
+use Rattle.fq_expr.specs.Steps.{apply_step}
+use Rattle.fq_ops.specs.Group.{group_stream}
+use Rattle.fq_ops.specs.Join.{join_stream}
+use Rattle.fq_ops.specs.Roll.{roll_stream}
+use Rattle.fq_plan.specs.Judged.{judged_step}
+use Rattle.fq_plan.specs.Plan.{Source, PlanStep, row_wise, join, group_by, rolling_sum, Query, but_last, item_at, join_files, main_fields}
+use Rattle.fq_plan.specs.Sources.{concat_streams, first_fault, scan_fault, source_streams}
+use Rattle.fq_plan.specs.declared.faults.Fault.{Fault}
+use Rattle.fq_plan.specs.declared.faults.Fault.TheVariants.{Overflow, JoinRows, RollRange, SumRange}
+
+-- the most rows that a join gives
+abbrev pub join_room : ℕ
+join_room = 4294967295
+
+-- below, `joins` are the sources before the last
+module _ (joins : List Frame) where
+  -- step n on a stream of rows with these columns
+  abbrev pub apply_plan_step : ℕ → Fields → PlanStep → Stream Fault → Stream Fault
+  apply_plan_step n fields (row_wise s) u = apply_step Overflow n fields s u
+  apply_plan_step n fields (join source on how) u = elim (item_at joins source) [ None ↦ u | Some right ↦ join_stream how fields right.fields on right.rows join_room (JoinRows n) u ]
+  apply_plan_step n fields (group_by keys aggs) u = group_stream fields keys aggs (SumRange n) u
+  apply_plan_step n fields (rolling_sum column window min_samples name) u = roll_stream fields column (nat_abs window) (nat_abs min_samples) name (RollRange n) u
+
+  -- the columns after a step that is not refused
+  abbrev pub fields_after : Fields → PlanStep → Fields
+  fields_after fields s = result_unwrap_or (judged_step (map (λ f. f.fields) joins) fields s) fields
+
+  -- the columns and the stream after steps, numbered from n, each on the whole stream that the step before gave
+  abbrev pub apply_plan_steps : ℕ → Fields → List PlanStep → Stream Fault → Fields × Stream Fault
+  apply_plan_steps n fields [] u = (fields, u)
+  apply_plan_steps n fields (s ∷ steps) u = apply_plan_steps (n + 1) (fields_after fields s) steps (apply_plan_step n fields s u)
+
+-- a stream as a frame of these columns, or the fault in which it ends
+abbrev pub frame_or_fault : Fields → Stream Fault → Result Frame Fault
+frame_or_fault fields u = elim u.fault [ None ↦ Ok (record { fields = fields; rows = u.rows }) | Some f ↦ Err f ]
+
+-- what steps, numbered from n, make of the main stream
+abbrev pub outcome : List Frame → ℕ → Fields → List PlanStep → Stream Fault → Result Frame Fault
+outcome joins n fields steps u = let after = apply_plan_steps joins n fields steps u in frame_or_fault after.0 after.1
+
+-- the sources' columns with the rows of their streams
+abbrev pub frames_of : List Source → List (Stream Fault) → List Frame
+frames_of sources us = zip_with (λ s u. record { fields = s.fields; rows = u.rows }) sources us
+
+-- the meaning over the streams of the sources before the last, and of the last: the first fault of the former, also where no
+-- step uses that source, or else what the steps make of the latter
+abbrev pub meaning_of_sources : Query → List (Stream Fault) → Stream Fault → Result Frame Fault
+meaning_of_sources p joins main = elim (first_fault joins)
+    [ Some f ↦ Err f | None ↦ outcome (frames_of (but_last p.sources) joins) 0 (main_fields p) p.steps main ]
+
+-- the meaning over the files' streams, in argument order
+abbrev pub meaning_of_files : Query → List (Stream Fault) → Result Frame Fault
+meaning_of_files p us = meaning_of_sources p (source_streams (but_last p.sources) us) (concat_streams (drop (join_files p) us))
+
+-- the same, where the streams end in faults of the files
+abbrev pub meaning : Query → List (Stream ScanFault) → Result Frame Fault
+meaning p us = meaning_of_files p (map (rename_fault scan_fault) us)

@@ -1,0 +1,37 @@
+// Worked examples of the definitions, each proved by computing both sides.
+ghost use Rattle.fq_plan.specs.Examples.{FilteredRows, EmptyFiles, FilesInOrder, LogicWithNulls, EarliestRow, GroupSums, GroupOrder, AggregatesOfNulls, JoinedRows, SuffixedNames, RollingSums, WholeNumbers, BadRows, Texts, TruthValues, Division, FileOrStep, UnusedSource, NoPlans, DoubleMembers, RefusedPlans};
+
+// Plans over files.
+fn worked_plans()
+    ensures filtered { FilteredRows }
+    ensures empty { EmptyFiles }
+    ensures files { FilesInOrder }
+    ensures logic { LogicWithNulls }
+    ensures earliest { EarliestRow }
+    ensures sums { GroupSums }
+    ensures groups { GroupOrder }
+    ensures aggregates { AggregatesOfNulls }
+    ensures joins { JoinedRows }
+    ensures suffix { SuffixedNames }
+    ensures rolling { RollingSums }
+    ensures numbers { WholeNumbers }
+    ensures bad_rows { BadRows }
+    ensures texts { Texts }
+    ensures truth { TruthValues }
+    ensures division { Division }
+    ensures order { FileOrStep }
+    ensures unused { UnusedSource }
+{}
+
+// Texts that spell no plan, and plans that the check refuses.
+fn worked_refusals()
+    ensures no_plan { NoPlans }
+    ensures double { DoubleMembers }
+    ensures refused { RefusedPlans }
+{}
+
+#[test]
+fn definitions_compute() {
+    worked_plans();
+    worked_refusals();
+}

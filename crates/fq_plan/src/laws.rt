@@ -1,0 +1,27 @@
+// Laws of the definitions, proved for all values.
+ghost use Rattle.std.specs.Prelude.{◌≡◌, ◌<◌, ◌≤◌, ℕ, List, length};
+ghost use Rattle.fq_column.specs.Frame.{Fields};
+ghost use Rattle.fq_column.specs.Stream.{Stream, rename_fault};
+ghost use Rattle.fq_expr.specs.Expression.{Step as RowWise};
+ghost use Rattle.fq_expr.specs.Front.{fault_at};
+ghost use Rattle.fq_expr.specs.Steps.{apply_steps};
+ghost use Rattle.fq_expr.specs.declared.fronts.RowFault.{RowFault};
+ghost use Rattle.fq_plan.specs.Meaning.{meaning_of_files};
+ghost use Rattle.fq_plan.specs.Plan.{Query, files_wanted};
+ghost use Rattle.fq_plan.specs.Sources.{row_fault};
+ghost use Rattle.fq_plan.specs.Tail.{all_items, outcome_of_taken};
+ghost use Rattle.fq_plan.specs.declared.faults.Fault.{Fault as AnyFault};
+ghost use Rattle.fq_plan.specs.declared.faults.Fault.TheVariants.{Overflow as overflow};
+
+/// What a run's last stage makes of the items of all files, each worked by itself, is what the plan means over the files'
+/// streams, whatever the size of a batch.
+pub fn meaning_of_items()
+    ensures { (p : Query) (batch_size : ℕ) (us : List (Stream AnyFault)) → 0 < batch_size → length us ≤ files_wanted p →
+        outcome_of_taken p (all_items p batch_size us) ≡ meaning_of_files p us }
+{}
+
+/// The faults that a worker's row-wise steps name are those of the run under another name.
+pub fn renamed_steps()
+    ensures { (n : ℕ) (fields : Fields) (steps : List RowWise) (u : Stream RowFault) →
+        rename_fault row_fault (apply_steps fault_at n fields steps u) ≡ apply_steps overflow n fields steps (rename_fault row_fault u) }
+{}
