@@ -32,7 +32,7 @@ pub struct Stepped {
 
 impl RowStep {
     /// The step on the rows of a batch.
-    pub(crate) fn apply(&self, alloc: Global, batch: Batch) -> Result<Stepped, Memory>
+    pub fn apply(&self, alloc: Global, batch: Batch) -> Result<Stepped, Memory>
         requires { IsOk (step_schema batch.fields (step_of self.now)) }
         ensures fields { IfOk result (λ s. s.batch.fields ≡ fields_after batch.fields (step_of self.now)) }
         ensures rows { let u = one_by_one (rows_after batch.fields (step_of self.now)) batch.rows in
@@ -213,7 +213,7 @@ fn put_columns(
     let (Some((item, rest)), Some(column)) = (items.split_first(), made.next()) else {
         return Ok(());
     };
-    put_column(item.0.as_str(), column, schema, columns)?;
+    put_column(schema, columns, item.0.as_str(), column)?;
     put_columns(rest, made, schema, columns)
 }
 

@@ -9,4 +9,4 @@ put-requires-clause-room g c =
 
 pub put-requires-2-clause-room : goal.put-requires-2-clause-room
 put-requires-2-clause-room g c =
-    omega (arith, length-put_named-most c.put.new.self.fields (99 ∷ [], c.in_ok-texts.texts.kind), c.if-assert-4.false, c.len-3.ensures.len, ap (λ (f : Fields). length f) c.schema-2.ensures)
+    omega (arith, length-put_named-most c.put.new.self.fields (99 ∷ [], c.in_ok-texts.texts.kind), c.if-assert-3.false, c.len-3.ensures.len, ap (λ (f : Fields). length f) c.schema-2.ensures)
