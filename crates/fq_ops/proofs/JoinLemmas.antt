@@ -1,12 +1,12 @@
 -- A join by places is the join.
-use Rattle.std.proofs.Common.{◌≡◌, ℕ, suc, ◌+◌, ◌-◌, ◌<◌, Bool, true, false, List, [], ◌∷◌, ◌++◌, map, filter, length, get_or, nat_le, Option, Some, None, refl, sym, ap, ◌∙◌, cond, if◌then◌else◌, arith}
+use Rattle.std.proofs.Common.{◌≡◌, ℕ, suc, ◌+◌, ◌-◌, ◌<◌, Bool, true, false, List, [], ◌∷◌, ◌++◌, map, filter, length, get_or, nat_le, Option, Some, None, is_some, refl, sym, ap, ◌∙◌, cond, if◌then◌else◌, arith, length-append, append_assoc}
 use Rattle.std.specs.Option.{option_map}
 use Rattle.std.specs.List.{range_with_len}
 use Rattle.std.proofs.lemmas.List.{map-append, length-map}
 use Rattle.std.proofs.lemmas.List.FromFn.{fill_by_all}
 use Rattle.fq_column.specs.Frame.{Fields, Name, Row}
 use Rattle.fq_column.specs.Lists.{numbers}
-use Rattle.fq_column.specs.Stream.{Stream}
+use Rattle.fq_column.specs.Stream.{Stream, done, faulted, then_stream, rename_fault}
 use Rattle.fq_ops.specs.Join.{within_room, join_rows, joined, pairs, rows_match, right_values}
 use Rattle.fq_ops.specs.declared.joins.How.{How}
 use Rattle.fq_ops.specs.declared.joins.How.TheVariants.{Inner, Left}
@@ -102,3 +102,68 @@ join-by_place how left right on rows room ls =
     same : (o : Option ℕ) → o ≡ option_map (λ x. 0 + x) o
     same None = refl
     same (Some x) = ap Some (let e : x ≡ 0 + x = omega arith in e)
+
+-- ---- a join of left rows in two parts
+
+module _ (out : Row → List Row) where
+  -- the output of rows, then of those after them, in what room the first leave
+  abbrev pub part-by_part : ℕ → List Row → List Row → Stream ℕ
+  part-by_part room ls more =
+      let u = within_room out room ls in
+      then_stream u (rename_fault (λ p. length ls + p) (within_room out (room - length u.rows) more))
+
+  abbrev after_row : Row → Stream ℕ → Stream ℕ
+  after_row l w = then_stream (done (out l)) (rename_fault suc w)
+
+  abbrev begun : ℕ → Row → List Row → Bool → Stream ℕ
+  begun room l ls b = if b then after_row l (within_room out (room - length (out l)) ls) else faulted 0
+
+  no-more : (o : Option ℕ) → o ≡ option_map (λ p. 0 + p) o
+  no-more None = refl
+  no-more (Some p) = ap Some (let e : p ≡ 0 + p = omega arith in e)
+
+  next-fault : (n : ℕ) (o : Option ℕ) → option_map suc (option_map (λ p. n + p) o) ≡ option_map (λ p. suc n + p) o
+  next-fault n None = refl
+  next-fault n (Some p) = ap Some (let e : suc (n + p) ≡ suc n + p = omega arith in e)
+
+  past-row : (l : Row) (ls more : List Row) (room : ℕ) (o : Option ℕ) →
+      let u = within_room out (room - length (out l)) ls in
+      u.fault ≡ o →
+      after_row l (then_stream u (rename_fault (λ p. length ls + p) (within_room out (room - length (out l) - length u.rows) more)))
+      ≡ then_stream (after_row l u) (rename_fault (λ p. suc (length ls) + p) (within_room out (room - length (out l ++ u.rows)) more))
+  past-row l ls more room None e =
+      let u = within_room out (room - length (out l)) ls in
+      let v : ℕ → Stream ℕ = λ n. within_room out n more in
+      let n = room - length (out l) - length u.rows in
+      let size : room - length (out l ++ u.rows) ≡ n = omega (arith, length-append (out l) u.rows) in
+      ap (λ (b : Bool). after_row l (if b then u else record { rows = u.rows ++ (v n).rows; fault = option_map (λ p. length ls + p) (v n).fault })) (ap is_some e)
+      ∙ (λ i. record { rows = sym (append_assoc (out l) u.rows (v n).rows) i; fault = next-fault (length ls) (v n).fault i })
+      ∙ sym (ap (λ (b : Bool). if b then after_row l u else record { rows = (out l ++ u.rows) ++ (v n).rows; fault = option_map (λ p. suc (length ls) + p) (v n).fault }) (ap (λ o. is_some (option_map suc o)) e)
+      ) ∙ sym (ap (λ m. then_stream (after_row l u) (rename_fault (λ p. suc (length ls) + p) (v m))) size)
+  past-row l ls more room (Some f) e =
+      let u = within_room out (room - length (out l)) ls in
+      let v : ℕ → Stream ℕ = λ n. within_room out n more in
+      let n = room - length (out l) - length u.rows in
+      let m = room - length (out l ++ u.rows) in
+      ap (λ (b : Bool). after_row l (if b then u else record { rows = u.rows ++ (v n).rows; fault = option_map (λ p. length ls + p) (v n).fault })) (ap is_some e)
+      ∙ sym (ap (λ (b : Bool). if b then after_row l u else record { rows = (out l ++ u.rows) ++ (v m).rows; fault = option_map (λ p. suc (length ls) + p) (v m).fault }) (ap (λ o. is_some (option_map suc o)) e))
+
+  pub within-parts : (room : ℕ) (ls more : List Row) → within_room out room (ls ++ more) ≡ part-by_part room ls more
+  within-parts room [] more =
+      let all : room ≡ room - 0 = omega arith in
+      (λ i. record { rows = (within_room out room more).rows; fault = no-more (within_room out room more).fault i })
+      ∙ ap (λ n. rename_fault (λ p. 0 + p) (within_room out n more)) all
+  within-parts room (l ∷ ls) more = by (nat_le (length (out l)) room) refl (within-parts (room - length (out l)) ls more)
+    where
+      by : (b : Bool) → nat_le (length (out l)) room ≡ b → within_room out (room - length (out l)) (ls ++ more) ≡ part-by_part (room - length (out l)) ls more →
+          within_room out room (l ∷ ls ++ more) ≡ part-by_part room (l ∷ ls) more
+      by true e rest =
+          let first : Bool → Stream ℕ = λ b. begun room l ls b in
+          ap (λ b. if b then after_row l (within_room out (room - length (out l)) (ls ++ more)) else faulted 0) e
+          ∙ ap (after_row l) rest
+          ∙ past-row l ls more room (within_room out (room - length (out l)) ls).fault refl
+          ∙ sym (ap (λ b. then_stream (first b) (rename_fault (λ p. suc (length ls) + p) (within_room out (room - length (first b).rows) more))) e)
+      by false e rest =
+          let first : Bool → Stream ℕ = λ b. begun room l ls b in
+          ap (λ b. if b then after_row l (within_room out (room - length (out l)) (ls ++ more)) else faulted 0) e
+          ∙ sym (ap (λ b. then_stream (first b) (rename_fault (λ p. suc (length ls) + p) (within_room out (room - length (first b).rows) more))) e)

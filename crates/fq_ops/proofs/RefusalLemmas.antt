@@ -1,6 +1,6 @@
 -- Refusals of checks, one after another.
-use Rattle.std.proofs.Common.{◌≡◌, ℕ, zero, suc, ◌+◌, ◌<◌, get_or, nat_lt, Bool, true, false, not, ◌&&◌, List, [], ◌∷◌, ◌++◌, map, filter, cond, length, take, Option, Some, None, Result, Ok, Err, refl, sym, ap, subst, ◌∙◌, arith, if◌then◌else◌, inl, inr, ◌⊎◌, ◌||◌, ℤ, pos}
-use Rattle.std.specs.Prelude.{slice_get, IsOk}
+use Rattle.std.proofs.Common.{◌≡◌, ℕ, zero, suc, ◌+◌, ◌<◌, ◌≤◌, get_or, nat_lt, Bool, true, false, not, ◌&&◌, List, [], ◌∷◌, ◌++◌, map, filter, cond, length, take, Option, Some, None, Result, Ok, Err, refl, sym, ap, subst, ◌∙◌, arith, if◌then◌else◌, inl, inr, ◌⊎◌, ◌||◌, ℤ, pos}
+use Rattle.std.specs.Prelude.{slice_get, IsOk, IsTrue, is_ok}
 use Rattle.std.specs.Bool.{◌==◌}
 use Rattle.std.specs.List.{flat_map, AllPass}
 use Rattle.std.proofs.lemmas.Bool.Decides.{nat_tests}
@@ -334,15 +334,46 @@ kept-true : (b : Bool) → not b ≡ false → b ≡ true
 kept-true true e = refl
 kept-true false e = absurd (cc)
 
+-- what is judged is not refused where the answer is a value
+pub judged-ok : {X : Type 0} (expected : Result X StepFault) (x : X) → IsJudgement expected (Ok x) → IsOk expected
+judged-ok expected x (inl h) = sym (ap is_ok h)
+judged-ok expected x (inr h) = absurd (cc)
+
+some-of : {X : Type 0} (xs : List X) → (length xs == 0) ≡ false → 1 ≤ length xs
+some-of [] e = absurd (cc)
+some-of (x ∷ xs) e = omega arith
+
 module _ (left right : Fields) (on : List Name) (ok : IsOk (join_schema left right on)) where
   abbrev join_checks : List (Option StepFault)
   join_checks = refuse_if (length on == 0) NoColumn ∷ (flat_map (key_checks left right) on ++ join_ending left right on)
 
-  join-none : first_refusal (flat_map (key_checks left right) on) ≡ None
-  join-none = (none-both (flat_map (key_checks left right) on) (join_ending left right on) (none-first (length on == 0) NoColumn (flat_map (key_checks left right) on ++ join_ending left right on) (accepted join_checks (joined_fields left right on) ok)).1).0
+  join-begins : ((length on == 0) ≡ false) × (first_refusal (flat_map (key_checks left right) on ++ join_ending left right on) ≡ None)
+  join-begins = none-first (length on == 0) NoColumn (flat_map (key_checks left right) on ++ join_ending left right on) (accepted join_checks (joined_fields left right on) ok)
+
+  join-parts : (first_refusal (flat_map (key_checks left right) on) ≡ None) × (first_refusal (join_ending left right on) ≡ None)
+  join-parts = none-both (flat_map (key_checks left right) on) (join_ending left right on) join-begins.1
+
+  key-parts : (k : ℕ) (d : Name) → k < length on → ((not (has_name (names_of left) (get_or on k d)) ≡ false) × (not (has_name (names_of right) (get_or on k d)) ≡ false))
+  key-parts k d low =
+      let at_left = none-first (not (has_name (names_of left) (get_or on k d))) NoSuchColumn _ (none-each (key_checks left right) on join-parts.0 k d low) in
+      (at_left.0, (none-first (not (has_name (names_of right) (get_or on k d))) NoSuchColumn _ at_left.1).0)
+
+  pub join-some : 1 ≤ length on
+  join-some = some-of on join-begins.0
 
   pub join-known : AllPass (has_name (names_of left)) on
-  join-known k d low = kept-true (has_name (names_of left) (get_or on k d)) (none-first (not (has_name (names_of left) (get_or on k d))) NoSuchColumn _ (none-each (key_checks left right) on join-none k d low)).0
+  join-known k d low = kept-true (has_name (names_of left) (get_or on k d)) (key-parts k d low).0
+
+  pub join-known_right : AllPass (has_name (names_of right)) on
+  join-known_right k d low = kept-true (has_name (names_of right) (get_or on k d)) (key-parts k d low).1
+
+  pub join-distinct : IsTrue (is_distinct same_name on)
+  join-distinct =
+      let once = is_distinct same_name on in
+      let distinct = is_distinct same_name (names_of (joined_fields left right on)) in
+      let many = nat_lt 64 (length (joined_fields left right on)) in
+      let both = none-first (not (once && distinct)) DoubleName [] (none-first many TooMany (refuse_if (not (once && distinct)) DoubleName ∷ []) join-parts.1).1 in
+      (and_parts once distinct (kept-true (once && distinct) both.0)).0
 
   pub join-output : join_schema left right on ≡ Ok (joined_fields left right on)
   join-output = ap (chosen (joined_fields left right on)) (accepted join_checks (joined_fields left right on) ok)

@@ -1,5 +1,6 @@
 -- Joins on named columns (Polars, `LazyFrame.join` with `maintain_order="left_right"`).
-use Rattle.std.specs.Prelude.{ℕ, ◌-◌, Bool, false, not, ◌&&◌, List, [], ◌∷◌, ◌++◌, map, filter, flat_map, length, zip, replicate, nat_le, nat_lt, ◌==◌, suc, Option, Result, Ok, Err, codes, if◌then◌else◌}
+use Rattle.std.specs.Prelude.{ℕ, ◌-◌, ◌≤◌, IsTrue, Bool, false, not, ◌&&◌, List, [], ◌∷◌, ◌++◌, map, filter, flat_map, length, zip, replicate, nat_le, nat_lt, ◌==◌, suc, Option, Result, Ok, Err, codes, if◌then◌else◌}
+use Rattle.std.specs.List.{AllPass}
 use lib.Pointwise.{pointwise}
 use Rattle.fq_column.specs.declared.cells.Kind.{Kind}
 use Rattle.fq_column.specs.declared.cells.Cell.{Cell}
@@ -51,6 +52,12 @@ join_schema left right on = unless_refused
     ++ (refuse_if (nat_lt 64 (length (joined_fields left right on))) TooMany
     ∷ refuse_if (not (is_distinct same_name on && is_distinct same_name (names_of (joined_fields left right on)))) DoubleName ∷ [])))
     (joined_fields left right on)
+
+-- names that can be keys: at least one, each a column of the fields, none twice
+pub record AreKeys (fields : Fields) (on : List Name) : Type 0 where
+  pub some : 1 ≤ length on
+  pub columns : AllPass (has_name (names_of fields)) on
+  pub distinct : IsTrue (is_distinct same_name on)
 
 -- whether two lists of key values match: all are equal, and none is null
 abbrev pub keys_match : List Cell → List Cell → Bool

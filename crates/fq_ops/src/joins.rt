@@ -1,13 +1,14 @@
 // Joins of left batches with one right batch.
-ghost use Rattle.std.specs.Prelude.{◌≡◌, ◌≤◌, ◌<◌, ◌++◌, ℕ, List, [], ◌∷◌, All, map, length, get_or, string_bytes, slice_index_or, Some, None, IfOk, IsOk, IsTrue, OnOk};
+ghost use Rattle.std.specs.Prelude.{◌≡◌, ◌≤◌, ◌<◌, ◌+◌, ◌-◌, ◌++◌, ℕ, List, [], ◌∷◌, All, map, length, get_or, string_bytes, slice_index_or, Some, None, IfOk, IsOk, IsTrue, OnOk};
 ghost use Rattle.std.specs.List.{AllPass, position_or_len};
 ghost use Rattle.indexmap.specs.IndexSet.{insert_key};
-ghost use Rattle.fq_column.specs.Frame.{IsFrame, names_of, same_name, has_name};
+ghost use Rattle.fq_column.specs.Frame.{Fields, IsFrame, Name, Row, names_of, same_name, has_name};
 ghost use Rattle.fq_column.specs.Lists.{is_distinct, numbers};
 ghost use Rattle.fq_column.specs.declared.cells.Cell.{Cell as Value};
+ghost use Rattle.fq_column.specs.Stream.{then_stream, rename_fault};
 ghost use Rattle.fq_ops.specs.Group.{same_key};
 ghost use Rattle.fq_ops.specs.Grouping.{replaced, key_at};
-ghost use Rattle.fq_ops.specs.Join.{join_schema as judged_join, joined_fields, join_rows};
+ghost use Rattle.fq_ops.specs.Join.{AreKeys, join_schema as judged_join, joined_fields, join_rows};
 ghost use Rattle.fq_ops.specs.Picks.{columns_of};
 ghost use Rattle.fq_ops.specs.Pairs.{IsIndex, join_picks, matches_of, pairs_of, pairs_within};
 
@@ -18,8 +19,22 @@ use crate::pairs::Pairs;
 use crate::schemas::{contains, join_schema};
 use fq_column::{Batch, Column, Memory};
 use indexmap::IndexSet;
+use smallvec::SmallVec;
 use std::alloc::Global;
 use std::marker::Model;
+
+/// Laws of joins, for all schemas, names and rows.
+///
+/// Where a join is not refused, its keys are what [`JoinTable::build`] asks, and its columns those of the definition.
+/// A join of left rows that come in two parts is the join of the first part and then, if no fault ends it, that of the
+/// second with the room that is left.
+pub fn join_laws()
+    ensures keys { (left right : Fields) (on : List Name) → IsOk (judged_join left right on) → AreKeys right on }
+    ensures fields { (left right : Fields) (on : List Name) → IsOk (judged_join left right on) → judged_join left right on ≡ Ok (joined_fields left right on) }
+    ensures parts { (how : How) (left right : Fields) (on : List Name) (rows : List Row) (room : ℕ) (ls more : List Row) →
+        let u = join_rows how left right on rows room ls in
+        join_rows how left right on rows room (ls ++ more) ≡ then_stream u (rename_fault (λ p. length ls + p) (join_rows how left right on rows (room - length u.rows) more)) }
+{}
 
 /// What becomes of a left row without a match.
 #[derive(Clone, Copy, Debug, PartialEq, Eq)]
@@ -39,10 +54,10 @@ pub struct Probed {
     pub fault: Option<usize>,
 }
 
-// The places of the rows of a key.
+// The places of the rows of a key; up to two take no memory.
 #[derive(Drop)]
 struct Places {
-    places: Vec<usize>,
+    places: SmallVec<usize, 2>,
 }
 
 impl Model for Places {
@@ -58,7 +73,7 @@ impl Places {
         ensures { result ≡ [] }
     {
         Places {
-            places: Vec::new(alloc),
+            places: SmallVec::new(alloc),
         }
     }
 
@@ -100,15 +115,22 @@ impl Model for JoinTable {
 
 impl JoinTable {
     /// The table of a right batch, whose rows are found by their values in the columns of these names, which are distinct
-    /// columns of the batch, at least one. Copies the batch; one lookup for each row.
+    /// columns of the batch, at least one. Copies the batch and the names; see [`JoinTable::build_from`].
     pub fn build(alloc: Global, right: &Batch, on: &[String]) -> Result<JoinTable, Memory>
-        requires some { 1 ≤ length on.now }
-        requires columns { AllPass (has_name (names_of right.now.fields)) (map string_bytes on.now) }
-        requires distinct { IsTrue (is_distinct same_name (map string_bytes on.now)) }
+        requires { AreKeys right.now.fields (map string_bytes on.now) }
         ensures { IfOk result (λ t. t ≡ record { fields = right.now.fields; rows = right.now.rows; on = map string_bytes on.now }) }
     {
         let right = right.copy(alloc)?;
         let on = copy_names(alloc, on)?;
+        JoinTable::build_from(alloc, right, on)
+    }
+
+    /// The table of a right batch, which it keeps with no copy: one lookup for each row, and a copy of each key where it
+    /// is new. A refusal hands nothing back.
+    pub fn build_from(alloc: Global, right: Batch, on: Vec<String>) -> Result<JoinTable, Memory>
+        requires { AreKeys right.fields (map string_bytes on.items) }
+        ensures { IfOk result (λ t. t ≡ record { fields = right.fields; rows = right.rows; on = map string_bytes on.items }) }
+    {
         let places = positions(alloc, right.schema(), on.as_slice())?;
         let mut seen = IndexSet::new(alloc);
         let mut groups = Vec::new(alloc);
@@ -278,7 +300,7 @@ fn pair_rows(
         (r.0, r.1) ≡ pairs_within (λ l. pairs_of how l (matches_of key_at_place right_count (key_at on.now (slice_index_or left.now.rows l [])))) room (numbers (length left.now.rows))) }
 {
     let mut key = Key::nulls(alloc, on.len())?;
-    let mut pairs = Pairs::new(alloc);
+    let mut pairs = Pairs::with_capacity(alloc, left.rows())?;
     let mut room_left = room;
     for row in 0..left.rows() {
         key.read(alloc, left, on, row)?;

@@ -17,7 +17,7 @@ mod schemas;
 mod sums;
 
 pub use aggregates::{Agg, What};
-pub use joins::{How, JoinTable, Probed};
+pub use joins::{How, JoinTable, Probed, join_laws};
 pub use rolls::Rolling;
 pub use schemas::{group_schema, join_schema, roll_schema};
 

@@ -1,5 +1,5 @@
 // Pairs of places that a join puts together.
-ghost use Rattle.std.specs.Prelude.{◌≡◌, ◌++◌, [], ◌∷◌, map, length, OnOk};
+ghost use Rattle.std.specs.Prelude.{◌≡◌, ◌++◌, [], ◌∷◌, map, length, IfOk, OnOk};
 
 use fq_column::Memory;
 use std::alloc::Global;
@@ -24,14 +24,13 @@ impl Model for Pairs {
 }
 
 impl Pairs {
-    /// No pair; takes no memory.
-    pub fn new(alloc: Global) -> Pairs
-        ensures { result ≡ [] }
+    /// No pair, with room for this many.
+    pub fn with_capacity(alloc: Global, capacity: usize) -> Result<Pairs, Memory>
+        ensures { IfOk result (λ pairs. pairs ≡ []) }
     {
-        Pairs {
-            left: Vec::new(alloc),
-            right: Vec::new(alloc),
-        }
+        let left = Vec::with_capacity(alloc, capacity)?;
+        let right = Vec::with_capacity(alloc, capacity)?;
+        Ok(Pairs { left, right })
     }
 
     /// One more pair.

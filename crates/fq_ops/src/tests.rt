@@ -1,3 +1,5 @@
+mod joins;
+
 use crate::{Agg, Rolling, What, group_schema, join_schema, roll_schema};
 use fq_column::{Array, Cell, Column, Kind, Schema, StepFault, Values};
 use std::alloc::Global;
