@@ -6,3 +6,6 @@ pub mod RowPlanLemmas
 pub mod BatchLemmas
 pub mod TailLemmas
 pub mod OnLiterals
+pub mod CheckLemmas
+pub mod SplitLemmas
+pub mod PreparedLemmas

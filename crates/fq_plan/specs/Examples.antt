@@ -1,7 +1,7 @@
 -- Worked examples: what plans over files come to, from the plan's text and the files' bytes to the output's bytes.
 use Rattle.std.specs.Prelude.{◌≡◌, ℕ, ◌==◌, List, [], ◌∷◌, ◌++◌, map, replicate, codes, if◌then◌else◌}
 use Rattle.fq_column.specs.declared.faults.StepFault.TheVariants.{NoSuchColumn, DoubleName, NotBool, NoColumn, NoSuchSource}
-use Rattle.fq_plan.specs.Answer.{Answer, answer, prints, faults, refused, no_plan}
+use Rattle.fq_plan.specs.Answer.{answer, prints, faults, refused, no_plan}
 use Rattle.fq_plan.specs.Judged.{refused_at}
 use Rattle.fq_plan.specs.declared.faults.PlanFault.TheVariants.{Json, Shape}
 use Rattle.fq_plan.specs.declared.faults.Place.TheVariants.{Source, Step}

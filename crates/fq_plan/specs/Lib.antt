@@ -10,3 +10,4 @@ pub mod Run
 pub mod Tail
 pub mod Answer
 pub mod Examples
+pub mod Stages

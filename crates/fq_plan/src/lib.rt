@@ -3,6 +3,7 @@
 //! `read_plan` reads a plan from its JSON text; the plan language is written down in `specs/Spelling.antt`.
 #![tactic(auto)]
 
+mod checks;
 #[cfg(test)]
 mod examples;
 mod faults;
@@ -10,9 +11,11 @@ mod laws;
 mod plans;
 mod reading;
 mod rowwise;
+mod stages;
 #[cfg(test)]
 mod tests;
 
+pub use checks::Checked;
 pub use faults::{CheckFault, Fault, Place, PlanFault};
 pub use laws::{meaning_of_items, renamed_steps};
 pub use plans::{Plan, Source, Step, read_plan};

@@ -1,0 +1,200 @@
+-- What the check has judged so far, and what is left to judge.
+use Rattle.std.proofs.Common.{◌≡◌, ℕ, suc, ◌+◌, List, [], ◌∷◌, ◌++◌, map, length, pos, String, Global, string_bytes, Option, Some, None, Result, Ok, Err, refl, ap, sym, ◌∙◌, subst, inl, inr, arith, append_assoc, append-nil, length-append}
+use Rattle.std.specs.Prelude.{IsOk, ◌⊎◌}
+use Rattle.std.specs.Result.{result_map_both}
+use Rattle.std.proofs.lemmas.List.{length-map}
+use Rattle.fq_column.specs.declared.cells.Kind.{Kind}
+use Rattle.fq_column.specs.declared.faults.StepFault.{StepFault}
+use Rattle.fq_column.specs.declared.faults.StepFault.TheVariants.{Memory}
+use Rattle.fq_column.specs.Frame.{Fields, Name, names_of}
+use Rattle.fq_column.specs.Refusal.{first_refusal, and_then, IsJudgement}
+use Rattle.fq_column.specs.Schema.{fields_of, schema_checks}
+use Rattle.fq_expr.specs.Expression.{Step}
+use Rattle.fq_expr.specs.Kinds.{step_schema, steps_schema}
+use Rattle.fq_ops.specs.Meaning.{outputs_of}
+use Rattle.fq_plan.specs.Judged.{judged_step, judged_steps, refused_at, source_refusal}
+use Rattle.fq_plan.specs.Plan.{Source, PlanStep, row_wise, join, group_by, rolling_sum}
+use Rattle.fq_plan.specs.Stages.{operator_steps, stage_steps, Leads, Turns}
+use Rattle.fq_plan.specs.View.{field_of}
+use Rattle.fq_plan.specs.declared.faults.CheckFault.{CheckFault}
+use Rattle.fq_plan.specs.declared.faults.Place.TheVariants as place
+use Rattle.fq_plan.specs.declared.stages.Operator.{Operator}
+use Rattle.fq_plan.specs.declared.stages.Operator.TheVariants.{Rows, Join, GroupBy, RollingSum}
+use Rattle.fq_plan.specs.declared.stages.Stage.{Stage}
+
+-- ---- judgements
+
+module _ {X : Type 0} where
+  pub judged-ok : (r : Result X StepFault) (x : X) → IsJudgement r (Ok x) → r ≡ Ok x
+  judged-ok r x (inl e) = sym e
+  judged-ok r x (inr e) = absurd (cc)
+
+  pub judged-err : (r : Result X StepFault) (code : StepFault) → IsJudgement r (Err code) → (r ≡ Err code) ⊎ (code ≡ Memory)
+  judged-err r code (inl e) = inl (sym e)
+  judged-err r code (inr e) = inr (cc)
+
+-- ---- sources
+
+abbrev pub Columns : Type 0
+Columns = List (String Global × Kind)
+
+fields : (cs : Columns) → fields_of (map (λ c. string_bytes c.0) cs) (map (λ c. c.1) cs) ≡ map field_of cs
+fields [] = refl
+fields (c ∷ cs) = ap (λ fs. field_of c ∷ fs) (fields cs)
+
+names : (cs : Columns) → names_of (map field_of cs) ≡ map (λ c. string_bytes c.0) cs
+names [] = refl
+names (c ∷ cs) = ap (λ ns. string_bytes c.0 ∷ ns) (names cs)
+
+pub fields_of-columns : (cs : Columns) (ns : List Name) (ks : List Kind) → ns ≡ map (λ c. string_bytes c.0) cs → ks ≡ map (λ c. c.1) cs → fields_of ns ks ≡ map field_of cs
+fields_of-columns cs ns ks e f = (λ i. fields_of (e i) (f i)) ∙ fields cs
+
+pub names_of-columns : (cs : Columns) (ns : List Name) → ns ≡ map (λ c. string_bytes c.0) cs → names_of (map field_of cs) ≡ ns
+names_of-columns cs ns e = names cs ∙ sym e
+
+abbrev pub source_checks : Source → Option StepFault
+source_checks s = first_refusal (schema_checks (names_of s.fields))
+
+abbrev pub or_later : ℕ → Option StepFault → Option CheckFault → Option CheckFault
+or_later n o later = elim o [ Some code ↦ Some (refused_at (place.Source n) code) | None ↦ later ]
+
+-- where no source of the first ones is refused, the next ones are judged
+pub source_refusal-append : (n : ℕ) (xs ys : List Source) → source_refusal n xs ≡ None → source_refusal n (xs ++ ys) ≡ source_refusal (n + length xs) ys
+source_refusal-append n [] ys e = ap (λ m. source_refusal m ys) (let q : n ≡ n + 0 = omega arith in q)
+source_refusal-append n (x ∷ xs) ys e = go (source_checks x) (source_refusal-append (n + 1) xs ys) e
+  where
+    go : (o : Option StepFault) → (source_refusal (n + 1) xs ≡ None → source_refusal (n + 1) (xs ++ ys) ≡ source_refusal (n + 1 + length xs) ys) →
+        or_later n o (source_refusal (n + 1) xs) ≡ None → or_later n o (source_refusal (n + 1) (xs ++ ys)) ≡ source_refusal (n + suc (length xs)) ys
+    go (Some code) ih h = absurd (cc)
+    go None ih h = ih h ∙ ap (λ m. source_refusal m ys) (let q : n + 1 + length xs ≡ n + suc (length xs) = omega arith in q)
+
+pub sources-passed : (xs : List Source) (x : Source) → source_refusal 0 xs ≡ None → source_checks x ≡ None → source_refusal 0 (xs ++ x ∷ []) ≡ None
+sources-passed xs x e h = source_refusal-append 0 xs (x ∷ []) e ∙ ap (λ o. or_later (0 + length xs) o None) h
+
+pub source-refused : (xs : List Source) (x : Source) (rest : List Source) (code : StepFault) → source_refusal 0 xs ≡ None → source_checks x ≡ Some code →
+    source_refusal 0 (xs ++ x ∷ rest) ≡ Some (refused_at (place.Source (length xs)) code)
+source-refused xs x rest code e h =
+    source_refusal-append 0 xs (x ∷ rest) e
+    ∙ ap (λ o. or_later (0 + length xs) o (source_refusal (0 + length xs + 1) rest)) h
+    ∙ ap (λ n. Some (refused_at (place.Source n) code)) (let q : 0 + length xs ≡ length xs = omega arith in q)
+
+-- ---- steps
+
+pub schema-further : (fields : Fields) (xs : List Step) (x : Step) (mid after : Fields) → steps_schema fields xs ≡ Ok mid → step_schema mid x ≡ Ok after → steps_schema fields (xs ++ x ∷ []) ≡ Ok after
+schema-further fields [] x mid after e h = ap (λ f. steps_schema f (x ∷ [])) (let q : fields ≡ mid = cc in q) ∙ ap (λ r. and_then r (λ f. Ok f)) h
+schema-further fields (y ∷ xs) x mid after e h = go (step_schema fields y) (λ f. schema-further f xs x mid after) e
+  where
+    go : (r : Result Fields StepFault) → ((f : Fields) → steps_schema f xs ≡ Ok mid → step_schema mid x ≡ Ok after → steps_schema f (xs ++ x ∷ []) ≡ Ok after) →
+        and_then r (λ f. steps_schema f xs) ≡ Ok mid → and_then r (λ f. steps_schema f (xs ++ x ∷ [])) ≡ Ok after
+    go (Err code) ih g = absurd (cc)
+    go (Ok f) ih g = ih f g h
+
+pub stage_steps-snoc : (stages : List Stage) (s : Stage) → stage_steps (stages ++ s ∷ []) ≡ stage_steps stages ++ operator_steps s.operator
+stage_steps-snoc [] s = append-nil (operator_steps s.operator)
+stage_steps-snoc (x ∷ stages) s =
+    ap (λ ss. operator_steps x.operator ++ ss) (stage_steps-snoc stages s) ∙ sym (append_assoc (operator_steps x.operator) (stage_steps stages) (operator_steps s.operator))
+
+-- the refusal, where there is one
+abbrev pub refusal_in : {X E : Type 0} → Result X E → Option E
+refusal_in (Ok x) = None
+refusal_in (Err e) = Some e
+
+module _ {X E : Type 0} where
+  pub refusal-is : (r : Result X E) (e : E) → refusal_in r ≡ Some e → r ≡ Err e
+  refusal-is (Ok x) e h = absurd (cc)
+  refusal-is (Err f) e h = cc
+
+  pub no-refusal : (r : Result X E) → refusal_in r ≡ None → IsOk r
+  no-refusal (Ok x) h = refl
+  no-refusal (Err f) h = absurd (cc)
+
+  pub refusal-mapped : (f : X → X) (r : Result X E) → refusal_in (result_map_both f (λ e. e) r) ≡ refusal_in r
+  refusal-mapped f (Ok x) = refl
+  refusal-mapped f (Err e) = refl
+
+-- the steps that are left, after a step that was judged
+abbrev pub step_then : ℕ → Fields → Result Fields StepFault → (Fields → Result (List Fields) CheckFault) → Result (List Fields) CheckFault
+step_then n fields r later = elim r [ Err code ↦ Err (refused_at (place.Step n) code) | Ok after ↦ result_map_both (λ rest. fields ∷ rest) (λ e. e) (later after) ]
+
+-- below, `joins` are the columns of the sources before the last
+module _ (joins : List Fields) where
+  pub step-passed : (n : ℕ) (fields : Fields) (s : PlanStep) (rest : List PlanStep) (after : Fields) → judged_step joins fields s ≡ Ok after →
+      refusal_in (judged_steps joins n fields (s ∷ rest)) ≡ refusal_in (judged_steps joins (n + 1) after rest)
+  step-passed n fields s rest after e =
+      ap (λ r. refusal_in (step_then n fields r (λ mid. judged_steps joins (n + 1) mid rest))) e
+      ∙ refusal-mapped (λ rest. fields ∷ rest) (judged_steps joins (n + 1) after rest)
+
+  pub step-refused : (n : ℕ) (fields : Fields) (s : PlanStep) (rest : List PlanStep) (code : StepFault) → judged_step joins fields s ≡ Err code →
+      judged_steps joins n fields (s ∷ rest) ≡ Err (refused_at (place.Step n) code)
+  step-refused n fields s rest code e = ap (λ r. step_then n fields r (λ mid. judged_steps joins (n + 1) mid rest)) e
+
+  -- row-wise steps, and what follows them
+  pub rows-passed : (n : ℕ) (fields : Fields) (xs : List Step) (rest : List PlanStep) (after : Fields) → steps_schema fields xs ≡ Ok after →
+      refusal_in (judged_steps joins n fields (map row_wise xs ++ rest)) ≡ refusal_in (judged_steps joins (n + length xs) after rest)
+  rows-passed n fields [] rest after e =
+      ap (λ f. refusal_in (judged_steps joins n f rest)) (let q : fields ≡ after = cc in q)
+      ∙ ap (λ m. refusal_in (judged_steps joins m after rest)) (let q : n ≡ n + 0 = omega arith in q)
+  rows-passed n fields (x ∷ xs) rest after e = go (step_schema fields x) refl (λ mid. rows-passed (n + 1) mid xs rest after) e
+    where
+      go : (r : Result Fields StepFault) → step_schema fields x ≡ r →
+          ((mid : Fields) → steps_schema mid xs ≡ Ok after → refusal_in (judged_steps joins (n + 1) mid (map row_wise xs ++ rest)) ≡ refusal_in (judged_steps joins (n + 1 + length xs) after rest)) →
+          and_then r (λ mid. steps_schema mid xs) ≡ Ok after →
+          refusal_in (judged_steps joins n fields (row_wise x ∷ (map row_wise xs ++ rest))) ≡ refusal_in (judged_steps joins (n + suc (length xs)) after rest)
+      go (Err code) q ih h = absurd (cc)
+      go (Ok mid) q ih h =
+          step-passed n fields (row_wise x) (map row_wise xs ++ rest) mid q ∙ ih mid h
+          ∙ ap (λ m. refusal_in (judged_steps joins m after rest)) (let q : n + 1 + length xs ≡ n + suc (length xs) = omega arith in q)
+
+  -- one more row-wise step
+  pub rows-refused : (n : ℕ) (fields : Fields) (xs : List Step) (x : Step) (rest : List PlanStep) (mid : Fields) (code : StepFault) → steps_schema fields xs ≡ Ok mid →
+      step_schema mid x ≡ Err code → judged_steps joins n fields (map row_wise xs ++ (row_wise x ∷ rest)) ≡ Err (refused_at (place.Step (n + length xs)) code)
+  rows-refused n fields xs x rest mid code e h =
+      refusal-is (judged_steps joins n fields (map row_wise xs ++ (row_wise x ∷ rest))) (refused_at (place.Step (n + length xs)) code)
+      (rows-passed n fields xs (row_wise x ∷ rest) mid e ∙ ap refusal_in (step-refused (n + length xs) mid (row_wise x) rest code h))
+
+  operator-passed : (n : ℕ) (fields : Fields) (o : Operator) (rest : List PlanStep) (after : Fields) → Turns joins n fields o after →
+      refusal_in (judged_steps joins n fields (operator_steps o ++ rest)) ≡ refusal_in (judged_steps joins (n + length (operator_steps o)) after rest)
+  operator-passed n fields (Rows front) rest after t =
+      rows-passed n fields front.steps rest after t.2
+      ∙ ap (λ k. refusal_in (judged_steps joins (n + k) after rest)) (sym (length-map front.steps row_wise))
+  operator-passed n fields (Join source on how) rest after t = step-passed n fields (join (pos source) (map string_bytes on.items) how) rest after t
+  operator-passed n fields (GroupBy keys aggs) rest after t = step-passed n fields (group_by (map string_bytes keys.items) (outputs_of aggs.items)) rest after t
+  operator-passed n fields (RollingSum column window m name) rest after t =
+      step-passed n fields (rolling_sum (string_bytes column) (pos window) (pos m) (string_bytes name)) rest after t
+
+  -- stages, and what follows them
+  pub stages-passed : (n : ℕ) (fields : Fields) (stages : List Stage) (rest : List PlanStep) (after : Fields) → Leads joins n fields stages after →
+      refusal_in (judged_steps joins n fields (stage_steps stages ++ rest)) ≡ refusal_in (judged_steps joins (n + length (stage_steps stages)) after rest)
+  stages-passed n fields [] rest after h =
+      ap (λ f. refusal_in (judged_steps joins n f rest)) h
+      ∙ ap (λ m. refusal_in (judged_steps joins m after rest)) (let q : n ≡ n + 0 = omega arith in q)
+  stages-passed n fields (s ∷ stages) rest after h =
+      let steps = operator_steps s.operator in
+      ap (λ ss. refusal_in (judged_steps joins n fields ss)) (append_assoc steps (stage_steps stages) rest)
+      ∙ operator-passed n fields s.operator (stage_steps stages ++ rest) h.0 h.2
+      ∙ stages-passed (n + length steps) h.0 stages rest after h.3
+      ∙ ap (λ m. refusal_in (judged_steps joins m after rest)) (omega (arith, length-append steps (stage_steps stages)))
+
+  pub stages-refused : (n : ℕ) (fields : Fields) (stages : List Stage) (s : PlanStep) (rest : List PlanStep) (mid : Fields) (code : StepFault) → Leads joins n fields stages mid →
+      judged_step joins mid s ≡ Err code → judged_steps joins n fields (stage_steps stages ++ (s ∷ rest)) ≡ Err (refused_at (place.Step (n + length (stage_steps stages))) code)
+  stages-refused n fields stages s rest mid code h e =
+      refusal-is (judged_steps joins n fields (stage_steps stages ++ (s ∷ rest))) (refused_at (place.Step (n + length (stage_steps stages))) code)
+      (stages-passed n fields stages (s ∷ rest) mid h ∙ ap refusal_in (step-refused (n + length (stage_steps stages)) mid s rest code e))
+
+  -- one more stage
+  pub leads-further : (n : ℕ) (fields : Fields) (stages : List Stage) (mid : Fields) (s : Stage) (m : ℕ) (after : Fields) → Leads joins n fields stages mid →
+      m ≡ n + length (stage_steps stages) → s.number ≡ m → Turns joins m mid s.operator after → Leads joins n fields (stages ++ s ∷ []) after
+  leads-further n fields [] mid s m after h q number turns =
+      let here : m ≡ n = omega (arith, q) in (
+        after,
+        number ∙ here,
+        subst (λ k. Turns joins k fields s.operator after) here (subst (λ f. Turns joins m f s.operator after) (sym h) turns),
+        refl,
+      )
+  leads-further n fields (x ∷ stages) mid s m after h q number turns =
+      let steps = operator_steps x.operator in (
+        h.0,
+        h.1,
+        h.2,
+        leads-further (n + length steps) h.0 stages mid s m after h.3 (omega (arith, q, length-append steps (stage_steps stages))) number turns,
+      )

@@ -1,0 +1,119 @@
+use Rattle.std.proofs.Common.{◌≡◌, ◌++◌, Ok, List, map, length, ap, sym, ◌∙◌, subst, inl, inr, arith}
+use Rattle.std.specs.Prelude.{sum_by}
+use Rattle.std.proofs.lemmas.List.{length-map}
+use Rattle.std.proofs.lemmas.Result.{err_from_is_err_and}
+use Rattle.fq_column.specs.Frame.{Fields}
+use Rattle.fq_expr.specs.Front.{NumberedSteps}
+use Rattle.fq_expr.specs.Kinds.{steps_schema}
+use Rattle.fq_expr.specs.Meaning.{step_of}
+use Rattle.fq_expr.specs.declared.steps.RowStep.{RowStep}
+use Rattle.fq_plan.specs.Judged.{checked, judged_steps, source_refusal}
+use Rattle.fq_plan.specs.Plan.{Source, PlanStep, Query, IsWithinLimits, row_wise}
+use Rattle.fq_plan.specs.Stages.{checked_fields, checked_source_data, query_of, stage_steps, IsChecked, Leads}
+use Rattle.fq_plan.specs.View.{plan_step_of, source_data}
+use Rattle.fq_plan.proofs.PreparedLemmas.{checked-is, leading-refuses, prepared, stages-refuse, steps-are}
+use Rattle.fq_plan.proofs.SplitLemmas.{IsSplit, length-split}
+use Rattle.fq_plan.proofs.checks.check_plan.Goals as goal
+
+pub check_leading-requires : goal.check_leading-requires
+check_leading-requires c =
+    let split : IsSplit c.plan.inside.steps.items c.in_ok-leading.leading.items c.in_ok-leading.rest.items = record { front = c.in_ok-leading.ensures.leading; after = c.in_ok-leading.ensures.rest } in
+    omega (arith, ap length c.as_slice.ensures.value, length-split _ _ _ split, c.plan.invariant.few_steps)
+
+pub overflow_cast-len : goal.overflow_cast-len
+overflow_cast-len c =
+    let split : IsSplit c.plan.inside.steps.items c.in_ok-leading.leading.items c.in_ok-leading.rest.items = record { front = c.in_ok-leading.ensures.leading; after = c.in_ok-leading.ensures.rest } in
+    omega (arith, c.len.ensures, c.in_ok-leading.leading.ok.0, length-split _ _ _ split, c.plan.invariant.few_steps)
+
+pub check_stages-requires : goal.check_stages-requires
+check_stages-requires c =
+    let split : IsSplit c.plan.inside.steps.items c.in_ok-leading.leading.items c.in_ok-leading.rest.items = record { front = c.in_ok-leading.ensures.leading; after = c.in_ok-leading.ensures.rest } in
+    omega (arith, c.len.ensures, c.in_ok-leading.leading.ok.0, c.in_ok-leading.rest.ok.0, length-split _ _ _ split, c.plan.invariant.few_steps)
+
+pub new-requires-clause-numbers : goal.new-requires-clause-numbers
+new-requires-clause-numbers c =
+    let split : IsSplit c.plan.inside.steps.items c.in_ok-leading.leading.items c.in_ok-leading.rest.items = record { front = c.in_ok-leading.ensures.leading; after = c.in_ok-leading.ensures.rest } in
+    omega (arith, c.in_ok-leading.leading.ok.0, length-split _ _ _ split, c.plan.invariant.few_steps)
+
+pub returns-in_err-schema-clause-refused : goal.returns-in_err-schema-clause-refused
+returns-in_err-schema-clause-refused c =
+    let exit = err_from_is_err_and c.from_residual-in_err-schema.result c.from_residual-in_err-schema.ensures.1 in
+    let sources = c.in_ok-sources.sources.items in
+    let steps = map plan_step_of c.plan.inside.steps.items in
+    let parts = sym c.deref-2.ensures.value ∙ c.in-Some.ensures.cases.0 in
+    let of_sources : List Source → Query = λ ss. record { sources = ss; steps = steps } in
+    let passed = ap (source_refusal 0) c.in_ok-sources.ensures.sources ∙ c.in_ok-sources.ensures.passed in
+    rw (exit.1, exit.2) (elim c.in_err-schema.ensures.refused [
+      | inl e ↦ inl (
+          ap checked (sym c.plan.view_is ∙ ap of_sources (sym c.in_ok-sources.ensures.sources))
+          ∙ leading-refuses sources c.in-Some.joins.now c.in-Some.main.now parts steps (map step_of c.in_ok-leading.leading.items) c.in_ok-leading.ensures.leading _ passed
+          (λ joins rest. ap (λ (ss : List RowStep). judged_steps joins 0 c.in-Some.main.now.schema (map row_wise (map step_of ss) ++ rest)) (sym c.as_slice.ensures.value) ∙ e joins rest))
+      | inr memory ↦ inr memory
+    ])
+
+pub returns-in_err-stages-clause-refused : goal.returns-in_err-stages-clause-refused
+returns-in_err-stages-clause-refused c =
+    let exit = err_from_is_err_and c.from_residual-in_err-stages.result c.from_residual-in_err-stages.ensures.1 in
+    let sources = c.in_ok-sources.sources.items in
+    let steps = map plan_step_of c.plan.inside.steps.items in
+    let leading = map step_of c.in_ok-leading.leading.items in
+    let rest = map plan_step_of c.in_ok-leading.rest.items in
+    let parts = sym c.deref-2.ensures.value ∙ c.in-Some.ensures.cases.0 in
+    let of_sources : List Source → Query = λ ss. record { sources = ss; steps = steps } in
+    let passed = ap (source_refusal 0) c.in_ok-sources.ensures.sources ∙ c.in_ok-sources.ensures.passed in
+    let to_mid = ap (λ (ss : List RowStep). steps_schema c.in-Some.main.now.schema (map step_of ss)) (sym c.as_slice.ensures.value) ∙ c.in_ok-schema.ensures.ok in
+    let count : length leading ≡ c.len.result = omega (arith, length-map c.in_ok-leading.leading.items step_of, c.in_ok-leading.leading.ok.0, c.len.ensures) in
+    rw (exit.1, exit.2) (elim c.in_err-stages.ensures.refused [
+      | inl e ↦ inl (
+          ap checked (sym c.plan.view_is ∙ ap of_sources (sym c.in_ok-sources.ensures.sources))
+          ∙ stages-refuse sources c.in-Some.joins.now c.in-Some.main.now parts steps leading c.in_ok-leading.ensures.leading rest c.in_ok-schema.schema _ passed c.in_ok-leading.ensures.rest to_mid
+          (ap (λ n. judged_steps (checked_fields c.in-Some.joins.now) n c.in_ok-schema.schema rest) count ∙ e))
+      | inr memory ↦ inr memory
+    ])
+
+front_of : goal.In_ok-front → NumberedSteps
+front_of c = record { steps = map step_of c.in_ok-leading.leading.items; fields = c.in-Some.main.now.schema; first = 0 }
+
+front-is : (c : goal.In_ok-front) → c.in_ok-front.front ≡ front_of c
+unfolding front_of
+front-is c =
+    let chain : Fields → NumberedSteps = λ fields. record { steps = map step_of c.in_ok-leading.leading.items; fields = fields; first = 0 } in
+    c.in_ok-front.ensures ∙ ap chain c.in_ok-front_schema.ensures
+
+is-prepared : (c : goal.In_ok-front) → IsChecked c.in_ok-sources.sources.items (front_of c) c.in_ok-stages.stages.items c.count_files-inputs.result
+unfolding front_of
+is-prepared c =
+    let steps = map plan_step_of c.plan.inside.steps.items in
+    let leading = map step_of c.in_ok-leading.leading.items in
+    let joins = checked_fields c.in-Some.joins.now in
+    let stages = c.in_ok-stages.stages.items in
+    let leads = c.in_ok-stages.ensures.leads in
+    let count : c.len.result ≡ length leading = omega (arith, length-map c.in_ok-leading.leading.items step_of, c.in_ok-leading.leading.ok.0, c.len.ensures) in
+    let of_sources : List Source → Query = λ ss. record { sources = ss; steps = steps } in
+    prepared c.in_ok-sources.sources.items c.in-Some.joins.now c.in-Some.main.now (sym c.deref-2.ensures.value ∙ c.in-Some.ensures.cases.0) steps leading c.in_ok-leading.ensures.leading
+    stages c.in_ok-schema.schema leads.0 (c.in_ok-stages.ensures.steps ∙ c.in_ok-leading.ensures.rest) (ap (source_refusal 0) c.in_ok-sources.ensures.sources ∙ c.in_ok-sources.ensures.passed)
+    (ap (λ (ss : List RowStep). steps_schema c.in-Some.main.now.schema (map step_of ss)) (sym c.as_slice.ensures.value) ∙ c.in_ok-schema.ensures.ok)
+    (subst (λ n. Leads joins n c.in_ok-schema.schema stages leads.0) count leads.1)
+    c.count_files-inputs.result
+    (subst IsWithinLimits (ap of_sources (sym c.in_ok-sources.ensures.sources)) c.plan.invariant)
+    (c.count_files-inputs.ensures ∙ ap (λ ss. sum_by (λ (s : Source). s.files) (map source_data ss)) c.deref.ensures.value ∙ ap (sum_by (λ (s : Source). s.files)) (sym c.in_ok-sources.ensures.sources))
+
+pub invariant_of-result : goal.invariant_of-result
+invariant_of-result c =
+    subst (λ front. IsChecked c.in_ok-sources.sources.items front c.in_ok-stages.stages.items c.count_files-inputs.result) (sym (front-is c)) (is-prepared c)
+
+passes : (c : goal.In_ok-front) → checked (query_of c.in_ok-sources.sources.items (front_of c) c.in_ok-stages.stages.items) ≡ Ok (query_of c.in_ok-sources.sources.items (front_of c) c.in_ok-stages.stages.items)
+passes c = checked-is c.in_ok-sources.sources.items (front_of c) c.in_ok-stages.stages.items c.count_files-inputs.result (is-prepared c)
+
+pub returns-clause-ok : goal.returns-clause-ok
+unfolding front_of
+returns-clause-ok c =
+    let sources = c.in_ok-sources.sources.items in
+    let stages = c.in_ok-stages.stages.items in
+    let steps = map plan_step_of c.plan.inside.steps.items in
+    let of_sources : List Source → Query = λ ss. record { sources = ss; steps = steps } in
+    let of_steps : List PlanStep → Query = λ ss. record { sources = map checked_source_data sources; steps = ss } in
+    ap checked (sym c.plan.view_is ∙ ap of_sources (sym c.in_ok-sources.ensures.sources))
+    ∙ ap checked (ap of_steps (sym (steps-are steps (map step_of c.in_ok-leading.leading.items) c.in_ok-leading.ensures.leading (stage_steps stages) (c.in_ok-stages.ensures.steps ∙ c.in_ok-leading.ensures.rest))))
+    ∙ passes c
+    ∙ ap (λ front. Ok (query_of sources front stages)) (sym (front-is c))

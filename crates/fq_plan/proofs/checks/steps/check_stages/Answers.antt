@@ -1,0 +1,62 @@
+use Rattle.std.proofs.Common.{◌≡◌, refl, List, ◌++◌, ◌∷◌, [], ◌+◌, Err, map, length, ap, sym, ◌∙◌, subst, inl, inr, arith, append_assoc, length-append}
+use Rattle.std.proofs.lemmas.List.{length-map, map-append}
+use Rattle.std.proofs.lemmas.Result.{err_from_is_err_and}
+use Rattle.fq_plan.specs.Judged.{judged_steps, refused_at}
+use Rattle.fq_plan.specs.Stages.{checked_fields, stage_steps, Leads}
+use Rattle.fq_plan.specs.View.{plan_step_of}
+use Rattle.fq_plan.specs.declared.faults.Place.TheVariants as place
+use Rattle.fq_plan.specs.declared.stages.Stage.{Stage}
+use Rattle.fq_plan.proofs.CheckLemmas.{leads-further, stage_steps-snoc, stages-refused}
+use Rattle.fq_plan.proofs.checks.steps.check_stages.Goals as goal
+
+pub returns-in_err-operator-clause-refused : goal.returns-in_err-operator-clause-refused
+returns-in_err-operator-clause-refused c =
+    let exit = err_from_is_err_and c.from_residual-in_err-operator.result c.from_residual-in_err-operator.ensures.1 in
+    let joins = checked_fields c.args.joins.now in
+    let step = c.in-Some.step in
+    let left = c.next.new.self.rest.items in
+    let stages = c.loop-step.stages.items in
+    let code = c.in_err-operator.field-0.0 in
+    let parts : map plan_step_of c.args.steps.items ≡ stage_steps stages ++ (plan_step_of step ∷ map plan_step_of left) =
+    ap (map plan_step_of) (c.loop-step.invariant.left ∙ ap (λ rest. c.loop-step.yielded ++ rest) c.in-Some.ensures.steps.0)
+    ∙ map-append plan_step_of c.loop-step.yielded (step ∷ left)
+    ∙ ap (λ ss. ss ++ (plan_step_of step ∷ map plan_step_of left)) (sym c.loop-step.invariant.steps) in
+    let number : length (stage_steps stages) ≡ c.len-in-loop-step.result = omega (
+      arith,
+      ap length c.loop-step.invariant.steps,
+      length-map c.loop-step.yielded plan_step_of,
+      c.loop-step.invariant.count,
+      c.len-in-loop-step.ensures,
+    ) in
+    rw (exit.1, exit.2) (elim c.in_err-operator.ensures.refused [
+      | inl e ↦ inl (
+          ap (judged_steps joins c.args.first c.args.schema) parts
+          ∙ stages-refused joins c.args.first c.args.schema stages (plan_step_of step) (map plan_step_of left) c.loop-step.schema code c.loop-step.invariant.leads e
+          ∙ ap (λ n. Err (refused_at (place.Step (c.args.first + n)) code)) number)
+      | inr memory ↦ inr memory
+    ])
+
+pub loop-step-preserved : goal.loop-step-preserved
+loop-step-preserved c =
+    let joins = checked_fields c.args.joins.now in
+    let step = c.in-Some.step in
+    let stages = c.loop-step.stages.items in
+    let number = c.args.first + c.len-in-loop-step.result in
+    let stage : Stage = record { number = number; operator = c.in_ok-operator.operator } in
+    let same : number ≡ c.args.first + length (stage_steps stages) = omega (
+      arith,
+      ap length c.loop-step.invariant.steps,
+      length-map c.loop-step.yielded plan_step_of,
+      c.loop-step.invariant.count,
+      c.len-in-loop-step.ensures,
+    ) in
+    record {
+      left = c.loop-step.invariant.left ∙ ap (λ rest. c.loop-step.yielded ++ rest) c.in-Some.ensures.steps.0 ∙ sym (append_assoc c.loop-step.yielded (step ∷ []) c.next.new.self.rest.items);
+      count = omega (arith, c.in_ok-push.ensures.len, c.loop-step.invariant.count, length-append c.loop-step.yielded (step ∷ []));
+      steps = ap stage_steps c.in_ok-push.ensures.items
+          ∙ stage_steps-snoc stages stage
+          ∙ (λ i. c.loop-step.invariant.steps i ++ c.in_ok-operator.ensures.step i)
+          ∙ sym (map-append plan_step_of c.loop-step.yielded (step ∷ []));
+      leads = subst (λ (ss : List Stage). Leads joins c.args.first c.args.schema ss c.in_ok-operator.after) (sym c.in_ok-push.ensures.items)
+          (leads-further joins c.args.first c.args.schema stages c.loop-step.schema stage number c.in_ok-operator.after c.loop-step.invariant.leads same refl c.in_ok-operator.ensures.turns);
+    }

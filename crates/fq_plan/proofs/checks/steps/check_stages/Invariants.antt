@@ -1,0 +1,12 @@
+use Rattle.std.proofs.Common.{◌≡◌, ◌++◌, map, length, vec_len}
+use Rattle.fq_plan.specs.Stages.{checked_fields, stage_steps, Leads}
+use Rattle.fq_plan.specs.View.{plan_step_of}
+use Rattle.fq_plan.proofs.checks.steps.check_stages.Given as goal
+
+abbrev pub invariant-loop-step : goal.invariant-loop-step
+invariant-loop-step l = record {
+  left : l.fn.steps.items ≡ l.yielded ++ l.step-iterator.rest.items;
+  count : vec_len l.stages ≡ length l.yielded;
+  steps : stage_steps l.stages.items ≡ map plan_step_of l.yielded;
+  leads : Leads (checked_fields l.joins) l.first l.fn.schema l.stages.items l.schema;
+}

@@ -1,0 +1,59 @@
+-- What a checked plan holds: its sources with their schemas, its leading row-wise steps, and the stages after them.
+use Rattle.std.specs.Prelude.{◌≡◌, ℕ, ◌+◌, pos, List, [], ◌∷◌, ◌++◌, map, flat_map, length, string_bytes, None, Ok}
+use Rattle.fq_column.specs.Frame.{Fields}
+use Rattle.fq_expr.specs.Front.{NumberedSteps}
+use Rattle.fq_expr.specs.Kinds.{steps_schema}
+use Rattle.fq_ops.specs.Meaning.{outputs_of}
+use Rattle.fq_plan.specs.Judged.{judged_step, source_refusal}
+use Rattle.fq_plan.specs.Plan.{Source, PlanStep, row_wise, join, group_by, rolling_sum, Query, IsWithinLimits, files_wanted, front_of, join_fields, main_fields}
+use Rattle.fq_plan.specs.declared.stages.CheckedSource.{CheckedSource}
+use Rattle.fq_plan.specs.declared.stages.Operator.{Operator}
+use Rattle.fq_plan.specs.declared.stages.Operator.TheVariants.{Rows, Join, GroupBy, RollingSum}
+use Rattle.fq_plan.specs.declared.stages.Stage.{Stage}
+
+abbrev pub checked_source_data : CheckedSource → Source
+checked_source_data s = record { files = s.files; fields = s.schema }
+
+abbrev pub checked_fields : List CheckedSource → List Fields
+checked_fields sources = map (λ s. s.schema) sources
+
+-- the steps that an operator does
+abbrev pub operator_steps : Operator → List PlanStep
+operator_steps (Rows front) = map row_wise front.steps
+operator_steps (Join source on how) = join (pos source) (map string_bytes on.items) how ∷ []
+operator_steps (GroupBy keys aggs) = group_by (map string_bytes keys.items) (outputs_of aggs.items) ∷ []
+operator_steps (RollingSum column window min_samples name) = rolling_sum (string_bytes column) (pos window) (pos min_samples) (string_bytes name) ∷ []
+
+abbrev pub stage_steps : List Stage → List PlanStep
+stage_steps stages = flat_map (λ s. operator_steps s.operator) stages
+
+-- the plan that sources, leading row-wise steps and stages are
+abbrev pub query_of : List CheckedSource → NumberedSteps → List Stage → Query
+query_of sources front stages = record { sources = map checked_source_data sources; steps = map row_wise front.steps ++ stage_steps stages }
+
+-- below, `joins` are the columns of the sources before the last
+module _ (joins : List Fields) where
+  -- an operator whose first step is step n takes rows with these columns to rows with those
+  abbrev pub Turns : ℕ → Fields → Operator → Fields → Type 0
+  Turns n fields (Rows front) after = (front.fields ≡ fields) × (front.first ≡ n) × (steps_schema fields front.steps ≡ Ok after)
+  Turns n fields (Join source on how) after = judged_step joins fields (join (pos source) (map string_bytes on.items) how) ≡ Ok after
+  Turns n fields (GroupBy keys aggs) after = judged_step joins fields (group_by (map string_bytes keys.items) (outputs_of aggs.items)) ≡ Ok after
+  Turns n fields (RollingSum column window min_samples name) after =
+      judged_step joins fields (rolling_sum (string_bytes column) (pos window) (pos min_samples) (string_bytes name)) ≡ Ok after
+
+  -- so do stages, one after the other, each with the number of its first step
+  abbrev pub Leads : ℕ → Fields → List Stage → Fields → Type 0
+  Leads n fields [] after = fields ≡ after
+  Leads n fields (s ∷ stages) after =
+      (mid : Fields) × (s.number ≡ n) × Turns n fields s.operator mid × Leads (n + length (operator_steps s.operator)) mid stages after
+
+-- the plan is not refused, and each operator has the number and the columns of its steps
+pub record IsChecked (sources : List CheckedSource) (front : NumberedSteps) (stages : List Stage) (inputs : ℕ) : Type 0 where
+  pub limits : IsWithinLimits (query_of sources front stages)
+  pub schemas : source_refusal 0 (map checked_source_data sources) ≡ None
+  pub inputs_wanted : inputs ≡ files_wanted (query_of sources front stages)
+  pub from_first : front.first ≡ 0
+  pub on_main : front.fields ≡ main_fields (query_of sources front stages)
+  pub no_more_leading : front_of (stage_steps stages) ≡ []
+  pub leads : (mid after : Fields) × (steps_schema front.fields front.steps ≡ Ok mid)
+      × Leads (join_fields (query_of sources front stages)) (length front.steps) mid stages after

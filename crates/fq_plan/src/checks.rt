@@ -1,0 +1,99 @@
+// Checked plans.
+ghost use Rattle.std.specs.Prelude.{◌≡◌, ◌⊎◌, IsErrAnd, IsOk, IfOk, IfErr, Ok, Err};
+ghost use Rattle.fq_column.specs.declared.faults.StepFault.{StepFault as Code};
+ghost use Rattle.fq_plan.specs.Judged.{checked, judged, refused_at};
+ghost use Rattle.fq_plan.specs.Plan.{files_wanted};
+
+use crate::faults::{CheckFault, Place};
+use crate::plans::Plan;
+use crate::stages::{CheckedSource, Stage};
+use fq_column::StepFault;
+use fq_expr::Front;
+use std::alloc::Global;
+use std::marker::Model;
+
+mod sources;
+mod steps;
+
+use sources::{check_sources, count_files};
+use steps::{check_leading, check_stages, split_leading};
+
+/// A plan that the check does not refuse.
+#[derive(Drop)]
+pub struct Checked {
+    pub(crate) sources: Vec<CheckedSource>,
+    pub(crate) front: Front,
+    pub(crate) stages: Vec<Stage>,
+    inputs: u16,
+}
+
+impl Model for Checked {
+    ghost use Rattle.fq_plan.specs.Plan.{Query};
+
+    ghost Value = { Query };
+
+    ghost use Rattle.std.specs.Coded.{codes};
+    ghost use Rattle.fq_expr.specs.ExpressionCode.{expression_code};
+
+    ghost coded = { Prim.hlevel (codes, expression_code (Prim.hlevel codes)) };
+
+    ghost use Rattle.fq_plan.specs.Stages.{IsChecked, query_of};
+
+    ghost view = { λ c. query_of c.sources.items c.front c.stages.items };
+
+    ghost invariant = { λ c. IsChecked c.sources.items c.front c.stages.items c.inputs };
+}
+
+impl Plan {
+    /// The plan, where each source's columns make a schema and each step can be made on the columns that the steps before
+    /// it leave. A refused plan is gone.
+    ///
+    /// Sources are judged in order, then steps in order; the first refusal is answered with its place. A source:
+    /// `NoColumn`; `TooMany` for more than 64 columns; `DoubleName`. A row-wise step: as `RowStep::schema`. A join:
+    /// `NoSuchSource` where its number is not that of a source before the last; then as `join_schema`. A grouping: as
+    /// `group_schema`. A rolling sum: as `roll_schema`. `Memory` where a growth is refused, with the place at which the
+    /// check stood.
+    pub fn check(self, alloc: Global) -> Result<Checked, CheckFault>
+        ensures { (result ≡ checked self) ⊎ IsErrAnd result (λ e. e.code ≡ Code.Memory) }
+    {
+        let mut place = Place::Source(0);
+        match check_plan(alloc, self, &mut place) {
+            Ok(checked) => Ok(checked),
+            Err(code) => Err(CheckFault { place, code }),
+        }
+    }
+}
+
+// The plan, where it is not refused; a refusal leaves the place at which the check stood.
+fn check_plan(alloc: Global, plan: Plan, place: &mut Place) -> Result<Checked, StepFault>
+    ensures ok { IfOk result (λ c. checked plan ≡ Ok c) }
+    ensures refused { IfErr result (λ code. (checked plan ≡ Err (refused_at place.new code)) ⊎ (code ≡ Code.Memory)) }
+{
+    let Plan { sources, steps } = plan;
+    let inputs = count_files(&sources);
+    let sources = check_sources(alloc, sources, place)?;
+    let Some((main, joins)) = sources.split_last() else {
+        unreachable!()
+    };
+    let (leading, rest) = split_leading(alloc, steps)?;
+    let front_schema = main.schema.copy(alloc)?;
+    let schema = check_leading(alloc, &main.schema, leading.as_slice(), place)?;
+    let stages = check_stages(alloc, joins, leading.len() as u16, schema, rest, place)?;
+    let front = Front::new(alloc, leading, front_schema, 0)?;
+    Ok(Checked {
+        sources,
+        front,
+        stages,
+        inputs,
+    })
+}
+
+impl Checked {
+    /// How many files the plan wants, from 1 to 16: those of the first source, then those of the next, and so on.
+    pub fn inputs(&self) -> u16
+        ensures inputs { result ≡ files_wanted self.now }
+        ensures not_refused { IsOk (judged self.now) }
+    {
+        self.inputs
+    }
+}

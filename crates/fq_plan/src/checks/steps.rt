@@ -1,0 +1,153 @@
+// The check of a plan's steps.
+ghost use Rattle.std.specs.Prelude.{◌≡◌, ◌⊎◌, ◌+◌, ◌≤◌, ◌++◌, ◌∷◌, [], ℕ, List, Ok, Err, Some, None, map, length, vec_len, MatchOption, IfOk, IfErr, pos};
+ghost use Rattle.fq_column.specs.Frame.{Fields};
+ghost use Rattle.fq_expr.specs.Kinds.{steps_schema};
+ghost use Rattle.fq_expr.specs.Meaning.{step_of};
+ghost use Rattle.fq_plan.specs.Judged.{judged_step, judged_steps, refused_at};
+ghost use Rattle.fq_plan.specs.Plan.{PlanStep, front_of, item_at, rest_of, row_wise};
+ghost use Rattle.fq_plan.specs.Stages.{checked_fields, operator_steps, stage_steps, Leads, Turns};
+ghost use Rattle.fq_plan.specs.View.{plan_step_of};
+
+use crate::faults::Place;
+use crate::plans::Step;
+use crate::stages::{CheckedSource, Operator, Stage};
+use fq_column::{Memory, Schema, StepFault};
+use fq_expr::{Front, RowStep};
+use fq_ops::{group_schema, join_schema, roll_schema};
+use std::alloc::Global;
+
+/// The leading row-wise steps, and the steps after them.
+pub fn split_leading(alloc: Global, steps: Vec<Step>) -> Result<(Vec<RowStep>, Vec<Step>), Memory>
+    ensures leading { IfOk result (λ r. map step_of r.0.items ≡ front_of (map plan_step_of steps.items)) }
+    ensures rest { IfOk result (λ r. map plan_step_of r.1.items ≡ rest_of (map plan_step_of steps.items)) }
+{
+    let mut leading = Vec::new(alloc);
+    let mut rest = Vec::new(alloc);
+    for step in steps {
+        match step {
+            Step::Rows(row_step) => {
+                if rest.is_empty() {
+                    leading.push(row_step)?;
+                } else {
+                    rest.push(Step::Rows(row_step))?;
+                }
+            }
+            step => rest.push(step)?,
+        }
+    }
+    Ok((leading, rest))
+}
+
+/// The columns after the leading row-wise steps, or the first refusal, which leaves the place of its step.
+pub fn check_leading(
+    alloc: Global,
+    main: &Schema,
+    steps: &[RowStep],
+    place: &mut Place,
+) -> Result<Schema, StepFault>
+    requires { length steps.now ≤ 64 }
+    ensures ok { IfOk result (λ after. steps_schema main.now (map step_of steps.now) ≡ Ok after) }
+    ensures refused { IfErr result (λ code. ((joins : List Fields) (rest : List PlanStep) →
+        judged_steps joins 0 main.now (map row_wise (map step_of steps.now) ++ rest) ≡ Err (refused_at place.new code)) ⊎ (code ≡ StepFault.Memory)) }
+{
+    let mut schema = main.copy(alloc)?;
+    for i in 0..steps.len() {
+        *place = Place::Step(i as u16);
+        schema = steps[i].schema(alloc, &schema)?;
+    }
+    Ok(schema)
+}
+
+/// The stages of the steps after the leading row-wise ones, which are numbered from `first` on, or the first refusal,
+/// which leaves the place of its step.
+pub fn check_stages(
+    alloc: Global,
+    joins: &[CheckedSource],
+    first: u16,
+    mut schema: Schema,
+    steps: Vec<Step>,
+    place: &mut Place,
+) -> Result<Vec<Stage>, StepFault>
+    requires { first + vec_len steps ≤ 64 }
+    ensures steps { IfOk result (λ stages. stage_steps stages.items ≡ map plan_step_of steps.items) }
+    ensures leads { IfOk result (λ stages. (after : Fields) × Leads (checked_fields joins.now) first schema stages.items after) }
+    ensures refused { IfErr result (λ code. (judged_steps (checked_fields joins.now) first schema (map plan_step_of steps.items) ≡ Err (refused_at place.new code)) ⊎ (code ≡ StepFault.Memory)) }
+{
+    let mut stages = Vec::with_capacity(alloc, steps.len())?;
+    for step in steps {
+        let number = first + stages.len() as u16;
+        *place = Place::Step(number);
+        let (operator, after) = check_step(alloc, joins, number, schema, step)?;
+        stages.push(Stage { number, operator })?;
+        schema = after;
+    }
+    Ok(stages)
+}
+
+// The operator of a step on rows of a schema, and the schema after it; or the step's first refusal.
+fn check_step(
+    alloc: Global,
+    joins: &[CheckedSource],
+    number: u16,
+    schema: Schema,
+    step: Step,
+) -> Result<(Operator, Schema), StepFault>
+    requires { number + 1 ≤ 64 }
+    ensures step { IfOk result (λ r. operator_steps r.0 ≡ plan_step_of step ∷ []) }
+    ensures turns { IfOk result (λ r. Turns (checked_fields joins.now) number schema r.0 r.1) }
+    ensures refused { IfErr result (λ code. (judged_step (checked_fields joins.now) schema (plan_step_of step) ≡ Err code) ⊎ (code ≡ StepFault.Memory)) }
+{
+    match step {
+        Step::Rows(step) => {
+            let after = step.schema(alloc, &schema)?;
+            let mut steps = Vec::with_capacity(alloc, 1)?;
+            steps.push(step)?;
+            let front = Front::new(alloc, steps, schema, number)?;
+            Ok((Operator::Rows(front), after))
+        }
+        Step::Join { source, on, how } => {
+            let Some((source, right)) = source_at(joins, source) else {
+                return Err(StepFault::NoSuchSource);
+            };
+            let after = join_schema(alloc, &schema, &right.schema, on.as_slice())?;
+            Ok((Operator::Join { source, on, how }, after))
+        }
+        Step::GroupBy { keys, aggs } => {
+            let after = group_schema(alloc, &schema, keys.as_slice(), aggs.as_slice())?;
+            Ok((Operator::GroupBy { keys, aggs }, after))
+        }
+        Step::RollingSum {
+            column,
+            window,
+            min_samples,
+            name,
+        } => {
+            let after = roll_schema(
+                alloc,
+                &schema,
+                column.as_str(),
+                window,
+                min_samples,
+                name.as_str(),
+            )?;
+            let operator = Operator::RollingSum {
+                column,
+                window: window as u32,
+                min_samples: min_samples as u32,
+                name,
+            };
+            Ok((operator, after))
+        }
+    }
+}
+
+// The source of a number, which may be no source's.
+fn source_at(sources: &[CheckedSource], number: i64) -> Option<(usize, &CheckedSource)>
+    ensures { MatchOption result
+        (item_at (checked_fields sources.now) number ≡ None)
+        (λ r. (pos r.0 ≡ number) × (item_at (checked_fields sources.now) number ≡ Some r.1.now.schema)) }
+{
+    let place = usize::try_from(number).ok()?;
+    let source = sources.get(place)?;
+    Some((place, source))
+}

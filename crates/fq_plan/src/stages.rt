@@ -1,0 +1,43 @@
+// The parts of a checked plan.
+use fq_column::Schema;
+use fq_expr::Front;
+use fq_ops::{Agg, How};
+
+/// The number of a source's files, and the schema of its columns.
+#[derive(Drop)]
+pub struct CheckedSource {
+    pub(crate) files: u16,
+    pub(crate) schema: Schema,
+}
+
+/// What is done to all rows of the main source, after what came before.
+#[derive(Drop)]
+pub enum Operator {
+    /// Row-wise steps.
+    Rows(Front),
+    /// A join with the rows of a source before the last.
+    Join {
+        source: usize,
+        on: Vec<String>,
+        how: How,
+    },
+    /// Aggregates of groups.
+    GroupBy {
+        keys: Vec<String>,
+        aggs: Vec<Agg>,
+    },
+    /// A rolling sum of a column, under a name.
+    RollingSum {
+        column: String,
+        window: u32,
+        min_samples: u32,
+        name: String,
+    },
+}
+
+/// An operator, and the number of its first step in the plan.
+#[derive(Drop)]
+pub struct Stage {
+    pub(crate) number: u16,
+    pub(crate) operator: Operator,
+}
