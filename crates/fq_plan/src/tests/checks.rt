@@ -1,5 +1,8 @@
 use crate::{CheckFault, Place, read_plan};
-use fq_column::StepFault;
+use fq_column::StepFault::{
+    self, DoubleName, NoColumn, NoSuchColumn, NoSuchSource, NotBool, Samples, TooMany, Window,
+    WrongKind,
+};
 use std::alloc::Global;
 use std::test::Fail;
 
@@ -15,6 +18,97 @@ const ID_V: &str = r#"["id","int"],["v","int"]"#;
 const K_T_U: &str = r#"["k","int"],["t","text"],["u","int"]"#;
 
 const K_V_T: &str = r#"["k","int"],["v","int"],["t","bool"]"#;
+
+// Each step, and the refusal of it; a later one of its line holds too.
+const REFUSED_STEPS: [(&str, StepFault); 27] = [
+    (
+        r#"{"filter":["add",{"col":"w"},{"col":"t"}]}"#,
+        NoSuchColumn,
+    ),
+    (r#"{"filter":["add",{"col":"v"},{"col":"t"}]}"#, WrongKind),
+    (r#"{"filter":["add",{"col":"v"},1]}"#, NotBool),
+    (
+        r#"{"with_columns":[["p",["neg",{"col":"t"}]],["p",{"col":"w"}]]}"#,
+        WrongKind,
+    ),
+    (
+        r#"{"with_columns":[["p",1],["p",{"col":"w"}]]}"#,
+        NoSuchColumn,
+    ),
+    (r#"{"with_columns":[["p",1],["p",2]]}"#, DoubleName),
+    (r#"{"select":[]}"#, NoColumn),
+    (
+        r#"{"select":[["p",["neg",{"col":"t"}]],["p",{"col":"w"}]]}"#,
+        WrongKind,
+    ),
+    (r#"{"select":[["p",1],["p",{"col":"w"}]]}"#, NoSuchColumn),
+    (r#"{"select":[["p",1],["p",2]]}"#, DoubleName),
+    (
+        r#"{"join":{"source":1,"on":[],"how":"inner"}}"#,
+        NoSuchSource,
+    ),
+    (
+        r#"{"join":{"source":-1,"on":["w"],"how":"left"}}"#,
+        NoSuchSource,
+    ),
+    (r#"{"join":{"source":0,"on":[],"how":"inner"}}"#, NoColumn),
+    (
+        r#"{"join":{"source":0,"on":["u","t"],"how":"inner"}}"#,
+        NoSuchColumn,
+    ),
+    (
+        r#"{"join":{"source":0,"on":["v","t"],"how":"inner"}}"#,
+        NoSuchColumn,
+    ),
+    (
+        r#"{"join":{"source":0,"on":["t","t"],"how":"inner"}}"#,
+        WrongKind,
+    ),
+    (
+        r#"{"join":{"source":0,"on":["k","k"],"how":"inner"}}"#,
+        DoubleName,
+    ),
+    (
+        r#"{"group_by":{"keys":[],"aggs":[["n","sum","w"]]}}"#,
+        NoColumn,
+    ),
+    (
+        r#"{"group_by":{"keys":["k","w"],"aggs":[["n","sum","t"]]}}"#,
+        NoSuchColumn,
+    ),
+    (
+        r#"{"group_by":{"keys":["k"],"aggs":[["n","sum","t"],["n","min","w"]]}}"#,
+        WrongKind,
+    ),
+    (
+        r#"{"group_by":{"keys":["k"],"aggs":[["k","count","w"],["n","sum","t"]]}}"#,
+        NoSuchColumn,
+    ),
+    (
+        r#"{"group_by":{"keys":["k"],"aggs":[["k","sum","v"]]}}"#,
+        DoubleName,
+    ),
+    (
+        r#"{"rolling_sum":{"column":"w","window":0,"name":"r"}}"#,
+        NoSuchColumn,
+    ),
+    (
+        r#"{"rolling_sum":{"column":"t","window":0,"name":"r"}}"#,
+        WrongKind,
+    ),
+    (
+        r#"{"rolling_sum":{"column":"v","window":0,"name":"r"}}"#,
+        Window,
+    ),
+    (
+        r#"{"rolling_sum":{"column":"v","window":65537,"min_samples":-1,"name":"r"}}"#,
+        Window,
+    ),
+    (
+        r#"{"rolling_sum":{"column":"v","window":3,"min_samples":4,"name":"r"}}"#,
+        Samples,
+    ),
+];
 
 // A plan of one source of one file.
 fn one_source(alloc: Global, columns: &str, steps: &str) -> Result<String, Fail> {
@@ -65,6 +159,28 @@ fn step_refusal(alloc: Global, step: &str) -> Result<Option<CheckFault>, Fail> {
     refusal(alloc, two_sources(alloc, K_T_U, K_V_T, step)?.as_str())
 }
 
+// Why a step over 64 columns is refused, if it is.
+fn wide_refusal(alloc: Global, step: &str) -> Result<Option<CheckFault>, Fail> {
+    let join = r#"["c0","int"],["d","int"],["c1","int"],["c1_right","int"]"#;
+    let main = columns(alloc, 64)?;
+    refusal(
+        alloc,
+        two_sources(alloc, join, main.as_str(), step)?.as_str(),
+    )
+}
+
+// A text again and again, with commas between.
+fn repeated(alloc: Global, text: &str, count: usize) -> Result<String, Fail> {
+    let mut all = String::new(alloc);
+    for i in 0..count {
+        if i > 0 {
+            all.push_str(",")?;
+        }
+        all.push_str(text)?;
+    }
+    Ok(all)
+}
+
 fn at_source(source: u16, code: StepFault) -> Option<CheckFault> {
     Some(CheckFault {
         place: Place::Source(source),
@@ -99,22 +215,10 @@ fn one_source_refused(rt: HostRuntime) -> Result<(), Fail> {
         r#"{"join":{"source":0,"on":["id"],"how":"inner"}}"#,
     )?;
     let empty = one_source(alloc, "", r#"{"filter":["gt",{"col":"v"},10]}"#)?;
-    assert_eq!(rt;
-        refusal(alloc, unknown.as_str())?,
-        at_step(0, StepFault::NoSuchColumn)
-    );
-    assert_eq!(rt;
-        refusal(alloc, whole.as_str())?,
-        at_step(0, StepFault::NotBool)
-    );
-    assert_eq!(rt;
-        refusal(alloc, itself.as_str())?,
-        at_step(0, StepFault::NoSuchSource)
-    );
-    assert_eq!(rt;
-        refusal(alloc, empty.as_str())?,
-        at_source(0, StepFault::NoColumn)
-    );
+    assert_eq!(rt; refusal(alloc, unknown.as_str())?, at_step(0, NoSuchColumn));
+    assert_eq!(rt; refusal(alloc, whole.as_str())?, at_step(0, NotBool));
+    assert_eq!(rt; refusal(alloc, itself.as_str())?, at_step(0, NoSuchSource));
+    assert_eq!(rt; refusal(alloc, empty.as_str())?, at_source(0, NoColumn));
     Ok(())
 }
 
@@ -127,18 +231,9 @@ fn sources_in_order(rt: HostRuntime) -> Result<(), Fail> {
     let double = two_sources(alloc, twice, "", "{\"select\":[]}")?;
     let too_many = two_sources(alloc, ID_V, many.as_str(), "")?;
     let second = two_sources(alloc, ID_V, twice, "{\"select\":[]}")?;
-    assert_eq!(rt;
-        refusal(alloc, double.as_str())?,
-        at_source(0, StepFault::DoubleName)
-    );
-    assert_eq!(rt;
-        refusal(alloc, too_many.as_str())?,
-        at_source(1, StepFault::TooMany)
-    );
-    assert_eq!(rt;
-        refusal(alloc, second.as_str())?,
-        at_source(1, StepFault::DoubleName)
-    );
+    assert_eq!(rt; refusal(alloc, double.as_str())?, at_source(0, DoubleName));
+    assert_eq!(rt; refusal(alloc, too_many.as_str())?, at_source(1, TooMany));
+    assert_eq!(rt; refusal(alloc, second.as_str())?, at_source(1, DoubleName));
     Ok(())
 }
 
@@ -146,142 +241,30 @@ fn sources_in_order(rt: HostRuntime) -> Result<(), Fail> {
 #[test]
 fn refusals_in_order(rt: HostRuntime) -> Result<(), Fail> {
     let alloc = rt.alloc();
-    for (step, code) in [
-        (
-            r#"{"filter":["add",{"col":"w"},{"col":"t"}]}"#,
-            StepFault::NoSuchColumn,
-        ),
-        (
-            r#"{"filter":["add",{"col":"v"},{"col":"t"}]}"#,
-            StepFault::WrongKind,
-        ),
-        (r#"{"filter":["add",{"col":"v"},1]}"#, StepFault::NotBool),
-        (
-            r#"{"with_columns":[["p",["neg",{"col":"t"}]],["p",{"col":"w"}]]}"#,
-            StepFault::WrongKind,
-        ),
-        (
-            r#"{"with_columns":[["p",1],["p",{"col":"w"}]]}"#,
-            StepFault::NoSuchColumn,
-        ),
-        (
-            r#"{"with_columns":[["p",1],["p",2]]}"#,
-            StepFault::DoubleName,
-        ),
-        (r#"{"select":[]}"#, StepFault::NoColumn),
-        (
-            r#"{"select":[["p",["neg",{"col":"t"}]],["p",{"col":"w"}]]}"#,
-            StepFault::WrongKind,
-        ),
-        (
-            r#"{"select":[["p",1],["p",{"col":"w"}]]}"#,
-            StepFault::NoSuchColumn,
-        ),
-        (r#"{"select":[["p",1],["p",2]]}"#, StepFault::DoubleName),
-        (
-            r#"{"join":{"source":1,"on":[],"how":"inner"}}"#,
-            StepFault::NoSuchSource,
-        ),
-        (
-            r#"{"join":{"source":-1,"on":["w"],"how":"left"}}"#,
-            StepFault::NoSuchSource,
-        ),
-        (
-            r#"{"join":{"source":0,"on":[],"how":"inner"}}"#,
-            StepFault::NoColumn,
-        ),
-        (
-            r#"{"join":{"source":0,"on":["u","t"],"how":"inner"}}"#,
-            StepFault::NoSuchColumn,
-        ),
-        (
-            r#"{"join":{"source":0,"on":["v","t"],"how":"inner"}}"#,
-            StepFault::NoSuchColumn,
-        ),
-        (
-            r#"{"join":{"source":0,"on":["t","t"],"how":"inner"}}"#,
-            StepFault::WrongKind,
-        ),
-        (
-            r#"{"join":{"source":0,"on":["k","k"],"how":"inner"}}"#,
-            StepFault::DoubleName,
-        ),
-        (
-            r#"{"group_by":{"keys":[],"aggs":[["n","sum","w"]]}}"#,
-            StepFault::NoColumn,
-        ),
-        (
-            r#"{"group_by":{"keys":["k","w"],"aggs":[["n","sum","t"]]}}"#,
-            StepFault::NoSuchColumn,
-        ),
-        (
-            r#"{"group_by":{"keys":["k"],"aggs":[["n","sum","t"],["n","min","w"]]}}"#,
-            StepFault::WrongKind,
-        ),
-        (
-            r#"{"group_by":{"keys":["k"],"aggs":[["k","count","w"],["n","sum","t"]]}}"#,
-            StepFault::NoSuchColumn,
-        ),
-        (
-            r#"{"group_by":{"keys":["k"],"aggs":[["k","sum","v"]]}}"#,
-            StepFault::DoubleName,
-        ),
-        (
-            r#"{"rolling_sum":{"column":"w","window":0,"name":"r"}}"#,
-            StepFault::NoSuchColumn,
-        ),
-        (
-            r#"{"rolling_sum":{"column":"t","window":0,"name":"r"}}"#,
-            StepFault::WrongKind,
-        ),
-        (
-            r#"{"rolling_sum":{"column":"v","window":0,"name":"r"}}"#,
-            StepFault::Window,
-        ),
-        (
-            r#"{"rolling_sum":{"column":"v","window":65537,"min_samples":-1,"name":"r"}}"#,
-            StepFault::Window,
-        ),
-        (
-            r#"{"rolling_sum":{"column":"v","window":3,"min_samples":4,"name":"r"}}"#,
-            StepFault::Samples,
-        ),
-    ] {
-        assert_eq!(rt; step_refusal(alloc, step)?, at_step(0, code), "at {step}");
+    for (step, code) in &REFUSED_STEPS {
+        assert_eq!(rt; step_refusal(alloc, step)?, at_step(0, *code), "at {step}");
     }
     Ok(())
 }
 
-// With 64 columns, each step would make too many, and two of one name.
+// With 64 columns, each step would make too many, and two of one name where it can.
 #[test]
 fn too_many_columns(rt: HostRuntime) -> Result<(), Fail> {
     let alloc = rt.alloc();
-    let main = columns(alloc, 64)?;
-    let join = r#"["c0","int"],["d","int"],["c1","int"],["c1_right","int"]"#;
-    let mut items = String::new(alloc);
-    let mut aggs = String::new(alloc);
-    for _ in 0..64 {
-        items.push_str(r#"["p",1],"#)?;
-        aggs.push_str(r#"["n","len"],"#)?;
-    }
-    let steps = [
-        String::from_str(alloc, r#"{"with_columns":[["p",1],["p",2]]}"#)?,
-        format!(in alloc; r#"{{"select":[{items}["p",1]]}}"#)?,
-        String::from_str(
-            alloc,
-            r#"{"join":{"source":0,"on":["c0","c0"],"how":"inner"}}"#,
-        )?,
-        format!(in alloc; r#"{{"group_by":{{"keys":["c0"],"aggs":[{aggs}["n","len"]]}}}}"#)?,
-        String::from_str(
-            alloc,
-            r#"{"rolling_sum":{"column":"c0","window":1,"name":"r"}}"#,
-        )?,
-    ];
-    for step in &steps {
-        let text = two_sources(alloc, join, main.as_str(), step.as_str())?;
+    let items = repeated(alloc, r#"["p",1]"#, 65)?;
+    let aggs = repeated(alloc, r#"["n","len"]"#, 65)?;
+    let select = format!(in alloc; r#"{{"select":[{items}]}}"#)?;
+    let group = format!(in alloc; r#"{{"group_by":{{"keys":["c0"],"aggs":[{aggs}]}}}}"#)?;
+    for step in [
+        r#"{"with_columns":[["p",1],["p",2]]}"#,
+        select.as_str(),
+        r#"{"join":{"source":0,"on":["c0","c0"],"how":"inner"}}"#,
+        group.as_str(),
+        r#"{"rolling_sum":{"column":"c0","window":1,"name":"r"}}"#,
+    ] {
         assert_eq!(rt;
-            refusal(alloc, text.as_str())?,
-            at_step(0, StepFault::TooMany),
+            wide_refusal(alloc, step)?,
+            at_step(0, TooMany),
             "at {step}"
         );
     }
@@ -300,22 +283,10 @@ fn steps_in_order(rt: HostRuntime) -> Result<(), Fail> {
         r#"{"rolling_sum":{"column":"v","window":2,"name":"t"}},{"filter":["gt",{"col":"t"},1]},{"select":[]}"#;
     let joined =
         r#"{"join":{"source":0,"on":["k"],"how":"left"}},{"filter":["eq",{"col":"t_right"},"x"]},{"filter":{"col":"u"}}"#;
-    assert_eq!(rt;
-        step_refusal(alloc, selected)?,
-        at_step(1, StepFault::NoSuchColumn)
-    );
-    assert_eq!(rt;
-        step_refusal(alloc, grouped)?,
-        at_step(2, StepFault::NotBool)
-    );
-    assert_eq!(rt;
-        step_refusal(alloc, rolled)?,
-        at_step(2, StepFault::NoColumn)
-    );
-    assert_eq!(rt;
-        step_refusal(alloc, joined)?,
-        at_step(2, StepFault::NotBool)
-    );
+    assert_eq!(rt; step_refusal(alloc, selected)?, at_step(1, NoSuchColumn));
+    assert_eq!(rt; step_refusal(alloc, grouped)?, at_step(2, NotBool));
+    assert_eq!(rt; step_refusal(alloc, rolled)?, at_step(2, NoColumn));
+    assert_eq!(rt; step_refusal(alloc, joined)?, at_step(2, NotBool));
     Ok(())
 }
 
@@ -329,13 +300,7 @@ fn output_names_that_are_equal(rt: HostRuntime) -> Result<(), Fail> {
     let left = two_sources(alloc, k_v, k_v_right, join)?;
     let right = two_sources(alloc, k_v_right, k_v, join)?;
     assert_eq!(rt; refusal(alloc, suffixed.as_str())?, None);
-    assert_eq!(rt;
-        refusal(alloc, left.as_str())?,
-        at_step(0, StepFault::DoubleName)
-    );
-    assert_eq!(rt;
-        refusal(alloc, right.as_str())?,
-        at_step(0, StepFault::DoubleName)
-    );
+    assert_eq!(rt; refusal(alloc, left.as_str())?, at_step(0, DoubleName));
+    assert_eq!(rt; refusal(alloc, right.as_str())?, at_step(0, DoubleName));
     Ok(())
 }
