@@ -1,9 +1,8 @@
-//! Joins and rolling sums over batches that come one after another, and the schemas that joins, groups and rolling sums
-//! leave.
+//! Joins, groupings and rolling sums over batches that come one after another, and the schemas that they leave.
 //!
-//! A [`JoinTable`] keeps the right side of a join and is probed with one left batch after another. A [`Rolling`] takes
-//! columns one after another, and answers as if all had come in one. The definitions in `specs/` speak of whole lists of
-//! rows, with no batch and no hashed table.
+//! A [`JoinTable`] keeps the right side of a join and is probed with one left batch after another. A [`Grouper`] takes
+//! one batch after another, and a [`Rolling`] one column, and both answer as if all had come in one. The definitions in
+//! `specs/` speak of whole lists of rows, with no batch and no hashed table.
 #![tactic(auto)]
 
 mod accumulators;

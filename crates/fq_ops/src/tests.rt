@@ -1,4 +1,6 @@
+mod groups;
 mod joins;
+mod rolls;
 
 use crate::{Agg, Rolling, What, group_schema, join_schema, roll_schema};
 use fq_column::{Array, Cell, Column, Kind, Schema, StepFault, Values};
