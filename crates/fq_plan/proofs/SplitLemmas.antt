@@ -91,7 +91,7 @@ length-parts (group_by keys aggs ∷ steps) = omega arith
 length-parts (rolling_sum column window m name ∷ steps) = omega arith
 
 -- as many steps as before
-pub length-split : (steps : List PlannedStep) (leading : List RowStep) (rest : List PlannedStep) → IsSplit steps leading rest → length leading + length rest ≡ length (map plan_step_of steps)
+length-split : (steps : List PlannedStep) (leading : List RowStep) (rest : List PlannedStep) → IsSplit steps leading rest → length leading + length rest ≡ length (map plan_step_of steps)
 length-split steps leading rest h = omega (
   arith,
   length-parts (map plan_step_of steps),
@@ -100,6 +100,11 @@ length-split steps leading rest h = omega (
   ap length h.front,
   ap length h.after,
 )
+
+-- so few steps are few, taken apart
+pub few-split : (steps : List PlannedStep) (leading : List RowStep) (rest : List PlannedStep) → map step_of leading ≡ front_of (map plan_step_of steps) → map plan_step_of rest ≡ rest_of (map plan_step_of steps) →
+    length (map plan_step_of steps) ≤ 64 → length leading + length rest ≤ 64
+few-split steps leading rest front after few = omega (arith, few, length-split steps leading rest (record { front = front; after = after }))
 
 none : {X : Type 0} (xs : List X) → length xs ≡ 0 → xs ≡ []
 none [] e = refl

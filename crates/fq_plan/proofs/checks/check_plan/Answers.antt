@@ -12,28 +12,36 @@ use Rattle.fq_plan.specs.Plan.{Source, PlanStep, Query, IsWithinLimits, row_wise
 use Rattle.fq_plan.specs.Stages.{checked_fields, checked_source_data, query_of, stage_steps, IsChecked, Leads}
 use Rattle.fq_plan.specs.View.{plan_step_of, source_data}
 use Rattle.fq_plan.proofs.PreparedLemmas.{checked-is, leading-refuses, prepared, stages-refuse, steps-are}
-use Rattle.fq_plan.proofs.SplitLemmas.{IsSplit, length-split}
+use Rattle.fq_plan.proofs.SplitLemmas.{few-split}
 use Rattle.fq_plan.proofs.checks.check_plan.Goals as goal
 
 pub check_leading-requires : goal.check_leading-requires
 check_leading-requires c =
-    let split : IsSplit c.plan.inside.steps.items c.in_ok-leading.leading.items c.in_ok-leading.rest.items = record { front = c.in_ok-leading.ensures.leading; after = c.in_ok-leading.ensures.rest } in
-    omega (arith, ap length c.as_slice.ensures.value, length-split _ _ _ split, c.plan.invariant.few_steps)
+    let steps = c.plan.inside.steps.items in
+    let leading = c.in_ok-leading.leading.items in
+    let rest = c.in_ok-leading.rest.items in
+    omega (arith, ap length c.as_slice.ensures.value, few-split steps leading rest c.in_ok-leading.ensures.leading c.in_ok-leading.ensures.rest c.plan.invariant.few_steps)
 
 pub overflow_cast-len : goal.overflow_cast-len
 overflow_cast-len c =
-    let split : IsSplit c.plan.inside.steps.items c.in_ok-leading.leading.items c.in_ok-leading.rest.items = record { front = c.in_ok-leading.ensures.leading; after = c.in_ok-leading.ensures.rest } in
-    omega (arith, c.len.ensures, c.in_ok-leading.leading.ok.0, length-split _ _ _ split, c.plan.invariant.few_steps)
+    let steps = c.plan.inside.steps.items in
+    let leading = c.in_ok-leading.leading.items in
+    let rest = c.in_ok-leading.rest.items in
+    omega (arith, c.len.ensures, c.in_ok-leading.leading.ok.0, few-split steps leading rest c.in_ok-leading.ensures.leading c.in_ok-leading.ensures.rest c.plan.invariant.few_steps)
 
 pub check_stages-requires : goal.check_stages-requires
 check_stages-requires c =
-    let split : IsSplit c.plan.inside.steps.items c.in_ok-leading.leading.items c.in_ok-leading.rest.items = record { front = c.in_ok-leading.ensures.leading; after = c.in_ok-leading.ensures.rest } in
-    omega (arith, c.len.ensures, c.in_ok-leading.leading.ok.0, c.in_ok-leading.rest.ok.0, length-split _ _ _ split, c.plan.invariant.few_steps)
+    let steps = c.plan.inside.steps.items in
+    let leading = c.in_ok-leading.leading.items in
+    let rest = c.in_ok-leading.rest.items in
+    omega (arith, c.len.ensures, c.in_ok-leading.leading.ok.0, c.in_ok-leading.rest.ok.0, few-split steps leading rest c.in_ok-leading.ensures.leading c.in_ok-leading.ensures.rest c.plan.invariant.few_steps)
 
 pub new-requires-clause-numbers : goal.new-requires-clause-numbers
 new-requires-clause-numbers c =
-    let split : IsSplit c.plan.inside.steps.items c.in_ok-leading.leading.items c.in_ok-leading.rest.items = record { front = c.in_ok-leading.ensures.leading; after = c.in_ok-leading.ensures.rest } in
-    omega (arith, c.in_ok-leading.leading.ok.0, length-split _ _ _ split, c.plan.invariant.few_steps)
+    let steps = c.plan.inside.steps.items in
+    let leading = c.in_ok-leading.leading.items in
+    let rest = c.in_ok-leading.rest.items in
+    omega (arith, c.in_ok-leading.leading.ok.0, few-split steps leading rest c.in_ok-leading.ensures.leading c.in_ok-leading.ensures.rest c.plan.invariant.few_steps)
 
 pub returns-in_err-schema-clause-refused : goal.returns-in_err-schema-clause-refused
 returns-in_err-schema-clause-refused c =
