@@ -32,7 +32,7 @@ pub struct Stepped {
 
 impl RowStep {
     /// The step on the rows of a batch.
-    pub fn apply(&self, alloc: Global, batch: Batch) -> Result<Stepped, Memory>
+    pub(crate) fn apply(&self, alloc: Global, batch: Batch) -> Result<Stepped, Memory>
         requires { IsOk (step_schema batch.fields (step_of self.now)) }
         ensures fields { IfOk result (λ s. s.batch.fields ≡ fields_after batch.fields (step_of self.now)) }
         ensures rows { let u = one_by_one (rows_after batch.fields (step_of self.now)) batch.rows in

@@ -29,7 +29,6 @@ mod operations;
 mod operators;
 mod steps;
 
-pub use application::Stepped;
 pub use evaluation::eval;
 pub use expressions::{Binary, Expr, Unary};
 pub use fronts::{Front, Piece, RowFault};

@@ -316,7 +316,7 @@ accepted checks x ok = by (first_refusal checks) refl
         refused : IsOk (chosen x (Some f)) → ⊥
         refused h = grind arith
 
-none-first : (b : Bool) (f : StepFault) (rest : List (Option StepFault)) → first_refusal (refuse_if b f ∷ rest) ≡ None → (b ≡ false) × (first_refusal rest ≡ None)
+pub none-first : (b : Bool) (f : StepFault) (rest : List (Option StepFault)) → first_refusal (refuse_if b f ∷ rest) ≡ None → (b ≡ false) × (first_refusal rest ≡ None)
 none-first true f rest e = absurd (cc)
 none-first false f rest e = (refl, e)
 

@@ -5,6 +5,7 @@ pub mod LimitLemmas
 pub mod RowPlanLemmas
 pub mod BatchLemmas
 pub mod TailLemmas
+pub mod StageLemmas
 pub mod OnLiterals
 pub mod CheckLemmas
 pub mod SplitLemmas

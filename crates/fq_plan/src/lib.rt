@@ -4,6 +4,7 @@
 #![tactic(auto)]
 
 mod checks;
+mod evaluation;
 #[cfg(test)]
 mod examples;
 mod faults;
@@ -11,6 +12,7 @@ mod laws;
 mod plans;
 mod reading;
 mod rowwise;
+mod staged;
 mod stages;
 #[cfg(test)]
 mod tests;
