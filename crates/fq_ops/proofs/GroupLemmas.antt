@@ -207,7 +207,7 @@ position-within p (x ∷ xs) = by (p x) refl (position-within p xs)
 same_cells : (a b : Cell) → eq-value.it a b ≡ same_cell a b
 same_cells a b = search rules
 
-same_cell_laws : IsEquivalence same_cell
+pub same_cell_laws : IsEquivalence same_cell
 same_cell_laws = subst (λ E. IsEquivalence E) (same_fn eq-value.it same_cell same_cells) laws-law
 
 -- equality of keys is an equivalence

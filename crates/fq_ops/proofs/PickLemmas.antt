@@ -178,7 +178,7 @@ pub column-by : {X Y : Type 0} (column : Cells) (k : Kind) (cells : List Cell) (
     (let c : Cells = record { kind = column.kind; cells = map (at column.cells) places } in c) ≡ column_of xs (k, λ x. at cells (part x))
 column-by column k cells at part xs places e g h = λ i. record { kind = e i; cells = (ap (map (at column.cells)) h ∙ ap (λ cs. map (at cs) (map part xs)) g ∙ map-map (at cells) part xs) i }
 
-columns-push : {X : Type 0} (picks : List (Pick X)) (p : Pick X) (xs : List X) → columns_of (picks ++ p ∷ []) xs ≡ columns_of picks xs ++ column_of xs p ∷ []
+pub columns-push : {X : Type 0} (picks : List (Pick X)) (p : Pick X) (xs : List X) → columns_of (picks ++ p ∷ []) xs ≡ columns_of picks xs ++ column_of xs p ∷ []
 columns-push picks p xs = map-append (column_of xs) picks (p ∷ [])
 
 module _ {X : Type 0} (wanted : Name → Bool) (value : ℕ → X → Cell) (before : List (Pick X)) (fields : Fields) (i : ℕ) (f : Field) (at : slice_get fields i ≡ Some f) (xs : List X) where

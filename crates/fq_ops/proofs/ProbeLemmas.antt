@@ -30,7 +30,7 @@ module _ {X : Type 0} where
   AllIn-append P [] ys a b = b
   AllIn-append P (x ∷ xs) ys a b = (a.0, AllIn-append P xs ys a.1 b)
 
-  AllIn-filter : (P : X → Type 0) (p : X → Bool) (xs : List X) → AllIn P xs → AllIn P (filter p xs)
+  pub AllIn-filter : (P : X → Type 0) (p : X → Bool) (xs : List X) → AllIn P xs → AllIn P (filter p xs)
   AllIn-filter P p [] a = tt
   AllIn-filter P p (x ∷ xs) a = by (p x) refl (AllIn-filter P p xs a.1)
     where
@@ -46,7 +46,7 @@ AllIn-range : (n a k : ℕ) → a + k ≤ n → AllIn (λ i. i < n) (range_with_
 AllIn-range n a zero h = tt
 AllIn-range n a (suc k) h = (omega (arith, h), AllIn-range n (a + 1) k (omega (arith, h)))
 
-AllIn-map : {X Y : Type 0} (P : Y → Type 0) (Q : X → Type 0) (f : X → Y) → ((x : X) → Q x → P (f x)) → (xs : List X) → AllIn Q xs → AllIn P (map f xs)
+pub AllIn-map : {X Y : Type 0} (P : Y → Type 0) (Q : X → Type 0) (f : X → Y) → ((x : X) → Q x → P (f x)) → (xs : List X) → AllIn Q xs → AllIn P (map f xs)
 AllIn-map P Q f g [] a = tt
 AllIn-map P Q f g (x ∷ xs) a = (g x a.0, AllIn-map P Q f g xs a.1)
 

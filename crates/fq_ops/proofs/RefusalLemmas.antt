@@ -79,7 +79,7 @@ module _ (fields : Fields) (keys : List Name) (outputs : List Output) where
   abbrev aggregate_judged : List Judged
   aggregate_judged = map (λ o. (o.0, aggregate_kind fields o.1)) outputs
 
-  abbrev ending : List (Option StepFault)
+  abbrev pub ending : List (Option StepFault)
   ending = refuse_if (nat_lt 64 (length (grouped_names keys outputs))) TooMany ∷ refuse_if (not (is_distinct same_name (grouped_names keys outputs))) DoubleName ∷ []
 
   refusals-split : refusals (grouped_kinds fields keys outputs) ≡ refusals key_judged ++ refusals aggregate_judged
@@ -320,17 +320,17 @@ pub none-first : (b : Bool) (f : StepFault) (rest : List (Option StepFault)) →
 none-first true f rest e = absurd (cc)
 none-first false f rest e = (refl, e)
 
-none-both : (xs ys : List (Option StepFault)) → first_refusal (xs ++ ys) ≡ None → (first_refusal xs ≡ None) × (first_refusal ys ≡ None)
+pub none-both : (xs ys : List (Option StepFault)) → first_refusal (xs ++ ys) ≡ None → (first_refusal xs ≡ None) × (first_refusal ys ≡ None)
 none-both [] ys e = (refl, e)
 none-both (None ∷ xs) ys e = none-both xs ys e
 none-both (Some f ∷ xs) ys e = absurd (cc)
 
-none-each : {X : Type 0} (checks : X → List (Option StepFault)) (xs : List X) → first_refusal (flat_map checks xs) ≡ None → (k : ℕ) (d : X) → k < length xs → first_refusal (checks (get_or xs k d)) ≡ None
+pub none-each : {X : Type 0} (checks : X → List (Option StepFault)) (xs : List X) → first_refusal (flat_map checks xs) ≡ None → (k : ℕ) (d : X) → k < length xs → first_refusal (checks (get_or xs k d)) ≡ None
 none-each checks [] e k d low = absurd (omega (arith, low))
 none-each checks (x ∷ xs) e zero d low = (none-both (checks x) (flat_map checks xs) e).0
 none-each checks (x ∷ xs) e (suc k) d low = none-each checks xs (none-both (checks x) (flat_map checks xs) e).1 k d (omega (arith, low))
 
-kept-true : (b : Bool) → not b ≡ false → b ≡ true
+pub kept-true : (b : Bool) → not b ≡ false → b ≡ true
 kept-true true e = refl
 kept-true false e = absurd (cc)
 

@@ -26,7 +26,7 @@ range-more a (suc n) = ap (λ l. a ∷ l) (range-more (a + 1) n ∙ ap (λ k. ra
 pub numbers-more : (n : ℕ) → numbers (n + 1) ≡ numbers n ++ n ∷ []
 numbers-more n = ap numbers (let e : n + 1 ≡ suc n = omega arith in e) ∙ range-more 0 n ∙ ap (λ k. numbers n ++ k ∷ []) (let e : 0 + n ≡ n = omega arith in e)
 
-map-range : {X : Type 0} (f g : ℕ → X) (a n : ℕ) → ((i : ℕ) → i < a + n → f i ≡ g i) → map f (range_with_len a n) ≡ map g (range_with_len a n)
+pub map-range : {X : Type 0} (f g : ℕ → X) (a n : ℕ) → ((i : ℕ) → i < a + n → f i ≡ g i) → map f (range_with_len a n) ≡ map g (range_with_len a n)
 map-range f g a zero h = refl
 map-range f g a (suc n) h = λ i. h a (omega arith) i ∷ map-range f g (a + 1) n (λ j b. h j (omega (arith, b))) i
 

@@ -1,7 +1,9 @@
+pub mod Accumulated
 pub mod Aggregate
 pub mod Examples
 pub mod Fed
 pub mod Fields
+pub mod Gathered
 pub mod Group
 pub mod Grouping
 pub mod Indexed
@@ -10,6 +12,7 @@ pub mod Meaning
 pub mod Pairs
 pub mod Picks
 pub mod Roll
+pub mod Running
 pub mod Sums
 pub mod Table
 pub mod Taken

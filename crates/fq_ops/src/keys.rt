@@ -1,5 +1,5 @@
 // Keys of joins and groups: the values of a row in the key columns.
-ghost use Rattle.std.specs.Prelude.{◌≡◌, ◌<◌, ◌≤◌, List, [], ◌∷◌, length, replicate, All, IfOk, OnOk, slice_index_or};
+ghost use Rattle.std.specs.Prelude.{◌≡◌, ◌<◌, ◌≤◌, List, [], ◌∷◌, length, replicate, All, IfOk, OnOk, slice_get, slice_index_or, option_copied};
 ghost use Rattle.std.specs.Cmp.Lexicographic.{pointwise, lists_per, lists_equiv};
 ghost use Rattle.std.specs.List.{list_any};
 ghost use Rattle.fq_column.specs.Cell.{is_null};
@@ -86,6 +86,16 @@ impl Key {
             first: copy_cell(alloc, &self.first)?,
             rest,
         })
+    }
+
+    /// The value in a key column.
+    pub fn cell(&self, place: usize) -> Option<&Cell>
+        ensures { option_copied result ≡ slice_get self.now place }
+    {
+        if place == 0 {
+            return Some(&self.first);
+        }
+        self.rest.get(place - 1)
     }
 
     /// Whether a value is null.

@@ -6,18 +6,23 @@
 //! rows, with no batch and no hashed table.
 #![tactic(auto)]
 
+mod accumulators;
 mod aggregates;
 mod fields;
+mod groups;
 mod index;
 mod joins;
 mod keys;
 mod pairs;
 mod rolls;
+mod running;
 mod schemas;
 mod sums;
 
 pub use aggregates::{Agg, What};
+pub use groups::{GroupFault, Grouper};
 pub use joins::{How, JoinTable, Probed, join_laws};
+pub use joins::{How, JoinTable, Probed};
 pub use rolls::Rolling;
 pub use schemas::{group_schema, join_schema, roll_schema};
 

@@ -1,0 +1,54 @@
+use Rattle.std.proofs.Common.{◌≡◌, ◌<◌, ◌-◌, Ok, Some, None, length, subst, sym, ap, ◌∙◌, arith}
+use Rattle.fq_column.specs.declared.faults.BatchFault.{BatchFault}
+use Rattle.fq_column.specs.Batch.{batch_fault, frame_of}
+use Rattle.fq_column.specs.Frame.{Frame, kinds_of}
+use Rattle.fq_column.specs.Lists.{numbers}
+use Rattle.fq_ops.specs.Accumulated.{first_found, group_picks, out_of_range_in}
+use Rattle.fq_ops.specs.Gathered.{Gathered, HasTakenRows}
+use Rattle.fq_ops.specs.Group.{grouped}
+use Rattle.fq_ops.specs.Picks.{columns_of}
+use Rattle.fq_ops.proofs.GroupedLemmas.{picks-count, picks-kinds, taken-fits, taken-not}
+use Rattle.fq_ops.proofs.PickLemmas.{frame-picked, no-fault}
+use Rattle.fq_ops.proofs.groups.Grouper.finish.Goals as goal
+
+apart : (f : BatchFault) → Some f ≡ None → ⊥
+apart f e = cc
+
+pub returns-in-Some-clause-fault : goal.returns-in-Some-clause-fault
+returns-in-Some-clause-fault c = λ names outputs rows h.
+    let own = subst (λ (g : Gathered). HasTakenRows g names outputs rows) (sym c.self.view_is) h in
+    let inside = c.self.inside in
+    let found : first_found (out_of_range_in inside.accumulators.items) (numbers (length inside.seen.keys)) ≡ Some c.in-Some.item =
+    (λ i. first_found (out_of_range_in (sym c.as_slice.ensures.value i)) (numbers (length (sym c.as_slice-keys.ensures.keys i)))) ∙ sym c.in-Some.ensures.found in
+    ap (λ (g : Gathered). grouped g.fields names outputs rows) (sym c.self.view_is) ∙ taken-not _ names outputs rows own c.in-Some.item found
+
+pub unreachable-requires : goal.unreachable-requires
+unreachable-requires c =
+    let output = c.self.inside.output in
+    let accumulators = c.as_slice-2.result.now in
+    let seen = c.as_slice-keys.result.now in
+    let places = length output - length accumulators in
+    let picks = group_picks places seen accumulators (kinds_of output) (length output) in
+    let some : 0 < length picks = omega (arith, picks-count places seen accumulators output, c.self.invariant.width, c.self.invariant.some) in
+    let none = no-fault (numbers (length seen)) output picks (picks-kinds places seen accumulators output) some in
+    apart c.in-Err.field-0.0 (sym c.in-Err.ensures.refused ∙ ap (batch_fault output) c.in-Ok.ensures ∙ none)
+
+pub returns-clause-rows : goal.returns-clause-rows
+returns-clause-rows c = λ names outputs rows h.
+    let own = subst (λ (g : Gathered). HasTakenRows g names outputs rows) (sym c.self.view_is) h in
+    let inside = c.self.inside in
+    let output = inside.output in
+    let accumulators = inside.accumulators.items in
+    let seen = inside.seen.keys in
+    let places = length output - length accumulators in
+    let picks = group_picks places seen accumulators (kinds_of output) (length output) in
+    let some : 0 < length picks = omega (arith, picks-count places seen accumulators output, c.self.invariant.width, c.self.invariant.some) in
+    let none : first_found (out_of_range_in accumulators) (numbers (length seen)) ≡ None =
+    (λ i. first_found (out_of_range_in (sym c.as_slice.ensures.value i)) (numbers (length (sym c.as_slice-keys.ensures.keys i)))) ∙ sym c.in_default.ensures.found in
+    let columns : c.in-Ok.columns.items ≡ columns_of picks (numbers (length seen)) =
+    c.in-Ok.ensures ∙ (λ i. columns_of (group_picks (length output - length (c.as_slice-2.ensures.value i)) (c.as_slice-keys.ensures.keys i) (c.as_slice-2.ensures.value i) (kinds_of output) (length output)) (numbers (length (c.as_slice-keys.ensures.keys i)))) in
+    ap (λ (g : Gathered). grouped g.fields names outputs rows) (sym c.self.view_is)
+    ∙ taken-fits _ names outputs rows own none
+    ∙ ap Ok (sym (ap (λ (f : Frame). f.rows) c.in-Ok-from_columns.ensures.ok
+    ∙ ap (λ cs. (frame_of output cs).rows) columns
+    ∙ frame-picked (numbers (length seen)) output picks some))

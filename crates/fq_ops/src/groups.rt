@@ -1,0 +1,334 @@
+// Groups of rows over batches that come one after another.
+ghost use Rattle.std.specs.Prelude.{◌≡◌, ◌+◌, ◌-◌, ◌<◌, ◌≤◌, ◌^◌, ◌++◌, ◌⊎◌, ℕ, List, [], ◌∷◌, All, true, false, length, map, string_bytes, Ok, Err, IfOk, IfErr, IfSome, IsOk, OnOk, OnErr};
+ghost use Rattle.indexmap.specs.IndexSet.{insert_all};
+ghost use Rattle.fq_column.specs.Frame.{IsFrame, Name, Row, kinds_of};
+ghost use Rattle.fq_column.specs.Lists.{numbers};
+ghost use Rattle.fq_ops.specs.Accumulated.{IsAccumulator, accumulated, first_found, group_picks, key_pick, numbers_along, out_of_range_in};
+ghost use Rattle.fq_ops.specs.Aggregate.{Output};
+ghost use Rattle.fq_ops.specs.Gathered.{HasTakenRows, IsFaultOf, fresh, function_of, place_named, place_of};
+ghost use Rattle.fq_ops.specs.Group.{group_schema as judged_grouping, grouped, grouped_fields, same_key};
+ghost use Rattle.fq_ops.specs.Grouping.{key_at};
+ghost use Rattle.fq_ops.specs.Meaning.{aggregate_of, outputs_of};
+ghost use Rattle.fq_ops.specs.Picks.{column_of, columns_of};
+ghost use Rattle.fq_ops.specs.Running.{IsBoundedBy};
+
+use crate::accumulators::Accumulator;
+use crate::aggregates::{Agg, What};
+use crate::fields::positions;
+use crate::index::number_of;
+use crate::keys::Key;
+use crate::running::{Function, push_cell};
+use crate::schemas::group_schema;
+use fq_column::{Batch, Column, Kind, Memory, Schema};
+use indexmap::IndexSet;
+use std::alloc::Global;
+use std::marker::Model;
+
+/// Why a grouping gives no rows.
+#[derive(Clone, Copy, Debug, PartialEq, Eq)]
+pub enum GroupFault {
+    /// The sum of an aggregate does not fit 64 bits in a group: the lowest such aggregate of the first such group.
+    SumRange {
+        /// The aggregate, counted from 0.
+        item: u16,
+    },
+    /// A growth was refused.
+    Memory,
+}
+
+/// A grouping over batches that come one after another, which are taken as one long list of rows.
+///
+/// It keeps a running value for each aggregate and group, and one copy of each key. Groups are numbered in the order of
+/// their first rows, so that no order is lost in the hashed set of keys.
+#[derive(Drop)]
+pub struct Grouper {
+    schema: Schema,
+    output: Schema,
+    places: Vec<usize>,
+    seen: IndexSet<Key>,
+    accumulators: Vec<Accumulator>,
+    rows_taken: u64,
+    failed: bool,
+}
+
+impl Model for Grouper {
+    ghost use Rattle.fq_ops.specs.Gathered.{Gathered};
+
+    ghost Value = { Gathered };
+
+    ghost use Rattle.fq_ops.specs.Gathered.{IsReady};
+
+    ghost view = { λ g. record { fields = g.schema; output = g.output; taken = g.rows_taken; failed = g.failed; places = g.places.items; seen = g.seen.keys; accumulators = g.accumulators.items } };
+
+    ghost invariant = { λ g. IsReady (record { fields = g.schema; output = g.output; taken = g.rows_taken; failed = g.failed; places = g.places.items; seen = g.seen.keys; accumulators = g.accumulators.items }) };
+}
+
+impl Grouper {
+    /// A grouping of these columns that has taken no row: by the columns of these names, of which each aggregate is an
+    /// output. The schema that it leaves is one that `group_schema` does not refuse.
+    pub fn new(
+        alloc: Global,
+        schema: Schema,
+        keys: &[String],
+        aggs: &[Agg],
+    ) -> Result<Grouper, Memory>
+        requires { IsOk (judged_grouping schema (map string_bytes keys.now) (outputs_of aggs.now)) }
+        ensures fields { IfOk result (λ g. g.fields ≡ schema) }
+        ensures output { IfOk result (λ g. g.output ≡ grouped_fields schema (map string_bytes keys.now) (outputs_of aggs.now)) }
+        ensures rows { IfOk result (λ g. g.taken ≡ 0) }
+        ensures ok { IfOk result (λ g. g.failed ≡ false) }
+        ensures taken { IfOk result (λ g. HasTakenRows g (map string_bytes keys.now) (outputs_of aggs.now) []) }
+    {
+        let Ok(output) = group_schema(alloc, &schema, keys, aggs) else {
+            return Err(Memory);
+        };
+        let places = positions(alloc, &schema, keys)?;
+        let accumulators = accumulators_of(alloc, &schema, aggs)?;
+        Ok(Grouper {
+            schema,
+            output,
+            places,
+            seen: IndexSet::new(alloc),
+            accumulators,
+            rows_taken: 0,
+            failed: false,
+        })
+    }
+
+    /// Takes the rows of a batch of the grouper's columns: one lookup for each row, then one pass for each aggregate. A
+    /// refusal for memory is for good: the grouper has failed, and its number of rows stays.
+    pub fn take(&mut self, alloc: Global, batch: &Batch) -> Result<(), Memory>
+        requires fields { batch.now.fields ≡ self.old.fields }
+        requires room { self.old.taken + length batch.now.rows ≤ 2 ^ 40 }
+        ensures shape { (self.new.fields ≡ self.old.fields) × (self.new.output ≡ self.old.output) }
+        ensures taken { OnOk result ((keys : List Name) (outputs : List Output) (rows : List Row) →
+            HasTakenRows self.old keys outputs rows → HasTakenRows self.new keys outputs (rows ++ batch.now.rows)) }
+        ensures rows { OnOk result (self.new.taken ≡ self.old.taken + length batch.now.rows) }
+        ensures ok { OnOk result (self.new.failed ≡ false) }
+        ensures failed { OnErr result (self.new.failed ≡ true) }
+        ensures stays { OnErr result (self.new.taken ≡ self.old.taken) }
+        ensures for_good { self.old.failed ≡ true → result ≡ Err record {} }
+    {
+        if self.failed {
+            return Err(Memory);
+        }
+        self.failed = true;
+        let numbers = number_rows(alloc, &mut self.seen, self.places.as_slice(), batch)?;
+        let groups = self.seen.len();
+        accumulate(
+            alloc,
+            &mut self.accumulators,
+            batch,
+            numbers.as_slice(),
+            groups,
+        )?;
+        self.rows_taken += numbers.len() as u64;
+        self.failed = false;
+        Ok(())
+    }
+
+    /// How many rows it has taken, without those of a batch that was refused.
+    pub fn rows_taken(&self) -> u64
+        ensures { result ≡ self.now.taken }
+    {
+        self.rows_taken
+    }
+
+    /// The rows of the groups, in the order of their first rows: the keys, then the aggregates.
+    ///
+    /// A grouping in which a sum does not fit 64 bits gives no row: `SumRange` names the first such group's lowest such
+    /// aggregate. Sums are judged here alone, so that no order of the rows makes a fault. `Memory` where a growth was
+    /// refused, now or in an earlier `take`.
+    pub fn finish(self, alloc: Global) -> Result<Batch, GroupFault>
+        ensures for_good { self.failed ≡ true → result ≡ Err GroupFault.Memory }
+        ensures fields { IfOk result (λ b. b.fields ≡ self.output) }
+        ensures rows { IfOk result (λ b. (keys : List Name) (outputs : List Output) (rows : List Row) →
+            HasTakenRows self keys outputs rows → grouped self.fields keys outputs rows ≡ Ok b.rows) }
+        ensures fault { IfErr result (λ fault. (keys : List Name) (outputs : List Output) (rows : List Row) →
+            HasTakenRows self keys outputs rows → IsFaultOf (grouped self.fields keys outputs rows) fault) }
+    {
+        let Grouper {
+            schema: _,
+            output,
+            places: _,
+            seen,
+            accumulators,
+            rows_taken: _,
+            failed,
+        } = self;
+        if failed {
+            return Err(GroupFault::Memory);
+        }
+        let keys = seen.as_slice();
+        if let Some(item) = first_unfit(accumulators.as_slice(), keys.len()) {
+            return Err(GroupFault::SumRange { item: item as u16 });
+        }
+        let Ok(columns) = gather(alloc, &output, keys, accumulators.as_slice()) else {
+            return Err(GroupFault::Memory);
+        };
+        match Batch::from_columns(output, columns) {
+            Ok(batch) => Ok(batch),
+            Err(_) => unreachable!(),
+        }
+    }
+}
+
+// An accumulator with no group for each aggregate.
+fn accumulators_of(alloc: Global, schema: &Schema, aggs: &[Agg]) -> Result<Vec<Accumulator>, Memory>
+    requires { 1 ≤ length schema.now }
+    ensures made { IfOk result (λ all. all.items ≡ map (fresh schema.now) (outputs_of aggs.now)) }
+    ensures columns { IfOk result (λ all. All (λ a. a.column < length schema.now) all.items) }
+{
+    let mut accumulators = Vec::with_capacity(alloc, aggs.len())?;
+    for agg in aggs {
+        let (function, column) = resolve(schema, &agg.what);
+        accumulators.push(Accumulator::new(alloc, function, column))?;
+    }
+    Ok(accumulators)
+}
+
+// The function of an aggregate and the place of its column, or 0 where it reads none.
+fn resolve(schema: &Schema, what: &What) -> (Function, usize)
+    requires { 1 ≤ length schema.now }
+    ensures function { result.0 ≡ function_of (aggregate_of what.now) }
+    ensures column { result.1 ≡ place_of schema.now (aggregate_of what.now) }
+    ensures within { result.1 < length schema.now }
+{
+    match what {
+        What::Sum(name) => (Function::Sum, place_of_name(schema, name.as_str())),
+        What::Min(name) => (Function::Min, place_of_name(schema, name.as_str())),
+        What::Max(name) => (Function::Max, place_of_name(schema, name.as_str())),
+        What::Count(name) => (Function::Count, place_of_name(schema, name.as_str())),
+        What::Len => (Function::Len, 0),
+        What::First(name) => (Function::First, place_of_name(schema, name.as_str())),
+        What::Last(name) => (Function::Last, place_of_name(schema, name.as_str())),
+        What::NUnique(name) => (Function::NUnique, place_of_name(schema, name.as_str())),
+    }
+}
+
+// The place of a named column, or 0.
+fn place_of_name(schema: &Schema, name: &str) -> usize
+    requires { 1 ≤ length schema.now }
+    ensures place { result ≡ place_named schema.now name.now }
+    ensures within { result < length schema.now }
+{
+    schema.position(name).unwrap_or(0)
+}
+
+// The numbers of the groups of rows, in the order of first appearance; copies each new key.
+fn number_rows(
+    alloc: Global,
+    seen: &mut IndexSet<Key>,
+    places: &[usize],
+    batch: &Batch,
+) -> Result<Vec<usize>, Memory>
+    requires some { 1 ≤ length places.now }
+    requires places { All (λ p. p < length batch.now.fields) places.now }
+    ensures seen { OnOk result (seen.new.keys ≡ insert_all same_key seen.old.keys (map (key_at places.now) batch.now.rows)) }
+    ensures numbers { IfOk result (λ numbers. numbers.items ≡ numbers_along seen.old.keys (map (key_at places.now) batch.now.rows)) }
+    ensures beside { IfOk result (λ numbers. length numbers.items ≡ length batch.now.rows) }
+    ensures within { IfOk result (λ numbers. All (λ n. n < length seen.new.keys) numbers.items) }
+    ensures grown { OnOk result (length seen.old.keys ≤ length seen.new.keys) }
+    ensures frame { OnOk result (IsFrame batch.now) }
+{
+    let mut key = Key::nulls(alloc, places.len())?;
+    let mut numbers = Vec::with_capacity(alloc, batch.rows())?;
+    for row in 0..batch.rows() {
+        key.read(alloc, batch, places, row)?;
+        numbers.push(number_of(alloc, seen, &key)?)?;
+    }
+    Ok(numbers)
+}
+
+// Takes the rows of a batch, each in the group of its number, in each accumulator.
+fn accumulate(
+    alloc: Global,
+    accumulators: &mut Vec<Accumulator>,
+    batch: &Batch,
+    numbers: &[usize],
+    groups: usize,
+) -> Result<(), Memory>
+    requires beside { length numbers.now ≡ length batch.now.rows }
+    requires within { All (λ n. n < groups) numbers.now }
+    requires few { length numbers.now ≤ 2 ^ 40 }
+    requires ready { All (λ a. (a.column < length batch.now.fields) × (length a.states ≤ groups) × All (IsBoundedBy (2 ^ 40 - length numbers.now)) a.states) accumulators.old.items }
+    ensures taken { OnOk result (accumulators.new.items ≡ map (accumulated groups numbers.now batch.now.rows) accumulators.old.items) }
+    ensures ready { OnOk result ((n : ℕ) → All (λ a. All (IsBoundedBy n) a.states) accumulators.old.items →
+        All (IsAccumulator (length batch.now.fields) groups (n + length numbers.now)) accumulators.new.items) }
+    ensures size { length accumulators.new.items ≡ length accumulators.old.items }
+{
+    for i in 0..accumulators.len() {
+        let accumulator = &mut accumulators[i];
+        accumulator.take(alloc, batch, numbers, groups)?;
+    }
+    Ok(())
+}
+
+// The lowest aggregate of the first group whose value does not fit 64 bits.
+fn first_unfit(accumulators: &[Accumulator], groups: usize) -> Option<usize>
+    requires { All (λ a. length a.states ≡ groups) accumulators.now }
+    ensures found { result ≡ first_found (out_of_range_in accumulators.now) (numbers groups) }
+    ensures within { IfSome result (λ item. item < length accumulators.now) }
+{
+    for group in 0..groups {
+        if let Some(item) = unfit_in(accumulators, group) {
+            return Some(item);
+        }
+    }
+    None
+}
+
+// The lowest aggregate of a group whose value does not fit 64 bits.
+fn unfit_in(accumulators: &[Accumulator], group: usize) -> Option<usize>
+    requires { All (λ a. group < length a.states) accumulators.now }
+    ensures found { result ≡ out_of_range_in accumulators.now group }
+    ensures within { IfSome result (λ item. item < length accumulators.now) }
+{
+    for i in 0..accumulators.len() {
+        if !accumulators[i].fits(group) {
+            return Some(i);
+        }
+    }
+    None
+}
+
+// The columns of the groups: of their keys, then of their aggregates.
+fn gather(
+    alloc: Global,
+    output: &Schema,
+    keys: &[Key],
+    accumulators: &[Accumulator],
+) -> Result<Vec<Column>, Memory>
+    requires width { length accumulators.now ≤ length output.now }
+    requires beside { All (λ a. length a.states ≡ length keys.now) accumulators.now }
+    requires bounded { All (λ a. All (IsBoundedBy (2 ^ 40)) a.states) accumulators.now }
+    ensures { IfOk result (λ columns. columns.items ≡ columns_of
+        (group_picks (length output.now - length accumulators.now) keys.now accumulators.now (kinds_of output.now) (length output.now)) (numbers (length keys.now))) }
+{
+    let width = output.len() - accumulators.len();
+    let mut columns = Vec::with_capacity(alloc, output.len())?;
+    for i in 0..output.len() {
+        let kind = output.kind(i);
+        let column = if i < width {
+            key_column(alloc, kind, keys, i)?
+        } else {
+            accumulators[i - width].column(alloc, kind)?
+        };
+        columns.push(column)?;
+    }
+    Ok(columns)
+}
+
+// The column of the keys' cells at a place, with null where a cell is of another kind.
+fn key_column(alloc: Global, kind: Kind, keys: &[Key], place: usize) -> Result<Column, Memory>
+    ensures { IfOk result (λ column. column ≡ column_of (numbers (length keys.now)) (key_pick kind place keys.now)) }
+{
+    let mut column = Column::with_capacity(alloc, kind, keys.len())?;
+    for i in 0..keys.len() {
+        match keys[i].cell(place) {
+            Some(cell) => push_cell(&mut column, cell)?,
+            None => column.push_null()?,
+        }
+    }
+    Ok(column)
+}
