@@ -22,7 +22,6 @@ mod sums;
 pub use aggregates::{Agg, What};
 pub use groups::{GroupFault, Grouper};
 pub use joins::{How, JoinTable, Probed, join_laws};
-pub use joins::{How, JoinTable, Probed};
 pub use rolls::Rolling;
 pub use schemas::{group_schema, join_schema, roll_schema};
 
