@@ -213,7 +213,7 @@ fn put_columns(
     let (Some((item, rest)), Some(column)) = (items.split_first(), made.next()) else {
         return Ok(());
     };
-    put_column(item.0.as_str(), column, schema, columns)?;
+    put_column(schema, columns, item.0.as_str(), column)?;
     put_columns(rest, made, schema, columns)
 }
 
