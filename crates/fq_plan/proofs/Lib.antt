@@ -5,4 +5,5 @@ pub mod LimitLemmas
 pub mod RowPlanLemmas
 pub mod BatchLemmas
 pub mod TailLemmas
+pub mod FeedLemmas
 pub mod OnLiterals

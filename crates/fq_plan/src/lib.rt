@@ -6,12 +6,15 @@
 #[cfg(test)]
 mod examples;
 mod faults;
+mod feeds;
+mod gathering;
 mod laws;
 mod plans;
 mod reading;
 mod rowwise;
 #[cfg(test)]
 mod tests;
+mod workers;
 
 pub use faults::{CheckFault, Fault, Place, PlanFault};
 pub use laws::{meaning_of_items, renamed_steps};
