@@ -8,6 +8,8 @@ mod evaluation;
 #[cfg(test)]
 mod examples;
 mod faults;
+mod feeds;
+mod gathering;
 mod laws;
 mod plans;
 mod reading;
@@ -16,6 +18,7 @@ mod staged;
 mod stages;
 #[cfg(test)]
 mod tests;
+mod workers;
 
 pub use checks::Checked;
 pub use faults::{CheckFault, Fault, Place, PlanFault};
