@@ -78,6 +78,13 @@ impl Front {
         })
     }
 
+    /// The schema before the first step.
+    pub fn schema(&self) -> &Schema
+        ensures { result.now ≡ self.now.fields }
+    {
+        &self.schema
+    }
+
     /// The steps on the rows of a batch.
     ///
     /// Each step sees the rows that the step before it made, so the fault of the earliest row wins whatever the batch;

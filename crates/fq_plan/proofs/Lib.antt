@@ -5,6 +5,8 @@ pub mod LimitLemmas
 pub mod RowPlanLemmas
 pub mod BatchLemmas
 pub mod TailLemmas
+pub mod StageLemmas
+pub mod FeedLemmas
 pub mod OnLiterals
 pub mod CheckLemmas
 pub mod SplitLemmas

@@ -8,6 +8,9 @@ pub mod Sources
 pub mod Meaning
 pub mod Run
 pub mod Tail
+pub mod Feeding
+pub mod Working
+pub mod Gathering
 pub mod Answer
 pub mod Examples
 pub mod Stages

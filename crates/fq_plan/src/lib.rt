@@ -4,16 +4,21 @@
 #![tactic(auto)]
 
 mod checks;
+mod evaluation;
 #[cfg(test)]
 mod examples;
 mod faults;
+mod feeds;
+mod gathering;
 mod laws;
 mod plans;
 mod reading;
 mod rowwise;
+mod staged;
 mod stages;
 #[cfg(test)]
 mod tests;
+mod workers;
 
 pub use checks::Checked;
 pub use faults::{CheckFault, Fault, Place, PlanFault};

@@ -1,0 +1,253 @@
+-- What the operators of a plan make of a stream.
+use Rattle.std.proofs.Common.{◌≡◌, ℕ, suc, ◌+◌, ◌<◌, ◌≤◌, nat_lt, Bool, true, false, not, List, [], ◌∷◌, ◌++◌, map, length, take, drop, zip, Option, Some, None, is_none, Result, Ok, Err, ℤ, pos, refl, ap, sym, ◌∙◌, arith, append-nil, subst, get_or, zero, length-take-le}
+use Rattle.std.specs.Prelude.{IsOk, is_ok, option_map, slice_get}
+use Rattle.std.specs.Option.{option_or}
+use Rattle.std.specs.Result.{result_unwrap_or}
+use Rattle.std.specs.List.{range_with_len}
+use Rattle.std.proofs.lemmas.List.{length-map}
+use Rattle.std.proofs.lemmas.Option.{get_or_from_slice_get, slice_get-map}
+use Rattle.std.proofs.lemmas.Bool.Decides.{nat_tests}
+use Rattle.fq_column.specs.declared.cells.Cell.{Cell}
+use Rattle.fq_column.specs.declared.cells.Kind.{Kind}
+use Rattle.fq_column.specs.declared.cells.Kind.TheVariants.{Whole}
+use Rattle.fq_column.specs.declared.faults.StepFault.{StepFault}
+use Rattle.fq_column.specs.declared.faults.StepFault.TheVariants.{NoSuchSource, WrongKind, Window, Samples, TooMany}
+use Rattle.fq_column.specs.Batch.{row_with}
+use Rattle.fq_column.specs.Cell.{same_kind}
+use Rattle.fq_column.specs.Frame.{Fields, Frame, Name, Row, put_named, value_named}
+use Rattle.fq_column.specs.Lists.{zip_with, before_missing, first_missing, numbers}
+use Rattle.fq_column.specs.Refusal.{and_then, first_refusal, refuse_if, unless_refused}
+use Rattle.fq_column.specs.Schema.{kind_named}
+use Rattle.fq_column.specs.SchemaLaws.{same_kind_decides}
+use Rattle.fq_column.specs.Stream.{Stream, done, then_stream, ended_as, one_by_one, rename_fault, step_on}
+use Rattle.fq_column.proofs.PutLemmas.{position-cons}
+use Rattle.fq_expr.specs.Expression.{Step}
+use Rattle.fq_expr.specs.Front.{NumberedSteps, fault_at}
+use Rattle.fq_expr.specs.Kinds.{step_schema, steps_schema}
+use Rattle.fq_expr.specs.Steps.{apply_steps, fields_after, fields_after_all}
+use Rattle.fq_expr.specs.declared.fronts.RowFault.{RowFault}
+use Rattle.fq_expr.proofs.StepLemmas.{apply_steps-then}
+use Rattle.fq_ops.specs.Join.{join_schema, join_stream, joined_fields}
+use Rattle.fq_ops.specs.Roll.{roll_rows, roll_schema, roll_stream, rolled, rolled_at, is_from_to, with_sum}
+use Rattle.fq_ops.specs.declared.joins.How.{How}
+use Rattle.fq_ops.proofs.RefusalLemmas.{accepted, join-output, none-first}
+use Rattle.fq_plan.specs.Judged.{judged_step}
+use Rattle.fq_plan.specs.Meaning.{apply_plan_step, apply_plan_steps, join_room, fields_after as fields_then}
+use Rattle.fq_plan.specs.Plan.{PlanStep, row_wise, join}
+use Rattle.fq_plan.specs.Sources.{row_fault}
+use Rattle.fq_plan.specs.Stages.{Leads, Turns, operator_steps, stage_steps}
+use Rattle.fq_plan.specs.declared.stages.Stage.{Stage}
+use Rattle.fq_plan.specs.declared.stages.Operator.TheVariants as operator
+use Rattle.fq_plan.specs.declared.faults.Fault.{Fault}
+use Rattle.fq_plan.specs.declared.faults.Fault.TheVariants.{Overflow, JoinRows}
+use Rattle.fq_plan.proofs.BatchLemmas.{leading-steps, rename_fault-apply_steps}
+
+-- ---- a step that goes row by row, on a stream
+
+-- the step's own fault, or else the stream's
+pub ended-stream : {F : Type 0} (v : Stream F) (end : Option F) → record { rows = v.rows; fault = option_or v.fault end } ≡ ended_as end v
+ended-stream {F} v end = go v.rows v.fault
+  where
+    go : (rows : List Row) (fault : Option F) → record { rows = rows; fault = option_or fault end } ≡ ended_as end (record { rows = rows; fault = fault })
+    go rows None = ap (λ (l : List Row). record { rows = l; fault = end }) (sym (append-nil rows))
+    go rows (Some f) = refl
+
+pub step_on-is : {F G : Type 0} (rows_step : List Row → Stream G) (name : G → F) (u : Stream F) (rows : List Row) (fault : Option G) →
+    rows ≡ (rows_step u.rows).rows → fault ≡ (rows_step u.rows).fault →
+    record { rows = rows; fault = option_or (option_map name fault) u.fault } ≡ step_on rows_step name u
+step_on-is rows_step name u rows fault e f =
+    (λ i. record { rows = e i; fault = option_or (option_map name (f i)) u.fault })
+    ∙ ended-stream (rename_fault name (rows_step u.rows)) u.fault
+
+-- ---- row-wise steps
+
+apply_steps-none : (n : ℕ) (fields : Fields) (steps : List Step) (end : Option Fault) → apply_steps Overflow n fields steps (record { rows = []; fault = end }) ≡ record { rows = []; fault = end }
+apply_steps-none n fields [] end = refl
+apply_steps-none n fields (s ∷ steps) end = apply_steps-none (n + 1) (fields_after fields s) steps end
+
+-- a stream is its rows and then its end
+rows-then-end : {F : Type 0} (u : Stream F) → then_stream (done u.rows) (record { rows = []; fault = u.fault }) ≡ u
+rows-then-end u = λ i. record { rows = append-nil u.rows i; fault = u.fault }
+
+pub steps-on-stream : (n : ℕ) (fields : Fields) (steps : List Step) (u : Stream Fault) (rows : List Row) (fault : Option RowFault) →
+    rows ≡ (apply_steps fault_at n fields steps (done u.rows)).rows → fault ≡ (apply_steps fault_at n fields steps (done u.rows)).fault →
+    record { rows = rows; fault = option_or (option_map row_fault fault) u.fault } ≡ apply_steps Overflow n fields steps u
+steps-on-stream n fields steps u rows fault e f =
+    (λ i. record { rows = e i; fault = option_or (option_map row_fault (f i)) u.fault })
+    ∙ ended-stream (rename_fault row_fault (apply_steps fault_at n fields steps (done u.rows))) u.fault
+    ∙ (λ i. then_stream (rename_fault-apply_steps fault_at row_fault n fields steps (done u.rows) i) (sym (apply_steps-none n fields steps u.fault) i))
+    ∙ sym (apply_steps-then Overflow n fields steps (done u.rows) (record { rows = []; fault = u.fault }))
+    ∙ ap (apply_steps Overflow n fields steps) (rows-then-end u)
+
+-- ---- rolling sums
+
+pub record RollAccepted (fields : Fields) (column : Name) (window min_samples : ℕ) (name : Name) : Type 0 where
+  pub kind : kind_named fields column ≡ Ok Whole
+  pub room : length (put_named fields (name, Whole)) ≤ 64
+
+pub roll-accepted : (fields : Fields) (column : Name) (window min_samples : ℕ) (name : Name) → IsOk (roll_schema fields column (pos window) (pos min_samples) name) →
+    RollAccepted fields column window min_samples name
+roll-accepted fields column window min_samples name ok = go (kind_named fields column) refl ok
+  where
+    room_checks : List (Option StepFault)
+    room_checks = refuse_if (nat_lt 64 (length (put_named fields (name, Whole)))) TooMany ∷ []
+
+    sample_checks : List (Option StepFault)
+    sample_checks = refuse_if (not (is_from_to (pos 1) (pos window) (pos min_samples))) Samples ∷ room_checks
+
+    window_checks : List (Option StepFault)
+    window_checks = refuse_if (not (is_from_to (pos 1) (pos 65536) (pos window))) Window ∷ sample_checks
+
+    kind_checks : Kind → List (Option StepFault)
+    kind_checks k = refuse_if (not (same_kind k Whole)) WrongKind ∷ window_checks
+
+    kept : (b : Bool) → not b ≡ false → b ≡ true
+    kept true e = refl
+    kept false e = absurd (cc)
+
+    not_more : (n : ℕ) → nat_lt 64 n ≡ false → n ≤ 64
+    not_more n e = grind (arith, nat_tests)
+
+    go : (r : Result Kind StepFault) → kind_named fields column ≡ r → IsOk (and_then r (λ k. unless_refused (kind_checks k) (put_named fields (name, Whole)))) → RollAccepted fields column window min_samples name
+    go (Err f) e h = absurd (grind arith)
+    go (Ok k) e h =
+        let none : first_refusal (kind_checks k) ≡ None = accepted (kind_checks k) (put_named fields (name, Whole)) h in
+        let a = none-first (not (same_kind k Whole)) WrongKind window_checks none in
+        let b = none-first (not (is_from_to (pos 1) (pos 65536) (pos window))) Window sample_checks a.1 in
+        let c = none-first (not (is_from_to (pos 1) (pos window) (pos min_samples))) Samples room_checks b.1 in
+        let d = none-first (nat_lt 64 (length (put_named fields (name, Whole)))) TooMany [] c.1 in
+        let whole : k ≡ Whole = (same_kind_decides k Whole).0 (kept (same_kind k Whole) a.0) in
+        record { kind = e ∙ (λ i. Ok (whole i)); room = not_more (length (put_named fields (name, Whole))) d.0 }
+
+there-later : (o : Option ℕ) → option_map (λ (_ : ℕ). let t : Unit {0} = tt in t) (option_map suc o) ≡ option_map (λ (_ : ℕ). let t : Unit {0} = tt in t) o
+there-later None = refl
+there-later (Some n) = refl
+
+-- rows with the sums that there are, up to the first that does not fit
+pub with-sums : (fields : Fields) (name : Name) (sums : List (Option Cell)) (rows : List Row) → length sums ≡ length rows →
+    one_by_one (λ (p : Row × Option Cell). with_sum fields name p.0 p.1) (zip rows sums)
+    ≡ record { rows = zip_with (row_with fields name) (take (length (before_missing sums)) rows) (before_missing sums); fault = option_map (λ _. tt) (first_missing sums) }
+with-sums fields name [] [] e = refl
+with-sums fields name [] (r ∷ rows) e = absurd (omega (arith, e))
+with-sums fields name (o ∷ sums) [] e = absurd (omega (arith, e))
+with-sums fields name (None ∷ sums) (r ∷ rows) e = ap (λ (o : Option ℕ). record { rows = []; fault = option_map (λ _. tt) o }) (sym (position-cons is_none None sums))
+with-sums fields name (Some c ∷ sums) (r ∷ rows) e =
+    ap (then_stream (done (row_with fields name r c ∷ []))) (with-sums fields name sums rows (omega (arith, e)))
+    ∙ (λ i. record { rows = row_with fields name r c ∷ zip_with (row_with fields name) (take (length (before_missing sums)) rows) (before_missing sums); fault = (sym (there-later (first_missing sums)) ∙ ap (option_map (λ _. tt)) (sym (position-cons is_none (Some c) sums))) i })
+
+abbrev pub sums_of : Fields → Name → ℕ → ℕ → List Row → List (Option Cell)
+sums_of fields column n m rows = rolled n m (map (value_named fields column) rows)
+
+length-range : (a n : ℕ) → length (range_with_len a n) ≡ n
+length-range a zero = refl
+length-range a (suc n) = ap suc (length-range (a + 1) n)
+
+length-sums : (fields : Fields) (column : Name) (n m : ℕ) (rows : List Row) → length (sums_of fields column n m rows) ≡ length rows
+length-sums fields column n m rows =
+    let cells = map (value_named fields column) rows in
+    length-map (numbers (length cells)) (rolled_at n m cells) ∙ length-range 0 (length cells) ∙ length-map rows (value_named fields column)
+
+length-before : (sums : List (Option Cell)) → length (before_missing sums) ≤ length sums
+length-before [] = omega arith
+length-before (None ∷ sums) = omega arith
+length-before (Some c ∷ sums) = omega (arith, length-before sums)
+
+-- as many sums as rows that are kept
+pub height-of-sums : (fields : Fields) (column : Name) (n m : ℕ) (rows : List Row) (sums : List Cell) → sums ≡ before_missing (sums_of fields column n m rows) → length sums ≡ length (take (length sums) rows)
+height-of-sums fields column n m rows sums e =
+    grind (arith, length-take-le (length sums) rows (omega (arith, ap length e, length-before (sums_of fields column n m rows), length-sums fields column n m rows)))
+
+pub rolled-stream : (fields : Fields) (column : Name) (n m : ℕ) (name : Name) (f : Fault) (u : Stream Fault) (sums : List Cell) (fault : Option ℕ) →
+    sums ≡ before_missing (sums_of fields column n m u.rows) → fault ≡ first_missing (sums_of fields column n m u.rows) →
+    record { rows = zip_with (row_with fields name) (take (length sums) u.rows) sums; fault = option_or (option_map (λ _. f) fault) u.fault }
+    ≡ roll_stream fields column n m name f u
+rolled-stream fields column n m name f u sums fault e g =
+    let all = with-sums fields name (sums_of fields column n m u.rows) u.rows (length-sums fields column n m u.rows) in
+    (λ i. record { rows = zip_with (row_with fields name) (take (length (e i)) u.rows) (e i); fault = option_or (named fault i) u.fault })
+    ∙ step_on-is (roll_rows fields column n m name) (λ (_ : Unit {0}). f) u (zip_with (row_with fields name) (take (length (before_missing (sums_of fields column n m u.rows))) u.rows) (before_missing (sums_of fields column n m u.rows)))
+    (option_map (λ _. tt) fault) (ap (λ (v : Stream (Unit {0})). v.rows) (sym all)) (ap (option_map (λ _. tt)) g ∙ ap (λ (v : Stream (Unit {0})). v.fault) (sym all))
+  where
+    named : (o : Option ℕ) → option_map (λ (_ : ℕ). f) o ≡ option_map (λ (_ : Unit {0}). f) (option_map (λ (_ : ℕ). let t : Unit {0} = tt in t) o)
+    named None = refl
+    named (Some n) = refl
+
+-- ---- operators as the plan's steps
+
+-- the columns after row-wise steps that are not refused
+pub fields-after-all : (fields after : Fields) (steps : List Step) → steps_schema fields steps ≡ Ok after → fields_after_all fields steps ≡ after
+fields-after-all fields after [] e = cc
+fields-after-all fields after (s ∷ steps) e = go (step_schema fields s) refl e (λ f h. fields-after-all f after steps h)
+  where
+    go : (r : Result Fields StepFault) → step_schema fields s ≡ r → and_then r (λ f. steps_schema f steps) ≡ Ok after → ((f : Fields) → steps_schema f steps ≡ Ok after → fields_after_all f steps ≡ after) →
+        fields_after_all (result_unwrap_or (step_schema fields s) fields) steps ≡ after
+    go (Err f) e h rest = absurd (cc)
+    go (Ok f) e h rest = ap (λ (r : Result Fields StepFault). fields_after_all (result_unwrap_or r fields) steps) e ∙ rest f h
+
+module _ (joins : List Frame) (n : ℕ) (fields after : Fields) (u : Stream Fault) (s : Fields × Stream Fault) where
+  abbrev pub Is : List PlanStep → Type 0
+  Is steps = (s.0 ≡ after) × (s ≡ apply_plan_steps joins n fields steps u)
+
+  pub rows-turn : (front : NumberedSteps) → Turns (map (λ f. f.fields) joins) n fields (operator.Rows front) after →
+      s ≡ (fields_after_all fields front.steps, apply_steps Overflow front.first fields front.steps u) → Is (operator_steps (operator.Rows front))
+  rows-turn front t e = (
+    ap (λ (p : Fields × Stream Fault). p.0) e ∙ fields-after-all fields after front.steps t.2,
+    e ∙ ap (λ m. (fields_after_all fields front.steps, apply_steps Overflow m fields front.steps u)) t.1
+        ∙ sym (leading-steps joins n fields front.steps [] u)
+        ∙ ap (λ steps. apply_plan_steps joins n fields steps u) (append-nil (map row_wise front.steps)),
+  )
+
+  -- a step whose columns are known
+  pub step-turn : (step : PlanStep) (given : Fields) (v : Stream Fault) → judged_step (map (λ f. f.fields) joins) fields step ≡ Ok after → given ≡ after →
+      apply_plan_step joins n fields step u ≡ v → s ≡ (given, v) → Is (step ∷ [])
+  step-turn step given v t e f h = (
+    ap (λ (p : Fields × Stream Fault). p.0) h ∙ e,
+    h ∙ (λ i. ((e ∙ sym (ap (λ (r : Result Fields StepFault). result_unwrap_or r fields) t)) i, sym f i)),
+  )
+
+  abbrev judged_with : List Name → Option Fields → Result Fields StepFault
+  judged_with on o = elim o as (λ _. Result Fields StepFault) [ None ↦ Err NoSuchSource | Some right ↦ join_schema fields right on ]
+
+  -- the source of a join that is not refused
+  source-there : (source : ℕ) (on : List Name) (right : Frame) → right ≡ get_or joins source right → judged_with on (slice_get (map (λ (f : Frame). f.fields) joins) source) ≡ Ok after → slice_get joins source ≡ Some right
+  source-there source on right is t = go (slice_get joins source) refl (ap (judged_with on) (sym (slice_get-map (λ (f : Frame). f.fields) joins source)) ∙ t)
+    where
+      go : (o : Option Frame) → slice_get joins source ≡ o → judged_with on (option_map (λ (f : Frame). f.fields) o) ≡ Ok after → slice_get joins source ≡ Some right
+      go None e h = absurd (let g : Err NoSuchSource ≡ Ok after = h in cc)
+      go (Some r) e h = e ∙ ap Some (sym (get_or_from_slice_get joins source r right e) ∙ sym is)
+
+  pub join-turn : (source : ℕ) (on : List Name) (how : How) (right : Frame) → right ≡ get_or joins source right → judged_step (map (λ f. f.fields) joins) fields (join (pos source) on how) ≡ Ok after →
+      s ≡ (joined_fields fields right.fields on, join_stream how fields right.fields on right.rows join_room (JoinRows n) u) → Is (join (pos source) on how ∷ [])
+  join-turn source on how right is t h =
+      let at = source-there source on right is t in
+      let known : join_schema fields right.fields on ≡ Ok after = ap (judged_with on) (sym (slice_get-map (λ (f : Frame). f.fields) joins source ∙ ap (option_map (λ (f : Frame). f.fields)) at)) ∙ t in
+      let same : (let output : Result Fields StepFault = Ok (joined_fields fields right.fields on) in output) ≡ Ok after = sym (join-output fields right.fields on (ap is_ok known)) ∙ known in
+      step-turn (join (pos source) on how) (joined_fields fields right.fields on) (join_stream how fields right.fields on right.rows join_room (JoinRows n) u) t
+      (cc)
+      (ap (λ (o : Option Frame). elim o [ None ↦ u | Some right ↦ join_stream how fields right.fields on right.rows join_room (JoinRows n) u ]) at)
+      h
+
+-- ---- stages, one after the other
+
+plan-steps-append : (joins : List Frame) (n : ℕ) (fields : Fields) (xs ys : List PlanStep) (u : Stream Fault) →
+    apply_plan_steps joins n fields (xs ++ ys) u ≡ (let r = apply_plan_steps joins n fields xs u in apply_plan_steps joins (n + length xs) r.0 ys r.1)
+plan-steps-append joins n fields [] ys u = ap (λ m. apply_plan_steps joins m fields ys u) (let e : n ≡ n + 0 = omega arith in e)
+plan-steps-append joins n fields (x ∷ xs) ys u =
+    let r = apply_plan_steps joins (n + 1) (fields_then joins fields x) xs (apply_plan_step joins n fields x u) in
+    plan-steps-append joins (n + 1) (fields_then joins fields x) xs ys (apply_plan_step joins n fields x u)
+    ∙ ap (λ m. apply_plan_steps joins m r.0 ys r.1) (let e : n + 1 + length xs ≡ n + suc (length xs) = omega arith in e)
+
+module _ (joins : List Frame) (fields : Fields) (stage : Stage) (rest : List Stage) (u : Stream Fault) (mid s : Fields × Stream Fault) where
+  abbrev joined : List Fields
+  joined = map (λ f. f.fields) joins
+
+  pub stages-lead : (n : ℕ) (after : Fields) → Leads joined n fields (stage ∷ rest) after →
+      ((after : Fields) → Turns joined stage.number fields stage.operator after → (mid.0 ≡ after) × (mid ≡ apply_plan_steps joins stage.number fields (operator_steps stage.operator) u)) →
+      ((m : ℕ) (after : Fields) → Leads joined m mid.0 rest after → s ≡ apply_plan_steps joins m mid.0 (stage_steps rest) mid.1) →
+      s ≡ apply_plan_steps joins n fields (stage_steps (stage ∷ rest)) u
+  stages-lead n after (f, same, turns, leads) one more =
+      let steps = operator_steps stage.operator in
+      let r = one f (subst (λ m. Turns joined m fields stage.operator f) (sym same) turns) in
+      let at_n : mid ≡ apply_plan_steps joins n fields steps u = r.1 ∙ ap (λ m. apply_plan_steps joins m fields steps u) same in
+      more (n + length steps) after (subst (λ g. Leads joined (n + length steps) g rest after) (sym r.0) leads)
+      ∙ ap (λ (p : Fields × Stream Fault). apply_plan_steps joins (n + length steps) p.0 (stage_steps rest) p.1) at_n
+      ∙ sym (plan-steps-append joins n fields steps (stage_steps rest) u)

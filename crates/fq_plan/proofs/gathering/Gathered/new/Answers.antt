@@ -1,0 +1,13 @@
+use Rattle.std.proofs.Common.{[], None, ap, sym, ◌∙◌}
+use Rattle.fq_column.specs.Frame.{Frame}
+use Rattle.fq_csv.proofs.StepLemmas.{frame-held, no-fault}
+use Rattle.fq_plan.specs.declared.gathering.Gathered.{Gathered}
+use Rattle.fq_plan.proofs.gathering.Gathered.new.Goals as goal
+
+pub unreachable-requires : goal.unreachable-requires
+unreachable-requires c = cc (sym (no-fault c.args.schema c.in_ok-columns.columns.items [] c.in_ok-columns.ensures.some c.in_ok-columns.ensures.empty) ∙ c.in-Err.ensures.refused)
+
+pub returns : goal.returns
+returns c =
+    ap (λ (b : Frame). let g : Gathered = record { files = c.args.files; batch = b; fault = None } in g)
+    (c.in-Ok.ensures.ok ∙ frame-held c.args.schema c.in_ok-columns.columns.items [] c.in_ok-columns.ensures.some c.in_ok-columns.ensures.empty)

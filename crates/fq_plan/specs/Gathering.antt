@@ -1,0 +1,31 @@
+-- The streams of a plan's sources, as far as worked items were taken.
+use Rattle.std.specs.Prelude.{ℕ, ◌-◌, nat_lt, List, [], ◌∷◌, if◌then◌else◌}
+use Rattle.fq_column.specs.Schema.{same_fields}
+use Rattle.fq_column.specs.Stream.{Stream, then_stream}
+use Rattle.fq_expr.specs.declared.fronts.Piece.{Piece}
+use Rattle.fq_plan.specs.Working.{worked_stream}
+use Rattle.fq_plan.specs.declared.faults.Fault.{Fault}
+use Rattle.fq_plan.specs.declared.gathering.Gathered.{Gathered}
+use Rattle.fq_plan.specs.declared.workers.Worked.{Worked}
+use Rattle.fq_plan.specs.declared.workers.Worked.TheVariants as worked
+
+-- the stream so far, and a source with another one
+abbrev pub gathered_stream : Gathered → Stream Fault
+gathered_stream g = record { rows = g.batch.rows; fault = g.fault }
+
+abbrev pub with_stream : Gathered → Stream Fault → Gathered
+with_stream g u = record { files = g.files; batch = record { fields = g.batch.fields; rows = u.rows }; fault = u.fault }
+
+-- a source's stream, then that of a worked item
+abbrev pub joined : Gathered → Worked → Gathered
+joined g out = with_stream g (then_stream (gathered_stream g) (worked_stream out))
+
+-- a source after one of its worked items, of which batches of other columns are dropped
+abbrev pub gathered : Gathered → Worked → Gathered
+gathered g (worked.Ended fault) = joined g (worked.Ended fault)
+gathered g (worked.Piece p) = if same_fields p.batch.fields g.batch.fields then joined g (worked.Piece p) else g
+
+-- the sources after a worked item of a file, which is counted from the first of them on
+abbrev pub taken_in : ℕ → Worked → List Gathered → List Gathered
+taken_in file out [] = []
+taken_in file out (g ∷ gs) = if nat_lt file g.files then gathered g out ∷ gs else g ∷ taken_in (file - g.files) out gs

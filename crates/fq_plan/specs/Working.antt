@@ -1,0 +1,37 @@
+-- What the workers make of the items of files.
+use Rattle.std.specs.Prelude.{ℕ, nat_lt, None, option_map, if◌then◌else◌}
+use Rattle.fq_column.specs.Frame.{Frame}
+use Rattle.fq_column.specs.Schema.{same_fields}
+use Rattle.fq_column.specs.Stream.{Stream, done, faulted}
+use Rattle.fq_expr.specs.Front.{NumberedSteps, fault_at}
+use Rattle.fq_expr.specs.Steps.{apply_steps, fields_after_all}
+use Rattle.fq_expr.specs.declared.fronts.Piece.{Piece}
+use Rattle.fq_plan.specs.Sources.{row_fault, scan_fault}
+use Rattle.fq_plan.specs.declared.faults.Fault.{Fault}
+use Rattle.fq_plan.specs.declared.feeds.Scanned.{Scanned}
+use Rattle.fq_plan.specs.declared.feeds.Scanned.TheVariants as scanned
+use Rattle.fq_plan.specs.declared.workers.Worked.{Worked}
+use Rattle.fq_plan.specs.declared.workers.Worked.TheVariants as worked
+
+-- a batch as it is
+abbrev pub untouched : Frame → Piece
+untouched batch = record { batch = batch; fault = None }
+
+-- the leading steps on a batch of their columns
+abbrev pub stepped : NumberedSteps → Frame → Piece
+stepped front batch = let u = apply_steps fault_at front.first front.fields front.steps (done batch.rows) in
+    record { batch = record { fields = fields_after_all front.fields front.steps; rows = u.rows }; fault = u.fault }
+
+-- the work on an item: the leading steps, but files below `join_files`, and batches of other columns, are left as they are
+abbrev pub work_on : NumberedSteps → ℕ → ℕ → Scanned → Worked
+work_on front join_files file (scanned.Ended fault) = worked.Ended fault
+work_on front join_files file (scanned.Batch batch) = worked.Piece
+    (if nat_lt file join_files then untouched batch else (if same_fields batch.fields front.fields then stepped front batch else untouched batch))
+
+-- the stream that a worked item is
+abbrev pub piece_stream : Piece → Stream Fault
+piece_stream p = record { rows = p.batch.rows; fault = option_map row_fault p.fault }
+
+abbrev pub worked_stream : Worked → Stream Fault
+worked_stream (worked.Piece p) = piece_stream p
+worked_stream (worked.Ended fault) = faulted (scan_fault fault)

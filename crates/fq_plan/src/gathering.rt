@@ -1,0 +1,142 @@
+// The tail of a run: the worked items of each source, gathered.
+ghost use Rattle.std.specs.Prelude.{◌≡◌, ◌<◌, None, [], length, IfOk, OnOk, OnErr};
+ghost use Rattle.fq_column.specs.Frame.{kinds_of};
+ghost use Rattle.fq_csv.specs.Rows.{Holds};
+ghost use Rattle.fq_plan.specs.Gathering.{gathered, taken_in};
+ghost use Rattle.fq_plan.specs.Sources.{row_fault, scan_fault};
+
+use crate::faults::Fault;
+use crate::workers::Worked;
+use fq_column::{Batch, Column, Memory, Schema};
+use fq_csv::ScanFault;
+use fq_expr::{Piece, RowFault};
+use fq_lanes::Tail;
+use std::alloc::Global;
+
+/// A source's rows so far, and the fault that ends them; after a fault nothing is added.
+#[derive(Drop)]
+pub(crate) struct Gathered {
+    /// How many files the source has.
+    pub(crate) files: u16,
+    pub(crate) batch: Batch,
+    pub(crate) fault: Option<Fault>,
+}
+
+/// The sources of a plan, of which the last is the main one, as far as worked items were taken.
+#[derive(Drop)]
+pub(crate) struct Gathering {
+    pub(crate) sources: Vec<Gathered>,
+}
+
+impl Gathered {
+    /// A source of so many files, with no row yet. `Memory` where a growth is refused.
+    pub(crate) fn new(alloc: Global, files: u16, schema: Schema) -> Result<Gathered, Memory>
+        ensures { IfOk result (λ g. g ≡ record { files = files; batch = record { fields = schema; rows = [] }; fault = None }) }
+    {
+        let columns = empty_columns(alloc, &schema)?;
+        match Batch::from_columns(schema, columns) {
+            Ok(batch) => Ok(Gathered {
+                files,
+                batch,
+                fault: None,
+            }),
+            Err(_) => unreachable!(),
+        }
+    }
+
+    // Adds a worked item; a batch of other columns is dropped.
+    fn gather(&mut self, out: Worked) -> Result<(), Memory>
+        ensures ok { OnOk result (self.new ≡ gathered self.old out) }
+        ensures err { OnErr result (self.new ≡ self.old) }
+    {
+        if self.fault.is_some() {
+            return Ok(());
+        }
+        match out {
+            Worked::Ended(fault) => {
+                self.fault = Some(fault_of_scan(fault));
+                Ok(())
+            }
+            Worked::Piece(piece) => self.append(piece),
+        }
+    }
+
+    // Adds rows and the fault that ends them, to rows that no fault ends; a batch of other columns is dropped.
+    fn append(&mut self, piece: Piece) -> Result<(), Memory>
+        requires { self.old.fault ≡ None }
+        ensures ok { OnOk result (self.new ≡ gathered self.old (Worked.Piece piece)) }
+        ensures err { OnErr result (self.new ≡ self.old) }
+    {
+        let Piece { batch, fault } = piece;
+        if batch.schema() == self.batch.schema() {
+            self.batch.extend(batch)?;
+            self.fault = fault.map(fault_of_row);
+        }
+        Ok(())
+    }
+}
+
+impl Tail for Gathering {
+    type Out = Worked;
+
+    ghost takes = { λ old file serial out new. new.sources.items ≡ taken_in file out old.sources.items };
+
+    ghost refuses = { λ _ _. Unit {0} };
+
+    fn take(&mut self, file: u16, _serial: u32, out: Worked) -> Result<(), fq_lanes::Memory> {
+        match take_in(self.sources.as_mut_slice(), file, out) {
+            Ok(()) => Ok(()),
+            Err(Memory) => Err(fq_lanes::Memory),
+        }
+    }
+}
+
+// Adds a worked item to the source that its file is of, counted from the first of these.
+fn take_in(sources: &mut [Gathered], file: u16, out: Worked) -> Result<(), Memory>
+    ensures { OnOk result (sources.new ≡ taken_in file out sources.old) }
+{
+    let Some((source, others)) = sources.split_first_mut() else {
+        return Ok(());
+    };
+    if file < source.files {
+        source.gather(out)
+    } else {
+        take_in(others, file - source.files, out)
+    }
+}
+
+// A column of each kind of the schema, with no cell.
+fn empty_columns(alloc: Global, schema: &Schema) -> Result<Vec<Column>, Memory>
+    ensures some { IfOk result (λ columns. 0 < length columns.items) }
+    ensures empty { IfOk result (λ columns. Holds (kinds_of schema.now) columns.items []) }
+{
+    let mut columns = Vec::with_capacity(alloc, schema.len())?;
+    for i in 0..schema.len() {
+        columns.push(Column::new(alloc, schema.kind(i)))?;
+    }
+    Ok(columns)
+}
+
+// A fault of a file as a fault of the run.
+fn fault_of_scan(fault: ScanFault) -> Fault
+    ensures { result ≡ scan_fault fault }
+{
+    match fault {
+        ScanFault::Header { file } => Fault::Header { file },
+        ScanFault::Width { file, row } => Fault::Width { file, row },
+        ScanFault::BadCell { file, row, column } => Fault::BadCell { file, row, column },
+        ScanFault::TooLong { file } => Fault::TooLong { file },
+        ScanFault::Read { file } => Fault::Read { file },
+        ScanFault::Memory => Fault::Memory,
+    }
+}
+
+// A fault of a row-wise step as a fault of the run.
+fn fault_of_row(fault: RowFault) -> Fault
+    ensures { result ≡ row_fault fault }
+{
+    Fault::Overflow {
+        step: fault.step,
+        item: fault.item,
+    }
+}
