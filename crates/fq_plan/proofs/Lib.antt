@@ -6,4 +6,9 @@ pub mod RowPlanLemmas
 pub mod BatchLemmas
 pub mod TailLemmas
 pub mod FeedLemmas
+pub mod GatheringLemmas
+pub mod EndLemmas
+pub mod RoundLemmas
+pub mod PlaceLemmas
+pub mod MeaningLemmas
 pub mod OnLiterals

@@ -11,6 +11,7 @@ mod gathering;
 mod laws;
 mod plans;
 mod reading;
+mod rounds;
 mod rowwise;
 #[cfg(test)]
 mod tests;
