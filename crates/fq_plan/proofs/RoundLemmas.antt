@@ -7,6 +7,7 @@ use Rattle.fq_column.specs.Lists.{pieces, zip_with}
 use Rattle.fq_column.specs.Schema.{same_fields}
 use Rattle.fq_column.specs.SchemaLaws.{same_fields_decides}
 use Rattle.fq_column.specs.Stream.{Stream, done, faulted, rename_fault}
+use Rattle.fq_csv.specs.File.{file_stream}
 use Rattle.fq_csv.specs.Run.{frame_with}
 use Rattle.fq_csv.specs.declared.faults.ScanFault.{ScanFault}
 use Rattle.fq_expr.specs.Expression.{Step}
@@ -19,8 +20,9 @@ use Rattle.fq_lanes.specs.Taking.{Took}
 use Rattle.fq_plan.specs.Feeding.{Feeding, MayCome, end_item, scanned_items}
 use Rattle.fq_plan.specs.Gathering.{taken_in}
 use Rattle.fq_plan.specs.Plan.{Query, front_of, join_files, main_fields}
-use Rattle.fq_plan.specs.Rounds.{leading_steps}
-use Rattle.fq_plan.specs.Sources.{row_fault, scan_fault}
+use Rattle.fq_plan.specs.Rounds.{leading_steps, opened}
+use Rattle.fq_plan.specs.Run.{Tell}
+use Rattle.fq_plan.specs.Sources.{row_fault, row_limit, scan_fault}
 use Rattle.fq_plan.specs.Tail.{Taken, items_of, last_item, worked, worked_items}
 use Rattle.fq_plan.specs.Working.{piece_stream, stepped, untouched, work_on, worked_stream}
 use Rattle.fq_plan.specs.declared.faults.Fault.{Fault}
@@ -195,3 +197,18 @@ files-numbers b k (fields ∷ fss) (u ∷ us) e h =
     ∙ ap (λ (ns : List (ℕ × ℕ)). map (λ serial. (k, serial)) (range_with_len 0 (length (pieces b u.rows))) ++ ns)
     (files-numbers b (suc k) fss us (omega (arith, e)) h.1
     ∙ ap (λ n. flat_map (λ (q : ℕ × Stream ScanFault). map (λ serial. (q.0, serial)) (range_with_len 0 (length (pieces b q.1.rows)))) (zip (range_with_len n (length us)) us)) (let q : suc k ≡ k + 1 = omega arith in q))
+
+-- ---- readers that tell their bytes
+
+pub opened-told : {R : Type 0} (remaining : R → Option (List ℕ)) (b k : ℕ) (fss : List Fields) (readers : List R) (files : List (List ℕ)) → Tell remaining readers files →
+    map (λ (f : Feeding). f.items) (opened remaining b k fss readers)
+    ≡ map Some (zip_with (λ fields u. scanned_items fields b u) fss (zip_with (λ i file. file_stream i file.0 row_limit file.1) (range_with_len k (length files)) (zip fss files)))
+opened-told remaining b k [] readers files h = refl
+opened-told remaining b k (fields ∷ fss) [] [] h = refl
+opened-told remaining b k (fields ∷ fss) [] (file ∷ files) h = absurd (cc h)
+opened-told remaining b k (fields ∷ fss) (r ∷ rs) [] h = absurd (cc h)
+opened-told remaining b k (fields ∷ fss) (r ∷ rs) (file ∷ files) h =
+    let one : remaining r ≡ Some file = cc h in
+    let rest : map remaining rs ≡ map Some files = cc h in
+    ap (λ o. option_map (scanned_items fields b) (option_map (file_stream k fields row_limit) o) ∷ map (λ (f : Feeding). f.items) (opened remaining b (k + 1) fss rs)) one
+    ∙ ap (λ os. Some (scanned_items fields b (file_stream k fields row_limit file)) ∷ os) (opened-told remaining b (k + 1) fss rs files rest)

@@ -1,8 +1,9 @@
 -- What rounds of the leading steps over the items of a plan's files come to.
-use Rattle.std.specs.Prelude.{◌≡◌, ℕ, List, [], ◌∷◌, ◌++◌, map, length, Some, None, Result, Err, IsOk, ◌<◌}
+use Rattle.std.specs.Prelude.{◌+◌, Option, option_map, ◌≡◌, ℕ, List, [], ◌∷◌, ◌++◌, map, length, Some, None, Result, Err, IsOk, ◌<◌}
 use Rattle.fq_column.specs.Frame.{Fields, Frame}
 use Rattle.fq_column.specs.Lists.{zip_with}
 use Rattle.fq_column.specs.Stream.{Stream}
+use Rattle.fq_csv.specs.File.{file_stream}
 use Rattle.fq_csv.specs.declared.faults.ScanFault.{ScanFault}
 use Rattle.fq_expr.specs.Front.{NumberedSteps}
 use Rattle.fq_expr.specs.Steps.{fields_after_all}
@@ -12,7 +13,7 @@ use Rattle.fq_plan.specs.Gathering.{gathered_stream, taken_in}
 use Rattle.fq_plan.specs.Meaning.{meaning, outcome}
 use Rattle.fq_plan.specs.Plan.{Query, but_last, last_or, file_fields, files_wanted, front_of, join_files, main_fields, rest_of}
 use Rattle.fq_plan.specs.Run.{trace_of}
-use Rattle.fq_plan.specs.Sources.{first_fault}
+use Rattle.fq_plan.specs.Sources.{first_fault, row_limit}
 use Rattle.fq_plan.specs.Working.{work_on}
 use Rattle.fq_plan.specs.declared.faults.Fault.{Fault}
 use Rattle.fq_plan.specs.declared.feeds.Scanned.{Scanned}
@@ -41,6 +42,14 @@ nothing_taken p = map (λ s. no_rows s.files s.fields) (but_last p.sources) ++ n
 -- the items of each file's stream
 abbrev pub items_of_files : Query → ℕ → List (Stream ScanFault) → List (List Scanned)
 items_of_files p batch_size us = zip_with (λ fields u. scanned_items fields batch_size u) (file_fields p) us
+
+-- what feeds of readers have to give, which are numbered from this file on and have these columns
+abbrev pub opened : {R : Type 0} → (R → Option (List ℕ)) → ℕ → ℕ → List Fields → List R → List Feeding
+opened remaining batch_size file [] readers = []
+opened remaining batch_size file (fields ∷ columns) [] = []
+opened remaining batch_size file (fields ∷ columns) (reader ∷ readers) =
+    record { most = 2147483648; items = option_map (scanned_items fields batch_size) (option_map (file_stream file fields row_limit) (remaining reader)) }
+    ∷ opened remaining batch_size (file + 1) columns readers
 
 -- what the steps after the leading ones make of what was gathered, where no source before the last ends in a fault
 abbrev pub outcome_of_gathered : Query → List Gathered → Gathered → Result Frame Fault

@@ -1,3 +1,5 @@
+mod rounds;
+
 use crate::{PlanFault, Step, read_plan};
 use fq_expr::RowStep;
 use std::test::Fail;
