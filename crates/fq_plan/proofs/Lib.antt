@@ -7,6 +7,11 @@ pub mod BatchLemmas
 pub mod TailLemmas
 pub mod StageLemmas
 pub mod FeedLemmas
+pub mod GatheringLemmas
+pub mod EndLemmas
+pub mod RoundLemmas
+pub mod PlaceLemmas
+pub mod MeaningLemmas
 pub mod OnLiterals
 pub mod CheckLemmas
 pub mod SplitLemmas

@@ -85,7 +85,7 @@ module _ (p : Query) (b : ℕ) where
       ∙ ap (λ xs. map (apply_steps Overflow 0 (main_fields p) (front_of p.steps)) xs ++ worked p b us) (append-nil (items_of b u))
       ∙ sym (map-append _ (items_of b u) (flat_map (items_of b) us))
 
-  items_from-start : (a n : ℕ) (us : List (Stream Fault)) → items_from a n (all_items p b us) ≡ untagged (worked_items p b) a (take n (drop a us))
+  pub items_from-start : (a n : ℕ) (us : List (Stream Fault)) → items_from a n (all_items p b us) ≡ untagged (worked_items p b) a (take n (drop a us))
   items_from-start a n us =
       ap (λ m. items_from m n (all_items p b us)) (let q : a ≡ 0 + a = omega arith in q)
       ∙ items_from-later (worked_items p b) a n 0 us

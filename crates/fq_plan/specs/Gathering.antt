@@ -2,7 +2,6 @@
 use Rattle.std.specs.Prelude.{ℕ, ◌-◌, nat_lt, List, [], ◌∷◌, if◌then◌else◌}
 use Rattle.fq_column.specs.Schema.{same_fields}
 use Rattle.fq_column.specs.Stream.{Stream, then_stream}
-use Rattle.fq_expr.specs.declared.fronts.Piece.{Piece}
 use Rattle.fq_plan.specs.Working.{worked_stream}
 use Rattle.fq_plan.specs.declared.faults.Fault.{Fault}
 use Rattle.fq_plan.specs.declared.gathering.Gathered.{Gathered}

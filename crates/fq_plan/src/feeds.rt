@@ -81,7 +81,8 @@ impl<R: Read> Feed for FileFeed<R> {
             Scan::Batch { batch, .. } => Ok(Some(Scanned::Batch(batch))),
             Scan::End { fault: None, .. } => Ok(None),
             Scan::End {
-                fault: Some(fault), ..
+                fault: Some(fault),
+                ..
             } => match fault {
                 ScanFault::Read { .. } => Err(FeedFault::Read),
                 ScanFault::Memory => Err(FeedFault::Memory),
@@ -95,5 +96,5 @@ impl<R: Read> Feed for FileFeed<R> {
 
     ghost some_list = { some_items };
 
-    ghost few = { λ _ open. open };
+    ghost few = { λ _ few. few };
 }

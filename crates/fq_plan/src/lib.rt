@@ -13,6 +13,7 @@ mod gathering;
 mod laws;
 mod plans;
 mod reading;
+mod rounds;
 mod rowwise;
 mod staged;
 mod stages;

@@ -20,6 +20,7 @@ pub enum Worked {
 }
 
 /// The leading row-wise steps of a plan, for the batches of the main source.
+#[derive(Drop)]
 pub(crate) struct LeadingSteps<'a> {
     pub(crate) alloc: Global,
     pub(crate) front: &'a Front,

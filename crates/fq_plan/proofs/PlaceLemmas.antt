@@ -1,0 +1,186 @@
+-- The sources that files are of.
+use Rattle.std.proofs.Common.{◌≡◌, ℕ, zero, suc, ◌+◌, ◌-◌, ◌<◌, ◌≤◌, Bool, true, false, nat_lt, List, [], ◌∷◌, ◌++◌, map, length, take, flat_map, replicate, sum_by, Option, Some, None, refl, ap, sym, subst, ◌∙◌, arith, cond, get_or, length-append}
+use Rattle.std.specs.List.{slice_get}
+use Rattle.std.proofs.Math.Seq.{get_or-append_seam, take-append_seam}
+use Rattle.std.proofs.lemmas.Bool.Decides.{nat_tests}
+use Rattle.std.proofs.lemmas.List.{length-replicate, map-append}
+use Rattle.std.proofs.lemmas.List.Sums.{sum_by-append, sum_by-cons}
+use Rattle.fq_column.specs.Frame.{Fields, Frame, Row}
+use Rattle.fq_csv.specs.Run.{frame_with}
+use Rattle.fq_plan.specs.Plan.{Source, Query, but_last, last_or, file_fields, files_wanted, join_files, main_fields}
+use Rattle.fq_plan.specs.Rounds.{front_fields, leading_steps, main_files, no_rows, nothing_taken}
+use Rattle.fq_plan.specs.Working.{stepped, untouched, work_on}
+use Rattle.fq_plan.specs.declared.workers.Worked.{Worked}
+use Rattle.fq_plan.specs.declared.workers.Worked.TheVariants.{Piece}
+use Rattle.fq_plan.specs.declared.feeds.Scanned.TheVariants.{Batch}
+use Rattle.fq_plan.specs.declared.gathering.Gathered.{Gathered}
+use Rattle.fq_column.specs.Schema.{same_fields}
+use Rattle.fq_column.specs.SchemaLaws.{same_fields_decides}
+use Rattle.fq_plan.proofs.GatheringLemmas.{Fits, Head, fields_at, head_of}
+use Rattle.fq_plan.proofs.RoundLemmas.{FilesFit, MainFields}
+
+-- ---- a list that has a last item
+
+module _ {X : Type 0} where
+  ends : (xs : List X) → 0 < length xs → (ys : List X) × (y : X) × (xs ≡ ys ++ y ∷ [])
+  ends [] h = absurd (omega (arith, h))
+  ends (x ∷ []) h = ([], x, refl)
+  ends (x ∷ y ∷ xs) h = let more = ends (y ∷ xs) (omega arith) in (x ∷ more.0, more.1, ap (λ zs. x ∷ zs) more.2)
+
+  last-of : (d : X) (xs : List X) (x : X) → last_or d (xs ++ x ∷ []) ≡ x
+  last-of d xs x = ap (λ n. get_or (xs ++ x ∷ []) n d) (let q : length (xs ++ x ∷ []) - 1 ≡ length xs = omega (arith, length-append xs (x ∷ [])) in q) ∙ get_or-append_seam xs x [] d
+
+  but_last-of : (xs : List X) (x : X) → but_last (xs ++ x ∷ []) ≡ xs
+  but_last-of xs x = ap (λ n. take n (xs ++ x ∷ [])) (let q : length (xs ++ x ∷ []) - 1 ≡ length xs = omega (arith, length-append xs (x ∷ [])) in q) ∙ take-append_seam xs (x ∷ [])
+
+  -- two lists with a last item
+  pub same-ends : (xs ys : List X) (x y : X) → xs ++ x ∷ [] ≡ ys ++ y ∷ [] → (xs ≡ ys) × (x ≡ y)
+  same-ends xs ys x y e = (sym (but_last-of xs x) ∙ ap but_last e ∙ but_last-of ys y, sym (last-of x xs x) ∙ ap (last_or x) e ∙ last-of x ys y)
+
+-- a plan's sources: those before the last, and the last
+pub record HasMain (p : Query) (main : Source) : Type 0 where
+  pub all : p.sources ≡ but_last p.sources ++ main ∷ []
+  pub fields : main_fields p ≡ main.fields
+  pub files : main_files p ≡ main.files
+
+pub has_main : (p : Query) → 0 < length p.sources → (main : Source) × HasMain p main
+has_main p h = go (ends p.sources h)
+  where
+    go : (ys : List Source) × (y : Source) × (p.sources ≡ ys ++ y ∷ []) → (main : Source) × HasMain p main
+    go e = (
+      e.1,
+      record {
+        all = e.2 ∙ ap (λ xs. xs ++ e.1 ∷ []) (sym (ap but_last e.2 ∙ but_last-of e.0 e.1));
+        fields = ap (λ ss. last_or [] (map (λ (s : Source). s.fields) ss)) e.2 ∙ ap (last_or []) (map-append (λ (s : Source). s.fields) e.0 (e.1 ∷ [])) ∙ last-of [] (map (λ (s : Source). s.fields) e.0) e.1.fields;
+        files = ap (λ ss. last_or 0 (map (λ (s : Source). s.files) ss)) e.2 ∙ ap (last_or 0) (map-append (λ (s : Source). s.files) e.0 (e.1 ∷ [])) ∙ last-of 0 (map (λ (s : Source). s.files) e.0) e.1.files;
+      },
+    )
+
+pub wanted-main : (p : Query) (main : Source) → HasMain p main → files_wanted p ≡ join_files p + main_files p
+wanted-main p main h =
+    ap (sum_by (λ (s : Source). s.files)) h.all ∙ sum_by-append (λ (s : Source). s.files) (but_last p.sources) (main ∷ [])
+    ∙ ap (λ n. join_files p + n) (let q : sum_by (λ (s : Source). s.files) (main ∷ []) ≡ main_files p = omega (arith, sum_by-cons (λ (s : Source). s.files) main [], h.files) in q)
+
+-- ---- the columns of files
+
+abbrev pub declared : Source → Head
+declared s = (s.files, s.fields)
+
+abbrev pub columns_of : List Source → List Fields
+columns_of ss = flat_map (λ (s : Source). replicate s.files s.fields) ss
+
+pub length-columns : (ss : List Source) → length (columns_of ss) ≡ sum_by (λ (s : Source). s.files) ss
+length-columns [] = refl
+length-columns (s ∷ ss) =
+    length-append (replicate s.files s.fields) (columns_of ss)
+    ∙ ap (λ n. n + length (columns_of ss)) (length-replicate s.files s.fields)
+    ∙ ap (λ n. s.files + n) (length-columns ss)
+    ∙ sym (sum_by-cons (λ (s : Source). s.files) s ss)
+
+get-replicate : {X : Type 0} (n : ℕ) (x : X) (ys : List X) (i : ℕ) → slice_get (replicate n x ++ ys) i ≡ cond (nat_lt i n) (Some x) (slice_get ys (i - n))
+get-replicate zero x ys i =
+    ap (slice_get ys) (let q : i ≡ i - 0 = omega arith in q)
+    ∙ ap (λ b. cond b (Some x) (slice_get ys (i - 0))) (let q : false ≡ nat_lt i 0 = sym (let r : nat_lt i 0 ≡ false = grind (arith, nat_tests) in r) in q)
+get-replicate (suc n) x ys zero = ap (λ b. cond b (Some x) (slice_get ys (0 - suc n))) (sym (let r : nat_lt 0 (suc n) ≡ true = grind (arith, nat_tests) in r))
+get-replicate (suc n) x ys (suc i) =
+    get-replicate n x ys i
+    ∙ ap (λ m. cond (nat_lt i n) (Some x) (slice_get ys m)) (let q : i - n ≡ suc i - suc n = omega arith in q)
+    ∙ ap (λ b. cond b (Some x) (slice_get ys (suc i - suc n))) (go (nat_lt i n) refl)
+  where
+    go : (b : Bool) → nat_lt i n ≡ b → nat_lt i n ≡ nat_lt (suc i) (suc n)
+    go true e = e ∙ sym (let r : nat_lt (suc i) (suc n) ≡ true = grind (arith, nat_tests, e) in r)
+    go false e = e ∙ sym (let r : nat_lt (suc i) (suc n) ≡ false = grind (arith, nat_tests, e) in r)
+
+columns-at : (ss : List Source) (i : ℕ) → slice_get (columns_of ss) i ≡ fields_at i (map declared ss)
+columns-at [] i = refl
+columns-at (s ∷ ss) i = get-replicate s.files s.fields (columns_of ss) i ∙ ap (cond (nat_lt i s.files) (Some s.fields)) (columns-at ss (i - s.files))
+
+-- a file of one of these sources, and of a later one
+early : (ss : List Source) (hs ks : List Head) (i : ℕ) → i < sum_by (λ (s : Source). s.files) ss → fields_at i (map declared ss ++ hs) ≡ fields_at i (map declared ss ++ ks)
+early [] hs ks i h = absurd (omega (arith, h))
+early (s ∷ ss) hs ks i h = go (early ss hs ks (i - s.files)) (nat_lt i s.files) refl
+  where
+    go : (i - s.files < sum_by (λ (s : Source). s.files) ss → fields_at (i - s.files) (map declared ss ++ hs) ≡ fields_at (i - s.files) (map declared ss ++ ks)) → (b : Bool) → nat_lt i s.files ≡ b
+        → cond b (Some s.fields) (fields_at (i - s.files) (map declared ss ++ hs)) ≡ cond b (Some s.fields) (fields_at (i - s.files) (map declared ss ++ ks))
+    go more true e = refl
+    go more false e = more (let k : s.files ≤ i = grind (arith, nat_tests, e) in omega (arith, sum_by-cons (λ (s : Source). s.files) s ss, h))
+
+late : (ss : List Source) (hs : List Head) (i : ℕ) → sum_by (λ (s : Source). s.files) ss ≤ i → fields_at i (map declared ss ++ hs) ≡ fields_at (i - sum_by (λ (s : Source). s.files) ss) hs
+late [] hs i h = ap (λ n. fields_at n hs) (let q : i ≡ i - 0 = omega arith in q)
+late (s ∷ ss) hs i h =
+    let sum = sum_by-cons (λ (s : Source). s.files) s ss in
+    let past : nat_lt i s.files ≡ false = grind (arith, nat_tests, sum, h) in
+    ap (λ b. cond b (Some s.fields) (fields_at (i - s.files) (map declared ss ++ hs))) past
+    ∙ late ss hs (i - s.files) (omega (arith, sum, h))
+    ∙ ap (λ n. fields_at n hs) (let q : i - s.files - sum_by (λ (s : Source). s.files) ss ≡ i - sum_by (λ (s : Source). s.files) (s ∷ ss) = omega (arith, sum) in q)
+
+heads-nothing : (ss : List Source) (gs : List Gathered) → map head_of (map (λ (s : Source). no_rows s.files s.fields) ss ++ gs) ≡ map declared ss ++ map head_of gs
+heads-nothing [] gs = refl
+heads-nothing (s ∷ ss) gs = ap (λ hs. declared s ∷ hs) (heads-nothing ss gs)
+
+module _ (p : Query) (main : Source) (has : HasMain p main) where
+  -- the columns that are declared for a file, by the source that it is of
+  declared-at : (i : ℕ) (fields : Fields) → slice_get (file_fields p) i ≡ Some fields → fields_at i (map declared (but_last p.sources) ++ declared main ∷ []) ≡ Some fields
+  declared-at i fields e =
+      ap (fields_at i) (sym (map-append declared (but_last p.sources) (main ∷ [])))
+      ∙ sym (columns-at (but_last p.sources ++ main ∷ []) i)
+      ∙ ap (λ ss. slice_get (columns_of ss) i) (sym has.all)
+      ∙ e
+
+  main-at : (i : ℕ) (fields : Fields) → slice_get (file_fields p) i ≡ Some fields → nat_lt i (join_files p) ≡ false → fields ≡ main_fields p
+  main-at i fields e past =
+      go (nat_lt (i - join_files p) main.files) (sym (late (but_last p.sources) (declared main ∷ []) i (grind (arith, nat_tests, past))) ∙ declared-at i fields e)
+    where
+      go : (b : Bool) → cond b (Some main.fields) None ≡ Some fields → fields ≡ main_fields p
+      go true q = let r : main.fields ≡ fields = cc q in sym r ∙ sym has.fields
+      go false q = absurd (cc q)
+
+  fit-at : (i : ℕ) (fields : Fields) → slice_get (file_fields p) i ≡ Some fields → (rows : List Row) →
+      Fits (work_on (leading_steps p) (join_files p) i (Batch (frame_with fields rows))) (fields_at i (map head_of (nothing_taken p)))
+  fit-at i fields e rows = go (nat_lt i (join_files p)) refl
+    where
+      own : List Head
+      own = (main_files p, front_fields p) ∷ []
+
+      here : map head_of (nothing_taken p) ≡ map declared (but_last p.sources) ++ own
+      here = heads-nothing (but_last p.sources) (no_rows (main_files p) (front_fields p) ∷ [])
+
+      batch : Frame
+      batch = frame_with fields rows
+
+      worked_as : Bool → Bool → Worked
+      worked_as join same = Piece (cond join (untouched batch) (cond same (stepped (leading_steps p) batch) (untouched batch)))
+
+      same : nat_lt i (join_files p) ≡ false → same_fields fields (main_fields p) ≡ true
+      same past = (same_fields_decides fields (main_fields p)).1 (main-at i fields e past)
+
+      last : (b : Bool) → Fits (Piece (stepped (leading_steps p) batch)) (cond b (Some (front_fields p)) None)
+      last true = refl
+      last false = tt
+
+      go : (b : Bool) → nat_lt i (join_files p) ≡ b → Fits (worked_as (nat_lt i (join_files p)) (same_fields fields (main_fields p))) (fields_at i (map head_of (nothing_taken p)))
+      go true q =
+          let place : fields_at i (map head_of (nothing_taken p)) ≡ Some fields =
+          ap (fields_at i) here ∙ early (but_last p.sources) own (declared main ∷ []) i (grind (arith, nat_tests, q)) ∙ declared-at i fields e in
+          subst (λ (o : Option Fields). Fits (worked_as (nat_lt i (join_files p)) (same_fields fields (main_fields p))) o) (sym place)
+          (subst (λ (b : Bool). Fits (worked_as b (same_fields fields (main_fields p))) (Some fields)) (sym q) refl)
+      go false q =
+          let place : fields_at i (map head_of (nothing_taken p)) ≡ cond (nat_lt (i - join_files p) (main_files p)) (Some (front_fields p)) None =
+          ap (fields_at i) here ∙ late (but_last p.sources) own i (grind (arith, nat_tests, q)) in
+          subst (λ (o : Option Fields). Fits (worked_as (nat_lt i (join_files p)) (same_fields fields (main_fields p))) o) (sym place)
+          (subst (λ (b : Bool). Fits (worked_as b (same_fields fields (main_fields p))) (cond (nat_lt (i - join_files p) (main_files p)) (Some (front_fields p)) None)) (sym q)
+          (subst (λ (b : Bool). Fits (worked_as false b) (cond (nat_lt (i - join_files p) (main_files p)) (Some (front_fields p)) None)) (sym (same q)) (last (nat_lt (i - join_files p) (main_files p)))))
+
+  pub main-fields : (k : ℕ) (fss : List Fields) → ((i : ℕ) (fields : Fields) → slice_get fss i ≡ Some fields → slice_get (file_fields p) (k + i) ≡ Some fields) → MainFields p k fss
+  main-fields k [] h = tt
+  main-fields k (fields ∷ fss) h = (
+    main-at k fields (ap (slice_get (file_fields p)) (let q : k ≡ k + 0 = omega arith in q) ∙ h 0 fields refl),
+    main-fields (suc k) fss (λ i fs e. ap (slice_get (file_fields p)) (let q : suc k + i ≡ k + suc i = omega arith in q) ∙ h (suc i) fs e),
+  )
+
+  pub files-fit : (k : ℕ) (fss : List Fields) → ((i : ℕ) (fields : Fields) → slice_get fss i ≡ Some fields → slice_get (file_fields p) (k + i) ≡ Some fields) → FilesFit (leading_steps p) (join_files p) (map head_of (nothing_taken p)) k fss
+  files-fit k [] h = tt
+  files-fit k (fields ∷ fss) h = (
+    fit-at k fields (ap (slice_get (file_fields p)) (let q : k ≡ k + 0 = omega arith in q) ∙ h 0 fields refl),
+    files-fit (suc k) fss (λ i fs e. ap (slice_get (file_fields p)) (let q : suc k + i ≡ k + suc i = omega arith in q) ∙ h (suc i) fs e),
+  )

@@ -1,0 +1,76 @@
+-- What rounds of the leading steps over the items of a plan's files come to.
+use Rattle.std.specs.Prelude.{◌+◌, Option, option_map, ◌≡◌, ℕ, List, [], ◌∷◌, ◌++◌, map, length, Some, None, Result, Err, IsOk, ◌<◌}
+use Rattle.fq_column.specs.Frame.{Fields, Frame}
+use Rattle.fq_column.specs.Lists.{zip_with}
+use Rattle.fq_column.specs.Stream.{Stream}
+use Rattle.fq_csv.specs.File.{file_stream}
+use Rattle.fq_csv.specs.declared.faults.ScanFault.{ScanFault}
+use Rattle.fq_expr.specs.Front.{NumberedSteps}
+use Rattle.fq_expr.specs.Steps.{fields_after_all}
+use Rattle.fq_lanes.specs.Engine.{Finishes}
+use Rattle.fq_plan.specs.Feeding.{Feeding, MayCome, scanned_items}
+use Rattle.fq_plan.specs.Gathering.{gathered_stream, taken_in}
+use Rattle.fq_plan.specs.Meaning.{meaning, outcome}
+use Rattle.fq_plan.specs.Plan.{Query, but_last, last_or, file_fields, files_wanted, front_of, join_files, main_fields, rest_of}
+use Rattle.fq_plan.specs.Run.{trace_of}
+use Rattle.fq_plan.specs.Sources.{first_fault, row_limit}
+use Rattle.fq_plan.specs.Working.{work_on}
+use Rattle.fq_plan.specs.declared.faults.Fault.{Fault}
+use Rattle.fq_plan.specs.declared.feeds.Scanned.{Scanned}
+use Rattle.fq_plan.specs.declared.gathering.Gathered.{Gathered}
+use Rattle.fq_plan.specs.declared.gathering.Gathering.{Gathering}
+
+-- the number of the main source's files, and its columns after the leading steps
+abbrev pub main_files : Query → ℕ
+main_files p = last_or 0 (map (λ s. s.files) p.sources)
+
+abbrev pub front_fields : Query → Fields
+front_fields p = fields_after_all (main_fields p) (front_of p.steps)
+
+-- the leading steps, which are numbered from 0
+abbrev pub leading_steps : Query → NumberedSteps
+leading_steps p = record { steps = front_of p.steps; fields = main_fields p; first = 0 }
+
+-- a source of which nothing was taken
+abbrev pub no_rows : ℕ → Fields → Gathered
+no_rows files fields = record { files = files; batch = record { fields = fields; rows = [] }; fault = None }
+
+-- so all sources of a plan; the main one has its columns after the leading steps
+abbrev pub nothing_taken : Query → List Gathered
+nothing_taken p = map (λ s. no_rows s.files s.fields) (but_last p.sources) ++ no_rows (main_files p) (front_fields p) ∷ []
+
+-- the items of each file's stream
+abbrev pub items_of_files : Query → ℕ → List (Stream ScanFault) → List (List Scanned)
+items_of_files p batch_size us = zip_with (λ fields u. scanned_items fields batch_size u) (file_fields p) us
+
+-- what feeds of readers have to give, which are numbered from this file on and have these columns
+abbrev pub opened : {R : Type 0} → (R → Option (List ℕ)) → ℕ → ℕ → List Fields → List R → List Feeding
+opened remaining batch_size file [] readers = []
+opened remaining batch_size file (fields ∷ columns) [] = []
+opened remaining batch_size file (fields ∷ columns) (reader ∷ readers) =
+    record { most = 2147483648; items = option_map (scanned_items fields batch_size) (option_map (file_stream file fields row_limit) (remaining reader)) }
+    ∷ opened remaining batch_size (file + 1) columns readers
+
+-- what the steps after the leading ones make of what was gathered, where no source before the last ends in a fault
+abbrev pub outcome_of_gathered : Query → List Gathered → Gathered → Result Frame Fault
+outcome_of_gathered p joins main = elim (first_fault (map gathered_stream joins)) [
+  | Some f ↦ Err f
+  | None ↦ outcome (map (λ g. g.batch) joins) (length (front_of p.steps)) main.batch.fields (rest_of p.steps) (gathered_stream main)
+]
+
+-- a run of rounds over feeds that tell the items of these streams, from nothing taken on
+pub record RanOver (p : Query) (batch_size : ℕ) (us : List (Stream ScanFault)) (front : NumberedSteps) (joins : ℕ) (feeds : List Feeding) (first last : Gathering) (trace : List (ℕ × ℕ)) : Type 0 where
+  pub some_rows : 0 < batch_size
+  pub some_source : 0 < length p.sources
+  pub all_files : length us ≡ files_wanted p
+  pub steps : front ≡ leading_steps p
+  pub join_count : joins ≡ join_files p
+  pub told : map (λ f. f.items) feeds ≡ map Some (items_of_files p batch_size us)
+  pub nothing : first.sources.items ≡ nothing_taken p
+  pub finished : Finishes MayCome (λ file item out. out ≡ work_on front joins file item)
+      (λ old file serial out new. new.sources.items ≡ taken_in file out old.sources.items) feeds first trace last
+
+-- then what was gathered has the plan's meaning as its outcome, and the trace lists each file's batches where that is a frame
+pub record Gives (p : Query) (batch_size : ℕ) (us : List (Stream ScanFault)) (last : Gathering) (numbers : List (ℕ × ℕ)) : Type 0 where
+  pub outcome : (joins : List Gathered) (main : Gathered) → last.sources.items ≡ joins ++ main ∷ [] → outcome_of_gathered p joins main ≡ meaning p us
+  pub trace : IsOk (meaning p us) → numbers ≡ trace_of batch_size us
