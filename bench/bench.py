@@ -3,7 +3,7 @@
 
     bench/bench.py scan [MEGABYTES]
 
-Each task is a folder here with `main.rt`, the program over the crates, and `twin.rs`, the twin. Both are built first (the
+Each task is a folder here with `program.rt.txt`, the program over the crates, and `twin.rs`, the twin. Both are built first (the
 first with the Rattle toolchain, the second with `rustc`), and must print the same.
 """
 import os
@@ -52,7 +52,7 @@ def build(folder, task, crates):
     os.makedirs(f"{folder}/crates/bench/src")
     for crate in crates:
         shutil.copytree(f"{ROOT}/crates/{crate}", f"{folder}/crates/{crate}", symlinks=True)
-    shutil.copy(f"{HERE}/{task}/main.rt", f"{folder}/crates/bench/src/main.rt")
+    shutil.copy(f"{HERE}/{task}/program.rt.txt", f"{folder}/crates/bench/src/main.rt")
     with open(f"{folder}/crates.txt", "w", encoding="ascii") as file:
         file.write("".join(lines[crate] for crate in crates) + "bench: " + " ".join(crates) + "\n")
     subprocess.run(["rt", "run"], cwd=f"{folder}/crates/bench", stdin=subprocess.DEVNULL, stdout=subprocess.DEVNULL, check=False)
