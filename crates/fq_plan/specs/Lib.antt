@@ -14,3 +14,4 @@ pub mod Gathering
 pub mod Answer
 pub mod Examples
 pub mod Stages
+pub mod Outcome
