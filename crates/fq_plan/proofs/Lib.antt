@@ -6,6 +6,7 @@ pub mod RowPlanLemmas
 pub mod BatchLemmas
 pub mod TailLemmas
 pub mod StageLemmas
+pub mod FinishLemmas
 pub mod FeedLemmas
 pub mod GatheringLemmas
 pub mod EndLemmas

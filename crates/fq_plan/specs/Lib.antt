@@ -15,3 +15,4 @@ pub mod Rounds
 pub mod Answer
 pub mod Examples
 pub mod Stages
+pub mod Outcome

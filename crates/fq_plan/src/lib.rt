@@ -9,6 +9,7 @@ mod evaluation;
 mod examples;
 mod faults;
 mod feeds;
+mod finish;
 mod gathering;
 mod laws;
 mod plans;
