@@ -162,37 +162,46 @@ fn first_item(alloc: Global, file: u16, name: &str, bytes: &str) -> Result<Scann
     }
 }
 
-#[test]
-fn only_batches_of_the_main_source_are_stepped(rt: HostRuntime) -> Result<(), Fail> {
-    let alloc = rt.alloc();
+// The work of one step on the first item of a file, where file 0 is a joined one.
+fn worked(alloc: Global, file: u16, bytes: &str) -> Result<Worked, Fail> {
     let front = one_more(alloc)?;
     let steps = LeadingSteps {
         alloc,
         front: &front,
         join_files: 1,
     };
-    let Ok(Worked::Piece(piece)) = steps.work(0, first_item(alloc, 0, "a", "a\n7\n")?) else {
-        return Err(Fail::from("no piece of a joined file"));
+    match steps.work(file, first_item(alloc, file, "a", bytes)?) {
+        Ok(worked) => Ok(worked),
+        Err(_) => Err(Fail::from("no memory")),
+    }
+}
+
+#[test]
+fn a_joined_file_is_left_as_it_is(rt: HostRuntime) -> Result<(), Fail> {
+    let Worked::Piece(piece) = worked(rt.alloc(), 0, "a\n7\n")? else {
+        return Err(Fail::from("no piece"));
     };
-    assert!(rt; has_rows(alloc, &piece.batch, &[7])?);
+    assert!(rt; has_rows(rt.alloc(), &piece.batch, &[7])?);
     assert_eq!(rt; piece.fault, None);
-    let main = first_item(alloc, 1, "a", "a\n7\n9223372036854775807\n8\n")?;
-    let Ok(Worked::Piece(piece)) = steps.work(1, main) else {
-        return Err(Fail::from("no piece of a main file"));
+    Ok(())
+}
+
+#[test]
+fn a_main_file_is_stepped(rt: HostRuntime) -> Result<(), Fail> {
+    let Worked::Piece(piece) = worked(rt.alloc(), 1, "a\n7\n9223372036854775807\n8\n")? else {
+        return Err(Fail::from("no piece"));
     };
     assert_eq!(rt; piece.batch.rows(), 1);
-    assert_eq!(rt;
-        piece.batch.row(alloc, 0)?.as_slice(),
-        [Cell::Whole(7), Cell::Whole(8)].as_slice()
-    );
+    let row = piece.batch.row(rt.alloc(), 0)?;
+    assert_eq!(rt; row.as_slice(), [Cell::Whole(7), Cell::Whole(8)].as_slice());
     assert_eq!(rt; piece.fault, Some(RowFault { step: 0, item: 0 }));
-    let broken = first_item(alloc, 1, "a", "b\n7\n")?;
-    assert!(rt;
-        matches!(
-            steps.work(1, broken),
-            Ok(Worked::Ended(ScanFault::Header { file: 1 }))
-        )
-    );
+    Ok(())
+}
+
+#[test]
+fn a_fault_goes_through_the_work(rt: HostRuntime) -> Result<(), Fail> {
+    let fault = worked(rt.alloc(), 1, "b\n7\n")?;
+    assert!(rt; matches!(fault, Worked::Ended(ScanFault::Header { file: 1 })));
     Ok(())
 }
 
