@@ -1,11 +1,17 @@
 -- Worked examples: what plans over files come to, from the plan's text and the files' bytes to the output's bytes.
-use Rattle.std.specs.Prelude.{◌≡◌, ℕ, ◌==◌, List, [], ◌∷◌, ◌++◌, map, replicate, codes, if◌then◌else◌}
+use Rattle.std.specs.Prelude.{◌≡◌, ℕ, ◌==◌, List, [], ◌∷◌, ◌++◌, map, replicate, codes, Some, None, Ok, Err, if◌then◌else◌}
 use Rattle.fq_column.specs.declared.faults.StepFault.TheVariants.{NoSuchColumn, DoubleName, NotBool, NoColumn, NoSuchSource}
-use Rattle.fq_plan.specs.Answer.{answer, prints, faults, refused, no_plan}
+use Rattle.fq_column.specs.Stream.{rename_fault}
+use Rattle.fq_csv.specs.Printed.{printed}
+use Rattle.fq_plan.specs.Answer.{Answer, answer, prints, faults, refused, no_plan}
 use Rattle.fq_plan.specs.Judged.{refused_at}
+use Rattle.fq_plan.specs.Run.{start_refusal, trace_of}
+use Rattle.fq_plan.specs.Sources.{file_streams, scan_fault}
+use Rattle.fq_plan.specs.Spelling.{read_as_plan}
+use Rattle.fq_plan.specs.Tail.{all_items, outcome_of_taken}
 use Rattle.fq_plan.specs.declared.faults.PlanFault.TheVariants.{Json, Shape}
 use Rattle.fq_plan.specs.declared.faults.Place.TheVariants.{Source, Step}
-use Rattle.fq_plan.specs.declared.faults.Fault.TheVariants.{Header, Width, BadCell, Overflow, RollRange, SumRange}
+use Rattle.fq_plan.specs.declared.faults.Fault.TheVariants.{Inputs, Setting, Header, Width, BadCell, Overflow, RollRange, SumRange}
 
 -- a JSON text that was written with single quotes
 abbrev pub json : List ℕ → List ℕ
@@ -193,3 +199,33 @@ RefusedPlans = (answer (one_file id_v (codes "{'filter':['gt',{'col':'w'},10]}")
     × (answer (one_file id_v (codes "{'filter':{'col':'v'}}")) [] ≡ refused (refused_at (Step 0) NotBool))
     × (answer (one_file id_v (codes "{'join':{'how':'inner','source':0,'on':['id']}}")) [] ≡ refused (refused_at (Step 0) NoSuchSource))
     × (answer (one_file [] []) [] ≡ refused (refused_at (Source 0) NoColumn))
+
+-- runs that do not start
+abbrev pub RefusedStarts : Type 0
+RefusedStarts = (start_refusal 2 1 0 2 ≡ Some (Inputs 2 1))
+    × (start_refusal 2 2 0 2 ≡ Some Setting)
+    × (start_refusal 2 2 65537 2 ≡ Some Setting)
+    × (start_refusal 2 2 1024 17 ≡ Some Setting)
+    × (start_refusal 2 2 1024 2 ≡ None)
+
+-- what the last stage makes of the files' items, at a batch size
+abbrev pub answer_by_items : ℕ → List ℕ → List (List ℕ) → Answer
+answer_by_items batch_size text files = elim (read_as_plan text) [
+  | Err e ↦ no_plan e
+  | Ok p ↦ elim (outcome_of_taken p (all_items p batch_size (map (rename_fault scan_fault) (file_streams p files)))) [ Err f ↦ faults f | Ok frame ↦ prints (printed frame) ]
+]
+
+abbrev pub ItemsAtAnySize : Type 0
+ItemsAtAnySize = (answer_by_items 1 over_ten (codes "id,v\n1,5\n2,\n3,20\n" ∷ []) ≡ prints (codes "id,v\n3,20\n"))
+    × (answer_by_items 1 two_sums (codes "a,b\n0,9223372036854775807\n0,0\n9223372036854775807,0\n" ∷ []) ≡ faults (Overflow 1 0))
+    × (answer_by_items 8 two_sums (codes "a,b\n0,9223372036854775807\n0,0\n9223372036854775807,0\n" ∷ []) ≡ faults (Overflow 1 0))
+    × (answer_by_items 2 (two_sources k_w k_v (join_on_k (codes "left"))) (codes "k,w\n1,a\n,b\n1,c\n" ∷ codes "k,v\n2,10\n1,20\n,30\n" ∷ []) ≡ prints (codes "k,v,w\n2,10,\n1,20,a\n1,20,c\n,30,\n"))
+
+-- the batches of each file, in order
+abbrev pub batches : ℕ → List ℕ → List (List ℕ) → List (ℕ × ℕ)
+batches size text files = elim (read_as_plan text) [ Err e ↦ [] | Ok p ↦ trace_of size (file_streams p files) ]
+
+abbrev pub Traces : Type 0
+Traces = (batches 1024 over_ten (codes "id,v\n" ∷ []) ≡ [])
+    × (batches 2 (two_files (codes "['v','int']") []) (codes "v\n1\n2\n3\n" ∷ codes "v\n4\n5\n" ∷ []) ≡ (0, 0) ∷ (0, 1) ∷ (1, 0) ∷ [])
+    × (batches 1024 (two_sources k_w k_v (join_on_k (codes "left"))) (codes "k,w\n1,a\n,b\n1,c\n" ∷ codes "k,v\n2,10\n1,20\n,30\n" ∷ []) ≡ (0, 0) ∷ (1, 0) ∷ [])

@@ -1,5 +1,5 @@
 // Worked examples of the definitions, each proved by computing both sides.
-ghost use Rattle.fq_plan.specs.Examples.{FilteredRows, EmptyFiles, FilesInOrder, LogicWithNulls, EarliestRow, GroupSums, GroupOrder, AggregatesOfNulls, JoinedRows, SuffixedNames, RollingSums, WholeNumbers, BadRows, Texts, TruthValues, Division, FileOrStep, UnusedSource, NoPlans, DoubleMembers, RefusedPlans};
+ghost use Rattle.fq_plan.specs.Examples.{FilteredRows, EmptyFiles, FilesInOrder, LogicWithNulls, EarliestRow, GroupSums, GroupOrder, AggregatesOfNulls, JoinedRows, SuffixedNames, RollingSums, WholeNumbers, BadRows, Texts, TruthValues, Division, FileOrStep, UnusedSource, NoPlans, DoubleMembers, RefusedPlans, RefusedStarts, ItemsAtAnySize, Traces};
 
 // Plans over files.
 fn worked_plans()
@@ -30,8 +30,16 @@ fn worked_refusals()
     ensures refused { RefusedPlans }
 {}
 
+// Runs that do not start, and what is made of batches.
+fn worked_runs()
+    ensures starts { RefusedStarts }
+    ensures items { ItemsAtAnySize }
+    ensures traces { Traces }
+{}
+
 #[test]
 fn definitions_compute() {
     worked_plans();
     worked_refusals();
+    worked_runs();
 }
