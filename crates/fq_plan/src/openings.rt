@@ -12,10 +12,7 @@ use std::alloc::Global;
 use std::io::Read;
 
 /// The columns of each file, in argument order.
-pub(crate) fn file_schemas(
-    alloc: Global,
-    sources: &[CheckedSource],
-) -> Result<Vec<Schema>, Memory>
+pub(crate) fn file_schemas(alloc: Global, sources: &[CheckedSource]) -> Result<Vec<Schema>, Memory>
     ensures { IfOk result (λ schemas. schemas.items ≡ flat_map (λ s. replicate s.files s.schema) sources.now) }
 {
     let mut schemas = Vec::new(alloc);
@@ -77,11 +74,7 @@ pub(crate) fn empty_sources(
 {
     let mut sources = Vec::with_capacity(alloc, joins.len() + 1)?;
     for source in joins {
-        sources.push(Gathered::new(
-            alloc,
-            source.files,
-            source.schema.copy(alloc)?,
-        )?)?;
+        sources.push(Gathered::new(alloc, source.files, source.schema.copy(alloc)?)?)?;
     }
     let main = Gathered::new(alloc, main_files, front.schema().copy(alloc)?)?;
     let piece = front.apply(alloc, main.batch)?;
