@@ -12,6 +12,7 @@ mod feeds;
 mod finish;
 mod gathering;
 mod laws;
+mod openings;
 mod plans;
 mod reading;
 mod rounds;
