@@ -292,30 +292,42 @@ fn arrays_are_written_in_place(rt: HostRuntime) -> Result<(), Fail> {
     Ok(())
 }
 
-#[test]
-fn puts_columns_into_a_batch(rt: HostRuntime) -> Result<(), Fail> {
-    let alloc = rt.alloc();
+// A batch of the schema of two.
+fn batch_of_two(rt: &impl Abort, alloc: Global) -> Result<Batch, Fail> {
     let columns = vec![in alloc;
-        whole_column(&rt, alloc, &[Some(1), None])?,
-        text_column(&rt, alloc, &["x", "y"])?,
+        whole_column(rt, alloc, &[Some(1), None])?,
+        text_column(rt, alloc, &["x", "y"])?,
     ]?;
-    let Ok(mut batch) = Batch::from_columns(schema_of_two(&rt, alloc)?, columns) else {
-        return Err(Fail::new("the columns fit"));
-    };
+    match Batch::from_columns(schema_of_two(rt, alloc)?, columns) {
+        Ok(batch) => Ok(batch),
+        Err(_) => Err(Fail::new("the columns fit")),
+    }
+}
+
+#[test]
+fn puts_a_column_in_place(rt: HostRuntime) -> Result<(), Fail> {
+    let alloc = rt.alloc();
+    let mut batch = batch_of_two(&rt, alloc)?;
     let numbers = whole_column(&rt, alloc, &[Some(7), Some(8)])?;
     assert!(rt; batch.schema().len() < 64);
     assert_eq!(rt; numbers.len(), batch.rows());
     batch.put("b", numbers)?;
     assert_eq!(rt; batch.rows(), 2);
-    assert!(rt; batch.row(alloc, 1)?.as_slice() == [Cell::Null, Cell::Whole(8)].as_slice());
-    let texts = text_column(&rt, alloc, &["p", "q"])?;
+    let row = batch.row(alloc, 1)?;
+    assert!(rt; row.as_slice() == [Cell::Null, Cell::Whole(8)].as_slice());
+    Ok(())
+}
+
+#[test]
+fn puts_a_column_last(rt: HostRuntime) -> Result<(), Fail> {
+    let alloc = rt.alloc();
+    let mut batch = batch_of_two(&rt, alloc)?;
+    let numbers = whole_column(&rt, alloc, &[Some(7), None])?;
     assert!(rt; batch.schema().len() < 64);
-    assert_eq!(rt; texts.len(), batch.rows());
-    batch.put("c", texts)?;
+    assert_eq!(rt; numbers.len(), batch.rows());
+    batch.put("c", numbers)?;
     assert_eq!(rt; batch.rows(), 2);
-    assert!(rt;
-        batch.row(alloc, 0)?.as_slice()
-            == [Cell::Whole(1), Cell::Whole(7), text(alloc, "p")?].as_slice()
-    );
+    let row = batch.row(alloc, 0)?;
+    assert!(rt; row.as_slice() == [Cell::Whole(1), text(alloc, "x")?, Cell::Whole(7)].as_slice());
     Ok(())
 }
