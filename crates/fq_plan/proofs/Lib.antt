@@ -7,6 +7,7 @@ pub mod BatchLemmas
 pub mod TailLemmas
 pub mod StageLemmas
 pub mod FinishLemmas
+pub mod RunLemmas
 pub mod FeedLemmas
 pub mod GatheringLemmas
 pub mod EndLemmas

@@ -11,6 +11,7 @@ pub mod Tail
 pub mod Feeding
 pub mod Working
 pub mod Gathering
+pub mod Kept
 pub mod Rounds
 pub mod Answer
 pub mod Examples

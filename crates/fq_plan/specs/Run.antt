@@ -23,6 +23,13 @@ IsStartFault (Inputs wanted got) = ⊤
 IsStartFault Setting = ⊤
 IsStartFault _ = ⊥
 
+-- the faults of a run that has started, up to its writing
+abbrev pub IsRunFault : Fault → Type 0
+IsRunFault (Inputs wanted got) = ⊥
+IsRunFault Setting = ⊥
+IsRunFault Write = ⊥
+IsRunFault _ = ⊤
+
 -- the faults that are a plan's meaning: of a file's text, or of a step on its rows
 abbrev pub IsOfMeaning : Fault → Type 0
 IsOfMeaning (Inputs wanted got) = ⊥

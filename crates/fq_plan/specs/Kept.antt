@@ -1,0 +1,26 @@
+-- What a run keeps of its sources: their files and columns, and that no fault of theirs is one of starting or of writing.
+use Rattle.std.specs.Prelude.{◌≡◌, ℕ, List, [], ◌∷◌, Option, Some, None}
+use Rattle.fq_column.specs.Frame.{Fields}
+use Rattle.fq_plan.specs.Gathering.{taken_in}
+use Rattle.fq_plan.specs.Run.{IsRunFault}
+use Rattle.fq_plan.specs.declared.faults.Fault.{Fault}
+use Rattle.fq_plan.specs.declared.gathering.Gathered.{Gathered}
+use Rattle.fq_plan.specs.declared.gathering.Gathering.{Gathering}
+use Rattle.fq_plan.specs.declared.workers.Worked.{Worked}
+
+-- a source's files and columns
+abbrev pub shape : Gathered → ℕ × Fields
+shape g = (g.files, g.batch.fields)
+
+-- what the tail of a run takes
+abbrev pub Takes : Gathering → ℕ → ℕ → Worked → Gathering → Type 0
+Takes old file serial out new = new.sources.items ≡ taken_in file out old.sources.items
+
+-- no fault, or one of a run that has started, up to its writing
+abbrev pub IsSound : Option Fault → Type 0
+IsSound None = Unit {0}
+IsSound (Some f) = IsRunFault f
+
+abbrev pub AreSound : List Gathered → Type 0
+AreSound [] = Unit {0}
+AreSound (g ∷ gs) = IsSound g.fault × AreSound gs
