@@ -3,13 +3,11 @@ ghost use Rattle.std.specs.Prelude.{◌≡◌, ◌<◌, None, [], length, IfOk, 
 ghost use Rattle.fq_column.specs.Frame.{kinds_of};
 ghost use Rattle.fq_csv.specs.Rows.{Holds};
 ghost use Rattle.fq_plan.specs.Gathering.{gathered, taken_in};
-ghost use Rattle.fq_plan.specs.Sources.{row_fault, scan_fault};
 
 use crate::faults::Fault;
 use crate::workers::Worked;
 use fq_column::{Batch, Column, Memory, Schema};
-use fq_csv::ScanFault;
-use fq_expr::{Piece, RowFault};
+use fq_expr::Piece;
 use fq_lanes::Tail;
 use std::alloc::Global;
 
@@ -54,7 +52,7 @@ impl Gathered {
         }
         match out {
             Worked::Ended(fault) => {
-                self.fault = Some(fault_of_scan(fault));
+                self.fault = Some(fault.into());
                 Ok(())
             }
             Worked::Piece(piece) => self.append(piece),
@@ -70,7 +68,7 @@ impl Gathered {
         let Piece { batch, fault } = piece;
         if batch.schema() == self.batch.schema() {
             self.batch.extend(batch)?;
-            self.fault = fault.map(fault_of_row);
+            self.fault = fault.map(Fault::from);
         }
         Ok(())
     }
@@ -115,28 +113,4 @@ fn empty_columns(alloc: Global, schema: &Schema) -> Result<Vec<Column>, Memory>
         columns.push(Column::new(alloc, schema.kind(i)))?;
     }
     Ok(columns)
-}
-
-// A fault of a file as a fault of the run.
-fn fault_of_scan(fault: ScanFault) -> Fault
-    ensures { result ≡ scan_fault fault }
-{
-    match fault {
-        ScanFault::Header { file } => Fault::Header { file },
-        ScanFault::Width { file, row } => Fault::Width { file, row },
-        ScanFault::BadCell { file, row, column } => Fault::BadCell { file, row, column },
-        ScanFault::TooLong { file } => Fault::TooLong { file },
-        ScanFault::Read { file } => Fault::Read { file },
-        ScanFault::Memory => Fault::Memory,
-    }
-}
-
-// A fault of a row-wise step as a fault of the run.
-fn fault_of_row(fault: RowFault) -> Fault
-    ensures { result ≡ row_fault fault }
-{
-    Fault::Overflow {
-        step: fault.step,
-        item: fault.item,
-    }
 }
