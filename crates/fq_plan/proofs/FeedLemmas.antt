@@ -1,8 +1,7 @@
 -- What a feed has still to give, call by call.
-use Rattle.std.proofs.Common.{◌≡◌, ◌≢◌, ◌<◌, ◌⊎◌, inl, inr, ℕ, Bool, false, List, [], ◌∷◌, ◌++◌, map, length, take, drop, Option, Some, None, option_map, refl, ap, sym, subst, ◌∙◌, arith, length-take}
+use Rattle.std.proofs.Common.{◌≡◌, ◌≢◌, ◌<◌, inl, inr, ℕ, Bool, false, List, [], ◌∷◌, ◌++◌, map, length, take, Option, Some, None, option_map, refl, ap, sym, ◌∙◌, arith, length-take}
 use Rattle.std.proofs.lemmas.Option.{none-some, same_Some}
 use Rattle.fq_column.specs.Frame.{Fields, Frame, Row}
-use Rattle.fq_column.specs.Lists.{pieces}
 use Rattle.fq_column.specs.Stream.{Stream}
 use Rattle.fq_csv.specs.Run.{frame_with}
 use Rattle.fq_csv.specs.Scan.{HandsOut, IsFailed, IsNextBatch, Scanning}

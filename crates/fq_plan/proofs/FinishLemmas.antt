@@ -6,14 +6,13 @@ use Rattle.fq_column.specs.Stream.{Stream}
 use Rattle.fq_plan.specs.Gathering.{gathered_stream}
 use Rattle.fq_plan.specs.Meaning.{apply_plan_steps, frame_or_fault, outcome}
 use Rattle.fq_plan.specs.Outcome.{AreStaged, outcome_of_stages}
-use Rattle.fq_plan.specs.Plan.{but_last, last_or}
 use Rattle.fq_plan.specs.Sources.{first_fault}
 use Rattle.fq_plan.specs.Stages.{Leads, stage_steps}
 use Rattle.fq_plan.specs.declared.faults.Fault.{Fault}
 use Rattle.fq_plan.specs.declared.gathering.Gathered.{Gathered}
 use Rattle.fq_plan.specs.declared.stages.Stage.{Stage}
 use Rattle.fq_ops.proofs.RefusalLemmas.{map-map}
-use Rattle.fq_plan.proofs.SplitLemmas.{but_last-snoc, last_or-snoc}
+use Rattle.fq_plan.proofs.SplitLemmas.{same-ends}
 
 abbrev or_later : Option Fault → Option Fault → Option Fault
 or_later o rest = elim o as (λ _. Option Fault) [ Some f ↦ Some f | None ↦ rest ]
@@ -40,17 +39,10 @@ still-none gs g none e = past gs (g ∷ []) none ∙ ap (λ o. or_later o None) 
 
 -- ---- what is made of whole sources
 
--- the sources are these and the last one: both are known
-pub same-split : (xs ys : List Gathered) (x y : Gathered) → xs ++ x ∷ [] ≡ ys ++ y ∷ [] → (xs ≡ ys) × (x ≡ y)
-same-split xs ys x y e = (
-  sym (but_last-snoc xs x) ∙ ap but_last e ∙ but_last-snoc ys y,
-  sym (last_or-snoc x xs x) ∙ ap (last_or x) e ∙ last_or-snoc x ys y,
-)
-
 pub leads-over : (xs joins : List Gathered) (x main : Gathered) (batches : List Frame) (stages : List Stage) (n : ℕ) (after : Fields) → AreStaged (xs ++ x ∷ []) stages joins main n after →
     batches ≡ map (λ g. g.batch) xs → Leads (map (λ (f : Frame). f.fields) batches) n x.batch.fields stages after
 leads-over xs joins x main batches stages n after s e =
-    let same = same-split xs joins x main s.sources_are in
+    let same = same-ends xs joins x main s.sources_are in
     let columns : map (λ (g : Gathered). g.batch.fields) joins ≡ map (λ (f : Frame). f.fields) batches =
     ap (map (λ (g : Gathered). g.batch.fields)) (sym same.0) ∙ sym (map-map (λ (f : Frame). f.fields) (λ (g : Gathered). g.batch) xs) ∙ ap (map (λ (f : Frame). f.fields)) (sym e) in
     subst (λ (f : Fields). Leads (map (λ (f : Frame). f.fields) batches) n f stages after) (ap (λ (g : Gathered). g.batch.fields) (sym same.1))
@@ -60,7 +52,7 @@ pub staged-outcome : (xs joins : List Gathered) (x main : Gathered) (batches : L
     batches ≡ map (λ g. g.batch) xs → first_fault (map gathered_stream xs) ≡ None →
     r ≡ apply_plan_steps batches n x.batch.fields (stage_steps stages) (gathered_stream x) → outcome_of_stages n stages joins main ≡ frame_or_fault r.0 r.1
 staged-outcome xs joins x main batches stages n after r s e none made =
-    let same = same-split xs joins x main s.sources_are in
+    let same = same-ends xs joins x main s.sources_are in
     (λ i. outcome_of_stages n stages (sym same.0 i) (sym same.1 i))
     ∙ ap (λ (o : Option Fault). elim o as (λ _. Result Frame Fault) [ Some f ↦ Err f | None ↦ outcome (map (λ g. g.batch) xs) n x.batch.fields (stage_steps stages) (gathered_stream x) ]) none
     ∙ ap (λ bs. outcome bs n x.batch.fields (stage_steps stages) (gathered_stream x)) (sym e)

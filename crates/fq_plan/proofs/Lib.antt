@@ -2,7 +2,6 @@ pub mod ReadingLemmas
 pub mod ValueLemmas
 pub mod SpellingLemmas
 pub mod LimitLemmas
-pub mod RowPlanLemmas
 pub mod BatchLemmas
 pub mod TailLemmas
 pub mod StageLemmas
@@ -18,3 +17,5 @@ pub mod OnLiterals
 pub mod CheckLemmas
 pub mod SplitLemmas
 pub mod PreparedLemmas
+pub mod StartLemmas
+pub mod OutcomeLemmas

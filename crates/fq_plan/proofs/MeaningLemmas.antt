@@ -21,8 +21,9 @@ use Rattle.fq_plan.specs.declared.gathering.Gathered.{Gathered}
 use Rattle.fq_plan.specs.declared.gathering.Gathering.{Gathering}
 use Rattle.fq_plan.proofs.EndLemmas.{files-done}
 use Rattle.fq_plan.proofs.GatheringLemmas.{Answer, all_joined-items, all_taken, all_taken-joined, items-frames, items-streams, with_items, with_items-append, head_of}
-use Rattle.fq_plan.proofs.PlaceLemmas.{HasMain, files-fit, has_main, length-columns, main-fields, same-ends, wanted-main}
+use Rattle.fq_plan.proofs.PlaceLemmas.{HasMain, files-fit, has_main, length-columns, main-fields, wanted-main}
 use Rattle.fq_plan.proofs.RoundLemmas.{answers_in, answers_to, each-known, files-items, files-numbers, fit-files, log-answers, log-numbers, took-all}
+use Rattle.fq_plan.proofs.SplitLemmas.{same-ends}
 use Rattle.fq_plan.proofs.TailLemmas.{items_from-start, outcome-all, untagged}
 
 files-sum : (ss : List Source) → sum_by (λ (g : Gathered). g.files) (map (λ (s : Source). no_rows s.files s.fields) ss) ≡ sum_by (λ (s : Source). s.files) ss

@@ -1,7 +1,6 @@
 -- The sources that files are of.
-use Rattle.std.proofs.Common.{◌≡◌, ℕ, zero, suc, ◌+◌, ◌-◌, ◌<◌, ◌≤◌, Bool, true, false, nat_lt, List, [], ◌∷◌, ◌++◌, map, length, take, flat_map, replicate, sum_by, Option, Some, None, refl, ap, sym, subst, ◌∙◌, arith, cond, get_or, length-append}
+use Rattle.std.proofs.Common.{◌≡◌, ℕ, zero, suc, ◌+◌, ◌-◌, ◌<◌, ◌≤◌, Bool, true, false, nat_lt, List, [], ◌∷◌, ◌++◌, map, length, flat_map, replicate, sum_by, Option, Some, None, refl, ap, sym, subst, ◌∙◌, arith, cond, length-append}
 use Rattle.std.specs.List.{slice_get}
-use Rattle.std.proofs.Math.Seq.{get_or-append_seam, take-append_seam}
 use Rattle.std.proofs.lemmas.Bool.Decides.{nat_tests}
 use Rattle.std.proofs.lemmas.List.{length-replicate, map-append}
 use Rattle.std.proofs.lemmas.List.Sums.{sum_by-append, sum_by-cons}
@@ -18,6 +17,7 @@ use Rattle.fq_column.specs.Schema.{same_fields}
 use Rattle.fq_column.specs.SchemaLaws.{same_fields_decides}
 use Rattle.fq_plan.proofs.GatheringLemmas.{Fits, Head, fields_at, head_of}
 use Rattle.fq_plan.proofs.RoundLemmas.{FilesFit, MainFields}
+use Rattle.fq_plan.proofs.SplitLemmas.{but_last-snoc, last_or-snoc}
 
 -- ---- a list that has a last item
 
@@ -26,16 +26,6 @@ module _ {X : Type 0} where
   ends [] h = absurd (omega (arith, h))
   ends (x ∷ []) h = ([], x, refl)
   ends (x ∷ y ∷ xs) h = let more = ends (y ∷ xs) (omega arith) in (x ∷ more.0, more.1, ap (λ zs. x ∷ zs) more.2)
-
-  last-of : (d : X) (xs : List X) (x : X) → last_or d (xs ++ x ∷ []) ≡ x
-  last-of d xs x = ap (λ n. get_or (xs ++ x ∷ []) n d) (let q : length (xs ++ x ∷ []) - 1 ≡ length xs = omega (arith, length-append xs (x ∷ [])) in q) ∙ get_or-append_seam xs x [] d
-
-  but_last-of : (xs : List X) (x : X) → but_last (xs ++ x ∷ []) ≡ xs
-  but_last-of xs x = ap (λ n. take n (xs ++ x ∷ [])) (let q : length (xs ++ x ∷ []) - 1 ≡ length xs = omega (arith, length-append xs (x ∷ [])) in q) ∙ take-append_seam xs (x ∷ [])
-
-  -- two lists with a last item
-  pub same-ends : (xs ys : List X) (x y : X) → xs ++ x ∷ [] ≡ ys ++ y ∷ [] → (xs ≡ ys) × (x ≡ y)
-  same-ends xs ys x y e = (sym (but_last-of xs x) ∙ ap but_last e ∙ but_last-of ys y, sym (last-of x xs x) ∙ ap (last_or x) e ∙ last-of x ys y)
 
 -- a plan's sources: those before the last, and the last
 pub record HasMain (p : Query) (main : Source) : Type 0 where
@@ -50,9 +40,9 @@ has_main p h = go (ends p.sources h)
     go e = (
       e.1,
       record {
-        all = e.2 ∙ ap (λ xs. xs ++ e.1 ∷ []) (sym (ap but_last e.2 ∙ but_last-of e.0 e.1));
-        fields = ap (λ ss. last_or [] (map (λ (s : Source). s.fields) ss)) e.2 ∙ ap (last_or []) (map-append (λ (s : Source). s.fields) e.0 (e.1 ∷ [])) ∙ last-of [] (map (λ (s : Source). s.fields) e.0) e.1.fields;
-        files = ap (λ ss. last_or 0 (map (λ (s : Source). s.files) ss)) e.2 ∙ ap (last_or 0) (map-append (λ (s : Source). s.files) e.0 (e.1 ∷ [])) ∙ last-of 0 (map (λ (s : Source). s.files) e.0) e.1.files;
+        all = e.2 ∙ ap (λ xs. xs ++ e.1 ∷ []) (sym (ap but_last e.2 ∙ but_last-snoc e.0 e.1));
+        fields = ap (λ ss. last_or [] (map (λ (s : Source). s.fields) ss)) e.2 ∙ ap (last_or []) (map-append (λ (s : Source). s.fields) e.0 (e.1 ∷ [])) ∙ last_or-snoc [] (map (λ (s : Source). s.fields) e.0) e.1.fields;
+        files = ap (λ ss. last_or 0 (map (λ (s : Source). s.files) ss)) e.2 ∙ ap (last_or 0) (map-append (λ (s : Source). s.files) e.0 (e.1 ∷ [])) ∙ last_or-snoc 0 (map (λ (s : Source). s.files) e.0) e.1.files;
       },
     )
 

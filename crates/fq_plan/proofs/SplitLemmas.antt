@@ -39,6 +39,10 @@ module _ {X : Type 0} where
   pub last_or-snoc : (d : X) (xs : List X) (x : X) → last_or d (xs ++ x ∷ []) ≡ x
   last_or-snoc d xs x = ap (λ n. slice_index_or (xs ++ x ∷ []) n d) (length-last xs x) ∙ index-last xs x d
 
+  -- two lists with a last item
+  pub same-ends : (xs ys : List X) (x y : X) → xs ++ x ∷ [] ≡ ys ++ y ∷ [] → (xs ≡ ys) × (x ≡ y)
+  same-ends xs ys x y e = (sym (but_last-snoc xs x) ∙ ap but_last e ∙ but_last-snoc ys y, sym (last_or-snoc x xs x) ∙ ap (last_or x) e ∙ last_or-snoc x ys y)
+
 -- ---- leading row-wise steps
 
 pub no_more_leading : (steps : List PlanStep) → front_of (rest_of steps) ≡ []

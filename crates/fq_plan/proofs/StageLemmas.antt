@@ -1,5 +1,5 @@
 -- What the operators of a plan make of a stream.
-use Rattle.std.proofs.Common.{◌≡◌, ℕ, suc, ◌+◌, ◌<◌, ◌≤◌, nat_lt, Bool, true, false, not, List, [], ◌∷◌, ◌++◌, map, length, take, drop, zip, Option, Some, None, is_none, Result, Ok, Err, ℤ, pos, refl, ap, sym, ◌∙◌, arith, append-nil, subst, get_or, zero, length-take-le}
+use Rattle.std.proofs.Common.{◌≡◌, ℕ, suc, ◌+◌, ◌≤◌, nat_lt, Bool, true, false, not, List, [], ◌∷◌, ◌++◌, map, length, take, zip, Option, Some, None, is_none, Result, Ok, Err, pos, refl, ap, sym, ◌∙◌, arith, append-nil, subst, get_or, zero, length-take-le}
 use Rattle.std.specs.Prelude.{IsOk, is_ok, option_map, slice_get}
 use Rattle.std.specs.Option.{option_or}
 use Rattle.std.specs.Result.{result_unwrap_or}

@@ -2,7 +2,6 @@ pub mod Parts
 pub mod Plan
 pub mod Spelling
 pub mod View
-pub mod RowPlan
 pub mod Judged
 pub mod Sources
 pub mod Meaning

@@ -3,6 +3,8 @@ use Rattle.std.specs.Prelude.{◌≡◌, ℕ, Bool, ◌==◌, not, ◌&&◌, nat
 use Rattle.fq_column.specs.Lists.{numbers, pieces}
 use Rattle.fq_column.specs.Stream.{Stream}
 use Rattle.fq_csv.specs.declared.faults.ScanFault.{ScanFault}
+use Rattle.fq_lanes.specs.declared.faults.RunFault.{RunFault}
+use Rattle.fq_lanes.specs.declared.faults.RunFault.TheVariants as engine
 use Rattle.fq_plan.specs.declared.faults.Fault.{Fault}
 use Rattle.fq_plan.specs.declared.faults.Fault.TheVariants.{Inputs, Setting, Memory, Read, Write}
 
@@ -38,6 +40,16 @@ IsOfMeaning Memory = ⊥
 IsOfMeaning (Read file) = ⊥
 IsOfMeaning Write = ⊥
 IsOfMeaning _ = ⊤
+
+-- the faults of the engine, and the engine's own as one of the run
+abbrev pub IsEngineFault : Fault → Type 0
+IsEngineFault Memory = ⊤
+IsEngineFault (Read file) = ⊤
+IsEngineFault _ = ⊥
+
+abbrev pub engine_fault : RunFault → Fault
+engine_fault engine.Memory = Memory
+engine_fault (engine.Read file) = Read file
 
 -- each reader tells its bytes
 abbrev pub Tell : {R : Type 0} → (R → Option (List ℕ)) → List R → List (List ℕ) → Type 0

@@ -24,7 +24,7 @@ pub struct Checked {
     pub(crate) sources: Vec<CheckedSource>,
     pub(crate) front: Front,
     pub(crate) stages: Vec<Stage>,
-    inputs: u16,
+    pub(crate) inputs: u16,
 }
 
 impl Model for Checked {

@@ -16,7 +16,7 @@ mod openings;
 mod plans;
 mod reading;
 mod rounds;
-mod rowwise;
+mod runs;
 mod staged;
 mod stages;
 #[cfg(test)]
@@ -25,6 +25,6 @@ mod workers;
 
 pub use checks::Checked;
 pub use faults::{CheckFault, Fault, Place, PlanFault};
+pub use fq_lanes::Report;
 pub use laws::{meaning_of_items, renamed_steps};
 pub use plans::{Plan, Source, Step, read_plan};
-pub use rowwise::RowPlan;

@@ -1,3 +1,4 @@
 mod checks;
 mod reading;
 mod rounds;
+mod runs;

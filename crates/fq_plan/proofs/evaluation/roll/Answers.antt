@@ -1,11 +1,8 @@
-use Rattle.std.proofs.Common.{◌≡◌, ◌∙◌, ap, sym, Option, Some, None, Ok, List, [], length, map, take, ◌≤◌, subst, ℕ}
+use Rattle.std.proofs.Common.{◌≡◌, ◌∙◌, ap, sym, Option, Some, None, Ok, [], length, map, take, ◌≤◌, subst, ℕ}
 use Rattle.std.specs.Option.{option_map, option_or, option_map_or}
 use Rattle.fq_column.specs.Batch.{frame_with, row_with}
-use Rattle.fq_column.specs.declared.cells.Cell.{Cell}
 use Rattle.fq_column.specs.declared.cells.Cell.TheVariants.{Null}
-use Rattle.fq_column.specs.declared.cells.Kind.{Kind}
 use Rattle.fq_column.specs.declared.cells.Kind.TheVariants.{Whole}
-use Rattle.fq_column.specs.declared.faults.StepFault.{StepFault}
 use Rattle.fq_column.specs.Frame.{Fields, Frame, Name, Row, put_named, names_of, position_of, value_at, value_named}
 use Rattle.fq_column.specs.Lists.{before_missing, first_missing, zip_with}
 use Rattle.fq_column.specs.Schema.{kind_named}

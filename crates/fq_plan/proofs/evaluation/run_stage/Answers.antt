@@ -1,4 +1,4 @@
-use Rattle.std.proofs.Common.{◌≡◌, map, string_bytes}
+use Rattle.std.proofs.Common.{map, string_bytes}
 use Rattle.std.proofs.lemmas.Result.{IfOk-weaker}
 use Rattle.fq_plan.proofs.StageLemmas.{rows-turn, join-turn}
 use Rattle.fq_plan.proofs.evaluation.run_stage.Goals as goal

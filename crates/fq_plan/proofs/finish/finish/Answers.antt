@@ -1,13 +1,11 @@
-use Rattle.std.proofs.Common.{◌≡◌, ◌++◌, ◌∷◌, [], List, Option, Some, None, Result, Ok, Err, inl, ap, sym, ◌∙◌, subst, map, ℕ}
+use Rattle.std.proofs.Common.{◌≡◌, ◌++◌, ◌∷◌, [], List, Option, inl, ap, sym, ◌∙◌, subst, map, ℕ}
 use Rattle.std.specs.Prelude.{option_to_list}
-use Rattle.fq_column.specs.Frame.{Fields, Frame}
+use Rattle.fq_column.specs.Frame.{Fields}
 use Rattle.fq_column.specs.Stream.{Stream}
 use Rattle.fq_plan.specs.Meaning.{frame_or_fault}
-use Rattle.fq_plan.specs.Outcome.{AreStaged, outcome_of_stages}
-use Rattle.fq_plan.specs.Stages.{Leads}
+use Rattle.fq_plan.specs.Outcome.{AreStaged}
 use Rattle.fq_plan.specs.declared.faults.Fault.{Fault}
 use Rattle.fq_plan.specs.declared.gathering.Gathered.{Gathered}
-use Rattle.fq_plan.specs.declared.stages.Stage.{Stage}
 use Rattle.fq_plan.proofs.FinishLemmas.{leads-over, staged-outcome}
 use Rattle.fq_plan.proofs.finish.finish.Goals as goal
 use Rattle.fq_plan.proofs.finish.finish.Goals.{After-as_slice}

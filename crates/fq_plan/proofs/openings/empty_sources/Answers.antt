@@ -1,6 +1,6 @@
-use Rattle.std.proofs.Common.{◌≡◌, ◌∙◌, ◌++◌, ◌∷◌, [], ℕ, ◌+◌, List, None, ap, sym, map, take, arith, refl}
+use Rattle.std.proofs.Common.{◌≡◌, ◌∙◌, ◌++◌, ◌∷◌, [], ℕ, ◌+◌, List, None, ap, map, arith, refl}
 use Rattle.std.proofs.Math.Seq.{take_all}
-use Rattle.fq_column.specs.Frame.{Fields, Frame, Row}
+use Rattle.fq_column.specs.Frame.{Fields, Row}
 use Rattle.fq_column.specs.Stream.{Stream, done}
 use Rattle.fq_expr.specs.Expression.{Step}
 use Rattle.fq_expr.specs.Front.{fault_at}

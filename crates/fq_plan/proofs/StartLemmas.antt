@@ -1,0 +1,147 @@
+-- What a run of a checked plan starts from: its rounds are over the items of the plan's files, from nothing taken.
+use Rattle.std.proofs.Common.{◌≡◌, ℕ, zero, suc, ◌+◌, ◌-◌, ◌<◌, ◌≤◌, List, [], ◌∷◌, ◌++◌, map, length, zip, flat_map, replicate, sum_by, Option, Some, refl, ap, sym, ◌∙◌, arith}
+use Rattle.std.specs.Prelude.{All}
+use Rattle.std.specs.List.{range_with_len}
+use Rattle.std.proofs.lemmas.List.{length-map, map-append}
+use Rattle.std.proofs.lemmas.List.Sums.{sum_by_push}
+use Rattle.fq_column.specs.Frame.{Fields}
+use Rattle.fq_column.specs.Lists.{zip_with}
+use Rattle.fq_column.specs.Stream.{Stream}
+use Rattle.fq_csv.specs.declared.faults.ScanFault.{ScanFault}
+use Rattle.fq_expr.specs.Expression.{Step}
+use Rattle.fq_expr.specs.Front.{NumberedSteps}
+use Rattle.fq_expr.specs.Steps.{fields_after_all}
+use Rattle.fq_lanes.specs.Engine.{Finishes}
+use Rattle.fq_plan.specs.Feeding.{Feeding, MayCome}
+use Rattle.fq_plan.specs.Gathering.{taken_in}
+use Rattle.fq_plan.specs.Plan.{Source, PlanStep, row_wise, join, group_by, rolling_sum, Query, but_last, last_or, file_fields, files_wanted, front_of, join_files, rest_of}
+use Rattle.fq_plan.specs.Rounds.{RanOver, leading_steps, main_files, no_rows, nothing_taken, opened}
+use Rattle.fq_plan.specs.Run.{Tell}
+use Rattle.fq_plan.specs.Sources.{file_streams}
+use Rattle.fq_plan.specs.Stages.{checked_source_data, query_of, stage_steps, IsChecked}
+use Rattle.fq_plan.specs.Working.{work_on}
+use Rattle.fq_plan.specs.declared.gathering.Gathering.{Gathering}
+use Rattle.fq_plan.specs.declared.stages.CheckedSource.{CheckedSource}
+use Rattle.fq_plan.specs.declared.stages.Stage.{Stage}
+use Rattle.fq_plan.proofs.PlaceLemmas.{length-columns}
+use Rattle.fq_plan.proofs.RoundLemmas.{opened-told}
+use Rattle.fq_plan.proofs.SplitLemmas.{but_last-snoc, last_or-snoc}
+
+-- ---- the leading row-wise steps, and the rest
+
+no-leading : (steps : List PlanStep) → front_of steps ≡ [] → rest_of steps ≡ steps
+no-leading [] e = refl
+no-leading (row_wise s ∷ steps) e = absurd (cc e)
+no-leading (join source on how ∷ steps) e = refl
+no-leading (group_by keys aggs ∷ steps) e = refl
+no-leading (rolling_sum column window m name ∷ steps) e = refl
+
+front-all : (xs : List Step) (steps : List PlanStep) → front_of steps ≡ [] → front_of (map row_wise xs ++ steps) ≡ xs
+front-all [] steps e = e
+front-all (x ∷ xs) steps e = ap (λ ys. x ∷ ys) (front-all xs steps e)
+
+rest-all : (xs : List Step) (steps : List PlanStep) → front_of steps ≡ [] → rest_of (map row_wise xs ++ steps) ≡ steps
+rest-all [] steps e = no-leading steps e
+rest-all (x ∷ xs) steps e = rest-all xs steps e
+
+-- ---- feeds that were opened
+
+pub opened-open : {R : Type 0} (remaining : R → Option (List ℕ)) (b k : ℕ) (fss : List Fields) (rs : List R) → All (λ (f : Feeding). f.most ≤ 2147483648) (opened remaining b k fss rs)
+opened-open remaining b k [] rs i d h = absurd (omega (arith, h))
+opened-open remaining b k (fields ∷ fss) [] i d h = absurd (omega (arith, h))
+opened-open remaining b k (fields ∷ fss) (r ∷ rs) zero d h = omega arith
+opened-open remaining b k (fields ∷ fss) (r ∷ rs) (suc i) d h = opened-open remaining b (k + 1) fss rs i d (omega (arith, h))
+
+pub length-opened : {R : Type 0} (remaining : R → Option (List ℕ)) (b k : ℕ) (fss : List Fields) (rs : List R) → length (opened remaining b k fss rs) ≤ length rs
+length-opened remaining b k [] rs = omega arith
+length-opened remaining b k (fields ∷ fss) [] = omega arith
+length-opened remaining b k (fields ∷ fss) (r ∷ rs) = omega (arith, length-opened remaining b (k + 1) fss rs)
+
+-- ---- as many streams as files
+
+length-streams : (f : ℕ → Fields → List ℕ → Stream ScanFault) (k : ℕ) (fss : List Fields) (files : List (List ℕ)) → length fss ≡ length files →
+    length (zip_with (λ i (file : Fields × List ℕ). f i file.0 file.1) (range_with_len k (length files)) (zip fss files)) ≡ length files
+length-streams f k [] [] e = refl
+length-streams f k [] (x ∷ files) e = absurd (omega (arith, e))
+length-streams f k (fields ∷ fss) [] e = absurd (omega (arith, e))
+length-streams f k (fields ∷ fss) (x ∷ files) e = ap suc (length-streams f (k + 1) fss files (omega (arith, e)))
+
+-- ---- the sources of a checked plan
+
+schemas-of : (sources : List CheckedSource) →
+    flat_map (λ (s : CheckedSource). replicate s.files s.schema) sources ≡ flat_map (λ (s : Source). replicate s.files s.fields) (map checked_source_data sources)
+schemas-of [] = refl
+schemas-of (s ∷ sources) = ap (λ fss. replicate s.files s.schema ++ fss) (schemas-of sources)
+
+rows-of : (sources : List CheckedSource) →
+    map (λ (s : CheckedSource). no_rows s.files s.schema) sources ≡ map (λ (s : Source). no_rows s.files s.fields) (map checked_source_data sources)
+rows-of [] = refl
+rows-of (s ∷ sources) = ap (λ gs. no_rows s.files s.schema ∷ gs) (rows-of sources)
+
+module _ (sources : List CheckedSource) (front : NumberedSteps) (stages : List Stage) (inputs : ℕ) (c : IsChecked sources front stages inputs) where
+  abbrev pub plan : Query
+  plan = query_of sources front stages
+
+  pub front-is : front_of plan.steps ≡ front.steps
+  front-is = front-all front.steps (stage_steps stages) c.no_more_leading
+
+  pub rest-is : rest_of plan.steps ≡ stage_steps stages
+  rest-is = rest-all front.steps (stage_steps stages) c.no_more_leading
+
+  pub leading-is : front ≡ leading_steps plan
+  leading-is = λ i. record { steps = sym front-is i; fields = c.on_main i; first = c.from_first i }
+
+  pub schemas-are : flat_map (λ (s : CheckedSource). replicate s.files s.schema) sources ≡ file_fields plan
+  schemas-are = schemas-of sources
+
+  pub count-schemas : length (flat_map (λ (s : CheckedSource). replicate s.files s.schema) sources) ≡ files_wanted plan
+  count-schemas = ap length schemas-are ∙ length-columns plan.sources
+
+  module _ (joins : List CheckedSource) (main : CheckedSource) (parts : sources ≡ joins ++ main ∷ []) where
+    split : plan.sources ≡ map checked_source_data joins ++ checked_source_data main ∷ []
+    split = ap (map checked_source_data) parts ∙ map-append checked_source_data joins (main ∷ [])
+
+    joins-are : but_last plan.sources ≡ map checked_source_data joins
+    joins-are = ap but_last split ∙ but_last-snoc (map checked_source_data joins) (checked_source_data main)
+
+    main-files : main_files plan ≡ main.files
+    main-files =
+        ap (λ ss. last_or 0 (map (λ (s : Source). s.files) ss)) split
+        ∙ ap (last_or 0) (map-append (λ (s : Source). s.files) (map checked_source_data joins) (checked_source_data main ∷ []))
+        ∙ last_or-snoc 0 (map (λ (s : Source). s.files) (map checked_source_data joins)) main.files
+
+    pub wanted-is : files_wanted plan ≡ join_files plan + main.files
+    wanted-is =
+        ap (sum_by (λ (s : Source). s.files)) split
+        ∙ sum_by_push (λ (s : Source). s.files) (map checked_source_data joins) (checked_source_data main)
+        ∙ ap (λ ss. sum_by (λ (s : Source). s.files) ss + main.files) (sym joins-are)
+
+    pub join-count : inputs - main.files ≡ join_files plan
+    join-count = omega (arith, c.inputs_wanted, wanted-is)
+
+    pub nothing-is : map (λ (s : CheckedSource). no_rows s.files s.schema) joins ++ no_rows main.files (fields_after_all front.fields front.steps) ∷ [] ≡ nothing_taken plan
+    nothing-is =
+        let rows : map (λ (s : CheckedSource). no_rows s.files s.schema) joins ≡ map (λ (s : Source). no_rows s.files s.fields) (but_last plan.sources) =
+        rows-of joins ∙ ap (map (λ (s : Source). no_rows s.files s.fields)) (sym joins-are) in
+        λ i. rows i ++ no_rows (sym main-files i) (fields_after_all (c.on_main i) (sym front-is i)) ∷ []
+
+    -- rounds over what readers tell
+    pub ran-over : {R : Type 0} (remaining : R → Option (List ℕ)) (b : ℕ) (readers : List R) (files : List (List ℕ)) (feeds : List Feeding) (first last : Gathering) (trace : List (ℕ × ℕ)) →
+        0 < b → length readers ≡ files_wanted plan → Tell remaining readers files →
+        feeds ≡ opened remaining b 0 (flat_map (λ (s : CheckedSource). replicate s.files s.schema) sources) readers →
+        first.sources.items ≡ map (λ (s : CheckedSource). no_rows s.files s.schema) joins ++ no_rows main.files (fields_after_all front.fields front.steps) ∷ [] →
+        Finishes MayCome (λ file item out. out ≡ work_on front (inputs - main.files) file item)
+        (λ old file serial out new. new.sources.items ≡ taken_in file out old.sources.items) feeds first trace last →
+        RanOver plan b (file_streams plan files) front (inputs - main.files) feeds first last trace
+    ran-over remaining b readers files feeds first last trace some count tell feeds-are nothing finished =
+        let many : length files ≡ files_wanted plan = sym (length-map files Some) ∙ ap length (sym tell) ∙ length-map readers remaining ∙ count in
+        record {
+          some_rows = some;
+          some_source = c.limits.some_source;
+          all_files = length-streams (λ i fields file. _) 0 (file_fields plan) files (length-columns plan.sources ∙ sym many) ∙ many;
+          steps = leading-is;
+          join_count = join-count;
+          told = ap (map (λ (f : Feeding). f.items)) (feeds-are ∙ ap (λ fss. opened remaining b 0 fss readers) schemas-are) ∙ opened-told remaining b 0 (file_fields plan) readers files tell;
+          nothing = nothing ∙ nothing-is;
+          finished = finished;
+        }
