@@ -1,5 +1,5 @@
 -- The bytes before the first line feed.
-use Rattle.std.proofs.Common.{◌≡◌, ◌≢◌, ℕ, zero, suc, ◌<◌, ◌+◌, Bool, true, false, List, [], ◌∷◌, length, take, drop, get_or, refl, ap, sym, ◌∙◌, arith, not, cond, ◌-◌}
+use Rattle.std.proofs.Common.{◌≡◌, ℕ, zero, suc, ◌<◌, ◌+◌, Bool, true, false, List, [], ◌∷◌, length, take, drop, get_or, refl, ap, sym, ◌∙◌, arith, not, cond, ◌-◌}
 use Rattle.std.specs.Prelude.{◌==◌}
 use Rattle.std.specs.List.{prefix_len}
 use Rattle.std.proofs.Math.Seq.{take_all, take-length}

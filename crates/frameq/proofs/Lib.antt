@@ -1,4 +1,3 @@
-pub mod ColumnLemmas
 pub mod InputLemmas
-pub mod StepLemmas
-pub mod ProgramLemmas
+pub mod EndingLemmas
+pub mod RunLemmas

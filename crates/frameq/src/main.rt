@@ -1,19 +1,43 @@
-//! frameq: a plan over a CSV file, on standard streams.
+//! frameq: a plan over CSV files.
 //!
-//! The first line of standard input is a plan in JSON; the bytes after it are the CSV file. The frame goes to standard
-//! output, and the exit status says how the run ended.
+//! With words, a plan file runs over data files: see `frameq --help`. Without words, the first line of standard input is
+//! the plan, in JSON, and the bytes after it are the one CSV file. The frame goes to standard output, a line on standard
+//! error says why there is none, and the exit status says how the run ended.
 #![tactic(auto)]
 
+use failures::{Failure, report};
+use files::SystemFiles;
 use program::one_input;
+use std::env;
+use std::io::ErrorKind;
 use std::process::ExitCode;
+use words::with_words;
 
+mod failures;
+mod files;
 mod inputs;
+mod options;
 mod program;
-mod queries;
 mod status;
 #[cfg(test)]
 mod tests;
+mod words;
 
 fn main(rt: HostRuntime) -> ExitCode {
-    ExitCode::from(one_input(rt.alloc(), rt.stdin(), &mut rt.stdout(), &mut rt.stderr()))
+    let alloc = rt.alloc();
+    let (mut out, mut err) = (rt.stdout(), rt.stderr());
+    ExitCode::from(match words_of(&rt) {
+        Err(failure) => report(Err(failure), &mut err),
+        Ok(words) if words.is_empty() => one_input(&rt, alloc, rt.stdin(), &mut out, &mut err),
+        Ok(words) => with_words(&rt, alloc, words, &mut SystemFiles(&rt), &mut out, &mut err),
+    })
+}
+
+// The program's words, its own name left out.
+fn words_of(rt: &(impl env::Env + AllocGlobal)) -> Result<Vec<String>, Failure> {
+    match env::args(rt) {
+        Ok(words) => Ok(words.skip(1).collect(rt.alloc())?),
+        Err(error) if error.kind() == ErrorKind::OutOfMemory => Err(Failure::MEMORY),
+        Err(_) => Err(Failure::Words),
+    }
 }

@@ -1,32 +1,38 @@
 // The program without words.
-ghost use Rattle.std.specs.Prelude.{◌≡◌, ◌≢◌, ◌⊎◌, ℕ, List, Ok, Err, Some, None, IfOk, IfErr, IsSome};
+ghost use Rattle.std.specs.Prelude.{◌≡◌, ◌≢◌, ◌⊎◌, ℕ, List, Some, Ok, Err, IfErr, OnOk, MatchResult};
 ghost use Rattle.std.specs.Io.KnownBytes.{Appends, Keeps};
 ghost use Rattle.fq_column.specs.Frame.{Frame};
 ghost use Rattle.fq_csv.specs.Printed.{printed};
-ghost use Rattle.fq_csv.specs.File.{file_stream};
-ghost use Rattle.frameq.specs.Program.{program, code_of, done, bad_device, no_memory, row_limit};
+ghost use Rattle.fq_plan.specs.declared.faults.Fault.TheVariants as fault;
+ghost use Rattle.frameq.specs.Ending.{code_of, done, bad_device, no_memory, IsOutside};
+ghost use Rattle.frameq.specs.Program.{program, checked_plan as checked_plan_of};
+ghost use Rattle.frameq.specs.declared.failures.Failure.TheVariants as failure;
 
-use crate::inputs::split_line;
-use crate::queries::checked;
-use crate::status::Status;
-use fq_column::{Batch, Schema};
-use fq_csv::{MAX_ROWS, ScanFault, Scanner, print_frame, scan_all};
-use fq_plan::{PlanFault, read_plan};
+use crate::failures::{Failure, report};
+use crate::inputs::{read_whole, split_line};
+use fq_plan::{Checked, Fault, read_plan};
 use std::alloc::Global;
 use std::io::{Read, Write};
+use std::sync::Wait;
+use std::thread::Threads;
 
-/// The rows of a batch that a scanner hands out.
-const BATCH_SIZE: u32 = 1024;
+/// The rows of a batch, where no word says otherwise.
+pub const BATCH_SIZE: u32 = 1024;
+
+/// The number of workers, where no word says otherwise.
+pub const WORKERS: u16 = 2;
 
 /// Runs the plan of the input's first line over the CSV file of the bytes after it, and answers the exit status.
 ///
-/// The frame is written where the status is 0. At any other status but 5 nothing is written; at 5 a read or the write
-/// has failed, and an unknown part may be. Nothing is written to `_err` yet.
-pub fn one_input<R: Read + Drop, W: Write, E: Write>(
+/// The frame is written to `out` where the status is 0. At any other status a line on `err` says why, and nothing is
+/// written to `out`, but at 5, where the write itself has failed, an unknown part may be. A failed write to `err` changes
+/// no status. All of the input is read before anything else.
+pub fn one_input<T: Threads + Wait + Sync, R: Read + Drop, W: Write, E: Write>(
+    rt: &T,
     alloc: Global,
-    mut input: R,
+    input: R,
     out: &mut W,
-    _err: &mut E,
+    err: &mut E,
 ) -> u8
     ensures status { (bytes : List ℕ) → R.remaining input ≡ Some bytes →
         (result ≡ code_of (program bytes)) ⊎ (result ≡ bad_device) ⊎ (result ≡ no_memory) }
@@ -34,53 +40,46 @@ pub fn one_input<R: Read + Drop, W: Write, E: Write>(
         (frame : Frame) × (program bytes ≡ Ok frame) × Appends (W.contents out.old) (W.contents out.new) (printed frame) }
     ensures unwritten { result ≢ done → result ≢ bad_device → Keeps (W.contents out.old) (W.contents out.new) }
 {
-    let mut bytes = Vec::new(alloc);
-    if input.read_to_end(&mut bytes).is_err() {
-        return Status::BadDevice as u8;
-    }
-    match frame_text(alloc, bytes.as_slice()) {
-        Ok(text) => match out.write_all(text.as_slice()) {
-            Ok(()) => Status::Done as u8,
-            Err(_) => Status::BadDevice as u8,
-        },
-        Err(status) => status as u8,
-    }
+    report(run_input(rt, alloc, input, out), err)
 }
 
-// The printed frame that an input comes to, or the status of its refusal.
-fn frame_text(alloc: Global, input: &[u8]) -> Result<Vec<u8>, Status>
-    ensures frame { IfOk result (λ text. (frame : Frame) × (program input.now ≡ Ok frame) × (text.items ≡ printed frame)) }
-    ensures refused { IfErr result (λ status. (status ≡ Status.NoMemory) ⊎ (status ≡ Status.BadDevice) ⊎ (program input.now ≡ Err status)) }
+// Writes the frame that the input comes to.
+fn run_input<T: Threads + Wait + Sync, R: Read + Drop, W: Write>(
+    rt: &T,
+    alloc: Global,
+    input: R,
+    out: &mut W,
+) -> Result<(), Failure>
+    ensures printed { (bytes : List ℕ) → R.remaining input ≡ Some bytes → OnOk result
+        ((frame : Frame) × (program bytes ≡ Ok frame) × Appends (W.contents out.old) (W.contents out.new) (printed frame)) }
+    ensures failed { (bytes : List ℕ) → R.remaining input ≡ Some bytes → IfErr result (λ f. (program bytes ≡ Err f) ⊎ IsOutside f) }
+    ensures unwritten { IfErr result (λ f. f ≢ failure.Run fault.Write → Keeps (W.contents out.old) (W.contents out.new)) }
+{
+    let bytes = read_whole(alloc, input, Failure::Run(Fault::Read { file: 0 }))?;
+    run_bytes(rt, alloc, bytes.as_slice(), out)
+}
+
+// Writes the frame that an input in memory comes to.
+fn run_bytes<T: Threads + Wait + Sync, W: Write>(
+    rt: &T,
+    alloc: Global,
+    input: &[u8],
+    out: &mut W,
+) -> Result<(), Failure>
+    ensures printed { OnOk result ((frame : Frame) × (program input.now ≡ Ok frame) × Appends (W.contents out.old) (W.contents out.new) (printed frame)) }
+    ensures failed { IfErr result (λ f. (program input.now ≡ Err f) ⊎ IsOutside f) }
+    ensures unwritten { IfErr result (λ f. f ≢ failure.Run fault.Write → Keeps (W.contents out.old) (W.contents out.new)) }
 {
     let (line, file) = split_line(input);
-    let plan = match read_plan(alloc, line) {
-        Ok(plan) => plan,
-        Err(PlanFault::Memory) => return Err(Status::NoMemory),
-        Err(_) => return Err(Status::BadPlan),
-    };
-    let Some(plan) = plan.into_row_plan(alloc)? else {
-        return Err(Status::BadPlan);
-    };
-    let (schema, front) = checked(alloc, plan)?;
-    let rows = file_rows(alloc, schema, file)?;
-    let piece = front.apply(alloc, rows)?;
-    if piece.fault.is_some() {
-        return Err(Status::BadFile);
-    }
-    Ok(print_frame(alloc, &piece.batch)?)
+    let plan = checked_plan(alloc, line)?;
+    let inputs = vec![in alloc; file]?;
+    plan.run(rt, alloc, inputs, out, BATCH_SIZE, WORKERS)?;
+    Ok(())
 }
 
-// The rows of a file in memory.
-fn file_rows(alloc: Global, schema: Schema, file: &[u8]) -> Result<Batch, Status>
-    ensures schema { IfOk result (λ batch. batch.fields ≡ schema) }
-    ensures rows { IfOk result (λ batch. file_stream 0 schema row_limit file.now ≡ record { rows = batch.rows; fault = None }) }
-    ensures fault { IfErr result (λ status. (status ≡ Status.NoMemory) ⊎ (status ≡ Status.BadDevice) ⊎ ((status ≡ Status.BadFile) × IsSome (file_stream 0 schema row_limit file.now).fault)) }
+/// The plan that a text spells, where the check does not refuse it.
+pub fn checked_plan(alloc: Global, text: &[u8]) -> Result<Checked, Failure>
+    ensures { MatchResult result (λ plan. checked_plan_of text.now ≡ Ok plan) (λ f. (checked_plan_of text.now ≡ Err f) ⊎ IsOutside f) }
 {
-    let scanner = Scanner::new(alloc, file, 0, schema, BATCH_SIZE, MAX_ROWS)?;
-    match scan_all(alloc, scanner) {
-        Ok(batch) => Ok(batch),
-        Err(ScanFault::Memory) => Err(Status::NoMemory),
-        Err(ScanFault::Read { .. }) => Err(Status::BadDevice),
-        Err(_) => Err(Status::BadFile),
-    }
+    Ok(read_plan(alloc, text)?.check(alloc)?)
 }

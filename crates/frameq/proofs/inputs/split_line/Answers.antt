@@ -1,4 +1,4 @@
-use Rattle.std.proofs.Common.{◌≡◌, ℕ, ◌<◌, sym, arith, get_or, length}
+use Rattle.std.proofs.Common.{sym, arith}
 use Rattle.frameq.proofs.InputLemmas.{plan_line-at, plan_line-all, file_after-at, file_after-none}
 use Rattle.frameq.proofs.inputs.split_line.Goals as goal
 
