@@ -1,16 +1,4 @@
 #!/bin/sh
-# Builds the program over `fq_ops` in a copy of its crates, and its twin in plain Rust; runs one after the other.
-set -eu
-here=$(cd "$(dirname "$0")" && pwd)
-crates=$here/../../crates
-work=$(mktemp -d)
-trap 'rm -rf "$work"' EXIT
-mkdir -p "$work/crates/group_bench/src" "$work/crates/group_bench/proofs/time"
-cp -r "$crates/fq_column" "$crates/fq_ops" "$work/crates"
-cp "$here/program.rt.txt" "$work/crates/group_bench/src/main.rt"
-cp "$here/invariants.antt.txt" "$work/crates/group_bench/proofs/time/Invariants.antt"
-grep -E '^fq_(column|ops):' "$here/../../crates.txt" > "$work/crates.txt"
-echo 'group_bench: fq_column fq_ops' >> "$work/crates.txt"
-(cd "$work/crates/group_bench" && rt run)
-(cd "$here/twin" && CARGO_TARGET_DIR=$work/twin cargo build --release --offline --quiet)
-"$work/twin/release/group_twin"
+# Times groupings over `fq_ops`, and then the same in plain Rust.
+. "$(dirname "$0")/../common.sh"
+beside_twin groups time/Invariants.antt

@@ -1,45 +1,15 @@
-//! The groupings of `../program.rt.txt` in plain Rust: the same columns and batches over the standard library's `HashMap`,
-//! once with its own hasher and once with a fast one.
+//! The groupings of `groups/program.rt.txt` in plain Rust: the same columns and batches over the standard library's
+//! `HashMap`, once with its own hasher and once with a fast one.
 
+mod common;
+
+use common::{Cell, Column, Fast, scattered};
 use std::collections::HashMap;
-use std::hash::{BuildHasher, BuildHasherDefault, Hash, Hasher, RandomState};
+use std::hash::{BuildHasher, BuildHasherDefault, RandomState};
 use std::time::{Duration, Instant};
 
 const BATCHES: u32 = 4_883;
 const BATCH: u32 = 1_024;
-
-#[derive(Clone, PartialEq, Eq, Hash)]
-enum Cell {
-    Null,
-    Whole(i64),
-    Text(String),
-}
-
-enum Column {
-    Whole(Vec<Option<i64>>),
-    Text(Vec<Option<String>>),
-}
-
-impl Column {
-    fn len(&self) -> usize {
-        match self {
-            Column::Whole(values) => values.len(),
-            Column::Text(values) => values.len(),
-        }
-    }
-
-    // Copies a cell, into its own memory where both are texts.
-    fn read(&self, row: usize, cell: &mut Cell) {
-        match (self, &mut *cell) {
-            (Column::Text(values), Cell::Text(own)) if values[row].is_some() => {
-                own.clear();
-                own.push_str(values[row].as_ref().unwrap());
-            }
-            (Column::Whole(values), _) => *cell = values[row].map_or(Cell::Null, Cell::Whole),
-            (Column::Text(values), _) => *cell = values[row].clone().map_or(Cell::Null, Cell::Text),
-        }
-    }
-}
 
 // The key column, and one of values.
 struct Batch {
@@ -91,53 +61,10 @@ impl<S: BuildHasher + Default> Grouper<S> {
     }
 }
 
-// A fast hasher of words, as in `rustc-hash`.
-#[derive(Default)]
-struct Fast(u64);
-
-impl Hasher for Fast {
-    fn finish(&self) -> u64 {
-        self.0.rotate_left(26)
-    }
-
-    fn write(&mut self, bytes: &[u8]) {
-        for word in bytes.chunks(8) {
-            let mut whole = [0; 8];
-            whole[..word.len()].copy_from_slice(word);
-            self.write_u64(u64::from_le_bytes(whole));
-        }
-    }
-
-    fn write_u64(&mut self, word: u64) {
-        self.0 = (self.0.wrapping_add(word)).wrapping_mul(0xf135_7aea_2e62_a9c5);
-    }
-
-    fn write_usize(&mut self, word: usize) {
-        self.write_u64(word as u64);
-    }
-
-    fn write_isize(&mut self, word: isize) {
-        self.write_u64(word as u64);
-    }
-
-    fn write_i64(&mut self, word: i64) {
-        self.write_u64(word as u64);
-    }
-}
-
-fn scattered(i: u32) -> u32 {
-    let x = i.wrapping_mul(0x9E37_79B1);
-    x ^ (x >> 15)
-}
-
 fn batch_of(texts: bool, start: u32, groups: u32) -> Batch {
     let keys = (0..BATCH).map(|i| scattered(start.wrapping_add(i)) % groups);
     Batch {
-        keys: if texts {
-            Column::Text(keys.map(|key| Some(format!("customer-{key}"))).collect())
-        } else {
-            Column::Whole(keys.map(|key| Some(i64::from(key))).collect())
-        },
+        keys: Column::of_keys(texts, keys),
         values: (0..BATCH).map(|i| Some(i64::from(start.wrapping_add(i)))).collect(),
     }
 }
