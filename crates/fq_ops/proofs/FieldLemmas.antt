@@ -1,25 +1,21 @@
 -- Fields, names and refusals.
-use Rattle.std.proofs.Common.{◌≡◌, ℕ, zero, suc, ◌+◌, ◌<◌, nat_lt, get_or, set, Bool, true, false, not, cond, ◌||◌, ◌&&◌, List, [], ◌∷◌, ◌++◌, map, filter, length, take, drop, Option, Some, None, Result, Ok, Err, refl, sym, ap, subst, ◌∙◌, arith, append-nil, append_assoc, true≢false, if◌then◌else◌}
+use Rattle.std.proofs.Common.{◌≡◌, ℕ, zero, suc, ◌+◌, nat_lt, set, Bool, true, false, not, cond, ◌||◌, List, [], ◌∷◌, ◌++◌, map, length, take, Option, Some, None, Result, Ok, Err, refl, sym, ap, subst, ◌∙◌, arith, if◌then◌else◌}
 use Rattle.std.specs.Prelude.{slice_get}
-use Rattle.std.specs.List.{position, position_or_len, list_any}
+use Rattle.std.specs.List.{position, position_or_len}
 use Rattle.std.specs.Option.{option_map}
 use Rattle.std.specs.Result.{result_unwrap_or}
 use Rattle.std.proofs.lemmas.Bool.Decides.{nat_tests}
 use Rattle.std.proofs.lemmas.Option.{get_or_from_slice_get, slice_get_within}
 use Rattle.std.proofs.Math.Seq.{take-suc}
 use Rattle.std.proofs.lemmas.List.{map-append}
-use Rattle.std.specs.Cmp.Lexicographic.{nat_list_eq_equiv, bytes_decides}
 use Rattle.fq_column.specs.declared.cells.Kind.{Kind}
 use Rattle.fq_column.specs.declared.cells.Kind.TheVariants.{Whole}
 use Rattle.fq_column.specs.declared.faults.StepFault.{StepFault}
-use Rattle.fq_column.specs.declared.faults.StepFault.TheVariants.{NoSuchColumn, WrongKind}
-use Rattle.fq_column.specs.Cell.{same_kind}
-use Rattle.fq_column.specs.Frame.{Field, Fields, Name, names_of, kinds_of, same_name, has_name, position_of, put_named}
-use Rattle.fq_column.specs.Lists.{is_distinct}
-use Rattle.fq_column.specs.Refusal.{first_refusal, refusal_of, refuse_if}
+use Rattle.fq_column.specs.declared.faults.StepFault.TheVariants.{NoSuchColumn}
+use Rattle.fq_column.specs.Frame.{Field, Fields, Name, names_of, kinds_of, same_name, has_name, position_of}
+use Rattle.fq_column.specs.Refusal.{first_refusal, refusal_of}
 use Rattle.fq_column.specs.Schema.{fields_of, kind_named}
 use Rattle.fq_ops.specs.Fields.{with_kind, Judged, refusals, settled}
-use Rattle.fq_ops.specs.Join.{key_checks}
 
 -- ---- fields by names and kinds
 

@@ -1,5 +1,5 @@
 -- The derived equality of kinds is that of the definitions.
-use Rattle.std.proofs.Common.{◌≡◌, ◌∙◌, ap, sym, refl, true, false, not, Bool}
+use Rattle.std.proofs.Common.{◌≡◌, ◌∙◌, sym, refl, true, false, not, Bool}
 use denote.Enum.Bare.{sameb}
 use Rattle.fq_column.specs.declared.cells.Kind.{Kind}
 use Rattle.fq_column.specs.declared.cells.Kind.TheVariants as kind

@@ -3,7 +3,6 @@ use Rattle.std.proofs.Common.{◌≡◌, ℕ, zero, suc, ◌+◌, ◌<◌, Bool,
 use Rattle.std.specs.Prelude.{slice_get}
 use Rattle.std.specs.Bool.{◌==◌}
 use Rattle.std.specs.List.{list_all}
-use Rattle.std.specs.Option.{option_map_or}
 use Rattle.std.specs.Cmp.Lexicographic.{pointwise}
 use Rattle.std.proofs.lemmas.Bool.Decides.{nat_tests}
 use Rattle.std.proofs.lemmas.List.{length-map, map-append}
@@ -14,9 +13,8 @@ use Rattle.fq_column.specs.declared.cells.Kind.{Kind}
 use Rattle.fq_column.specs.declared.faults.BatchFault.{BatchFault}
 use Rattle.fq_column.specs.declared.faults.BatchFault.TheVariants.{Width, Kind as WrongKind, Length}
 use Rattle.fq_column.specs.Batch.{batch_fault, frame_of, has_kind_of, height_of}
-use Rattle.fq_column.specs.Cell.{same_kind}
 use Rattle.fq_column.specs.Column.{Cells}
-use Rattle.fq_column.specs.Frame.{Field, Fields, Frame, Name, Row, kinds_of, names_of, has_name, rows_of, value_at, column_at}
+use Rattle.fq_column.specs.Frame.{Field, Fields, Name, Row, kinds_of, names_of, rows_of, value_at, column_at}
 use Rattle.fq_column.specs.Lists.{zip_with}
 use Rattle.fq_column.specs.SchemaLaws.{same_kind_decides}
 use Rattle.fq_ops.specs.Picks.{Pick, column_of, columns_of, row_of, picks_from}

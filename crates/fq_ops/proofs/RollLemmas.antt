@@ -1,16 +1,15 @@
 -- The rolling sums of cells, by the window as it moves on.
-use Rattle.std.proofs.Common.{◌≡◌, ℕ, zero, suc, ◌+◌, ◌-◌, ◌<◌, ◌≤◌, Bool, true, false, cond, List, [], ◌∷◌, ◌++◌, map, take, drop, length, set, get_or, replicate, Option, Some, None, is_some, is_none, true≢false, ℤ, refl, sym, ap, subst, ◌∙◌, arith, append_assoc, append-nil, length-append, if◌then◌else◌}
+use Rattle.std.proofs.Common.{◌≡◌, ℕ, zero, suc, ◌+◌, ◌-◌, ◌<◌, ◌≤◌, false, List, [], ◌∷◌, ◌++◌, map, take, drop, length, set, replicate, Option, Some, None, is_some, is_none, true≢false, ℤ, refl, sym, ap, ◌∙◌, arith, append_assoc, append-nil, length-append}
 use Rattle.std.specs.Prelude.{slice_get}
 use Rattle.std.specs.Option.{option_map}
-use Rattle.std.specs.List.{range_with_len, position}
+use Rattle.std.specs.List.{range_with_len}
 use Rattle.std.proofs.lemmas.List.{map-append, length-map, drop-drop, drop-set-lt, length-set}
 use Rattle.std.proofs.Math.Seq.{take_all, take-suc-set}
 use Rattle.circular_buffer.specs.Buffer.{keep_last}
 use Rattle.fq_column.specs.declared.cells.Cell.{Cell}
-use Rattle.fq_column.specs.declared.cells.Cell.TheVariants.{Null, Whole}
+use Rattle.fq_column.specs.declared.cells.Cell.TheVariants.{Whole}
 use Rattle.fq_column.specs.Lists.{numbers, before_missing, first_missing}
-use Rattle.fq_ops.specs.Aggregate.{wholes, int_sum}
-use Rattle.fq_ops.specs.Roll.{rolled, rolled_at, window_at}
+use Rattle.fq_ops.specs.Roll.{rolled, rolled_at}
 use Rattle.fq_ops.specs.Taken.{Window, HasTakenCells}
 use Rattle.fq_ops.specs.Window.{sum_of_window, sums_along}
 use Rattle.fq_column.specs.Column.{nullable}

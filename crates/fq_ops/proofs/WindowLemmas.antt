@@ -1,11 +1,10 @@
 -- The window of a rolling sum as it moves on.
-use Rattle.std.proofs.Common.{◌≡◌, ℕ, zero, suc, ◌+◌, ◌-◌, ◌*◌, ◌^◌, ◌<◌, ◌≤◌, nat_lt, nat_le, Bool, true, false, cond, List, [], ◌∷◌, ◌++◌, map, take, drop, length, fold, Option, Some, None, ℤ, pos, negsuc, ◌+ℤ◌, ◌-ℤ◌, ◌≤ℤ◌, refl, sym, ap, subst, ◌∙◌, arith, append_assoc, length-append, length-drop, unwrap_or, if◌then◌else◌}
-use Rattle.std.specs.Prelude.{slice_get, filter_map, option_to_list}
+use Rattle.std.proofs.Common.{◌≡◌, ℕ, zero, suc, ◌+◌, ◌-◌, ◌*◌, ◌^◌, ◌<◌, ◌≤◌, nat_lt, nat_le, Bool, true, false, List, [], ◌∷◌, ◌++◌, map, drop, length, fold, Option, Some, None, ℤ, pos, negsuc, ◌+ℤ◌, ◌-ℤ◌, ◌≤ℤ◌, refl, sym, ap, subst, ◌∙◌, arith, length-append, length-drop, unwrap_or, if◌then◌else◌}
+use Rattle.std.specs.Prelude.{slice_get, option_to_list}
 use Rattle.std.proofs.lemmas.Bool.Decides.{nat_tests}
 use Rattle.std.proofs.lemmas.Int.{ints}
 use Rattle.std.proofs.lemmas.List.Sums.{fold-append}
 use Rattle.circular_buffer.specs.Buffer.{keep_last}
-use Rattle.fq_column.specs.declared.cells.Cell.{Cell}
 use Rattle.fq_column.specs.declared.cells.Cell.TheVariants.{Null, Whole}
 use Rattle.fq_column.specs.Cell.{fits, fitted}
 use mir.Syntax.{w64}

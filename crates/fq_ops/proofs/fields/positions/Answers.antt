@@ -1,4 +1,4 @@
-use Rattle.std.proofs.Common.{◌≡◌, ◌<◌, [], map, string_bytes, length, get_or, true≢false, sym, ap, ◌∙◌, arith}
+use Rattle.std.proofs.Common.{[], string_bytes, true≢false, sym, ap, ◌∙◌, arith}
 use Rattle.std.proofs.lemmas.List.{length-map, get_or-map}
 use Rattle.fq_column.specs.Frame.{has_name, names_of}
 use Rattle.fq_ops.proofs.FieldLemmas.{unnamed}

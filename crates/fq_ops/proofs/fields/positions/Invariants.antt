@@ -1,4 +1,4 @@
-use Rattle.std.proofs.Common.{◌≡◌, ◌<◌, map, take, string_bytes, length}
+use Rattle.std.proofs.Common.{◌<◌, map, take, string_bytes, length}
 use Rattle.std.specs.Prelude.{All}
 use Rattle.fq_ops.specs.Fields.{AreAt}
 use Rattle.fq_ops.proofs.fields.positions.Given as goal

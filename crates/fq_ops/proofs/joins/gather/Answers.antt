@@ -1,13 +1,12 @@
-use Rattle.std.proofs.Common.{◌≡◌, ℕ, List, [], ◌∷◌, ◌++◌, Option, Some, true, false, not, map, take, length, string_bytes, sym, ap, refl, subst, ◌∙◌, append-nil, arith}
+use Rattle.std.proofs.Common.{◌≡◌, ℕ, List, [], Option, Some, true, not, map, length, string_bytes, sym, ap, refl, ◌∙◌, append-nil, arith}
 use Rattle.std.specs.Prelude.{slice_get}
 use Rattle.std.specs.Option.{option_map_or}
 use Rattle.std.proofs.Math.Seq.{take_all}
 use Rattle.fq_column.specs.declared.cells.Cell.{Cell}
 use Rattle.fq_column.specs.declared.cells.Cell.TheVariants.{Null}
-use Rattle.fq_column.specs.Column.{Cells}
-use Rattle.fq_column.specs.Frame.{Field, Fields, Name, column_at, has_name, kinds_of, names_of, value_at}
+use Rattle.fq_column.specs.Frame.{Fields, Name, column_at, has_name, names_of, value_at}
 use Rattle.fq_ops.specs.Pairs.{Pair, left_value, right_value}
-use Rattle.fq_ops.specs.Picks.{Pick, column_of, columns_of, picks_from}
+use Rattle.fq_ops.specs.Picks.{Pick, columns_of, picks_from}
 use Rattle.fq_ops.proofs.FieldLemmas.{field-at}
 use Rattle.fq_ops.proofs.PickLemmas.{column-by, field-of_kind, field-of_name, gathered-more, gathered-same}
 use Rattle.fq_ops.proofs.joins.gather.Goals as goal

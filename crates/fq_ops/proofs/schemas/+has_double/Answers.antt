@@ -1,1 +1,0 @@
-use Rattle.fq_ops.proofs.schemas.+has_double.Goals as goal

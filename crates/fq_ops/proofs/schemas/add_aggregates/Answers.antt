@@ -1,4 +1,4 @@
-use Rattle.std.proofs.Common.{◌≡◌, ◌++◌, ◌∷◌, [], Err, List, map, take, string_bytes, length, sym, ap, ◌∙◌, inl, arith, append_assoc}
+use Rattle.std.proofs.Common.{◌++◌, ◌∷◌, [], Err, map, take, string_bytes, sym, ap, ◌∙◌, inl, arith, append_assoc}
 use Rattle.std.proofs.Math.Seq.{take_all}
 use Rattle.std.proofs.lemmas.Result.{err_from_is_err_and}
 use Rattle.fq_column.specs.Refusal.{first_refusal}

@@ -1,6 +1,5 @@
-use Rattle.std.proofs.Common.{◌≡◌, ◌++◌, ◌∷◌, [], List, Bool, not, true, false, map, cond, string_bytes, take, sym, ap, ◌∙◌, append-nil, append_assoc}
-use Rattle.fq_column.specs.declared.cells.Kind.{Kind}
-use Rattle.fq_column.specs.Frame.{Field, Fields, Name, has_name}
+use Rattle.std.proofs.Common.{◌++◌, ◌∷◌, [], Bool, not, map, cond, string_bytes, take, sym, ap, ◌∙◌, append-nil, append_assoc}
+use Rattle.fq_column.specs.Frame.{Field, Fields}
 use Rattle.fq_ops.specs.Join.{renamed, right_name}
 use Rattle.fq_ops.proofs.FieldLemmas.{field-at}
 use Rattle.fq_ops.proofs.RefusalLemmas.{renamed-more}

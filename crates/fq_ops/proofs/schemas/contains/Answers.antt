@@ -1,4 +1,4 @@
-use Rattle.std.proofs.Common.{◌≡◌, true, map, string_bytes, length, sym, ap, ◌∙◌, arith, []}
+use Rattle.std.proofs.Common.{map, string_bytes, sym, ap, ◌∙◌, arith, []}
 use Rattle.std.proofs.lemmas.List.{length-map, get_or-map}
 use Rattle.std.proofs.lemmas.List.Folds.{list_any_at}
 use Rattle.fq_column.specs.Frame.{same_name}

@@ -1,17 +1,16 @@
-use Rattle.std.proofs.Common.{◌≡◌, ℕ, ◌<◌, ◌++◌, ◌∷◌, [], List, Bool, not, true, false, Err, Ok, String, Global, map, length, string_bytes, sym, ap, refl, Some, ◌∙◌, inl, arith}
+use Rattle.std.proofs.Common.{◌≡◌, ℕ, ◌<◌, ◌++◌, List, Bool, not, true, false, Err, String, Global, map, length, string_bytes, sym, ap, refl, Some, ◌∙◌, inl, arith}
 use Rattle.std.specs.Bool.{◌==◌}
 use Rattle.std.proofs.lemmas.Bool.Decides.{nat_tests}
 use Rattle.std.proofs.lemmas.List.{length-map, get_or-map}
 use Rattle.std.proofs.Math.Seq.{take_all}
 use Rattle.std.specs.List.{flat_map}
 use Rattle.std.proofs.lemmas.Result.{err_from_is_err_and}
-use Rattle.fq_column.specs.declared.faults.StepFault.TheVariants.{DoubleName}
 use Rattle.fq_column.specs.Frame.{Fields, names_of, same_name}
 use Rattle.fq_column.specs.Lists.{is_distinct}
 use Rattle.fq_column.specs.Refusal.{first_refusal, unless_refused}
 use Rattle.fq_column.specs.Schema.{schema_checks}
 use Rattle.fq_column.proofs.SchemaLemmas.{slice_get-at}
-use Rattle.fq_ops.specs.Join.{key_checks, joined_fields, renamed}
+use Rattle.fq_ops.specs.Join.{key_checks, renamed}
 use Rattle.fq_ops.proofs.RefusalLemmas.{item-refused, item-passed, join-key_refused, join-columns_refused, join-keys_double, join-accepted}
 use Rattle.fq_ops.proofs.schemas.join_schema.Goals as goal
 

@@ -1,4 +1,4 @@
-use Rattle.std.proofs.Common.{sym, ◌∙◌}
+use Rattle.std.proofs.Common.{sym}
 use Rattle.fq_ops.proofs.FieldLemmas.{kind-found, kind-absent}
 use Rattle.fq_ops.proofs.schemas.kind_of.Goals as goal
 

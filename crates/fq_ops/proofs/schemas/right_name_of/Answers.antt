@@ -1,5 +1,5 @@
-use Rattle.std.proofs.Common.{◌≡◌, ◌++◌, String, Global, string_bytes, codes, true, false, is_some, Some, None, sym, ap, ◌∙◌, if◌then◌else◌, Option, ℕ}
-use Rattle.fq_column.specs.Frame.{Fields, Name, names_of, has_name, position_of}
+use Rattle.std.proofs.Common.{◌≡◌, ◌++◌, string_bytes, codes, true, false, is_some, Some, None, sym, ap, ◌∙◌, if◌then◌else◌, Option, ℕ}
+use Rattle.fq_column.specs.Frame.{Fields, Name, names_of, position_of}
 use Rattle.fq_ops.specs.Join.{right_name}
 use Rattle.fq_ops.proofs.FieldLemmas.{named-at, unnamed}
 use Rattle.fq_ops.proofs.schemas.right_name_of.Goals as goal

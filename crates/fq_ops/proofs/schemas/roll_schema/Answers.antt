@@ -1,4 +1,4 @@
-use Rattle.std.proofs.Common.{◌≡◌, ◌++◌, ◌∷◌, [], not, true, false, pos, sym, ap, ◌∙◌, inl, arith, rules}
+use Rattle.std.proofs.Common.{◌≡◌, ◌++◌, ◌∷◌, [], not, true, pos, sym, ap, ◌∙◌, inl, arith}
 use Rattle.std.proofs.lemmas.Int.{ints}
 use Rattle.fq_column.specs.declared.cells.Kind.TheVariants.{Whole}
 use Rattle.fq_column.specs.Cell.{same_kind}

@@ -1,4 +1,4 @@
-use Rattle.std.proofs.Common.{◌≡◌, ◌++◌, ◌∷◌, [], take, sym, ap, ◌∙◌}
+use Rattle.std.proofs.Common.{◌++◌, ◌∷◌, [], sym, ap, ◌∙◌}
 use Rattle.fq_column.specs.Frame.{Fields}
 use Rattle.fq_ops.proofs.FieldLemmas.{field-at, take-more}
 use Rattle.fq_ops.proofs.fields.FieldList.copy_of.Goals as goal

@@ -1,4 +1,4 @@
-use Rattle.std.proofs.Common.{◌≡◌, List, map, string_bytes, length, sym, ap, ◌∙◌, Ok, Err, Some, None, Option, Result, MatchResult, IfOk}
+use Rattle.std.proofs.Common.{◌≡◌, List, map, string_bytes, sym, ap, ◌∙◌, Ok, Err, Some, None, Option, Result, MatchResult, IfOk}
 use Rattle.std.proofs.lemmas.List.{length-map}
 use Rattle.fq_column.specs.declared.faults.StepFault.{StepFault}
 use Rattle.fq_column.specs.Frame.{Fields, Name, names_of}

@@ -1,4 +1,4 @@
-use Rattle.std.proofs.Common.{◌≡◌, map, string_bytes, length, sym, ap, ◌∙◌, arith}
+use Rattle.std.proofs.Common.{map, string_bytes, length, ap, ◌∙◌, arith}
 use Rattle.std.proofs.lemmas.List.{length-map}
 use Rattle.fq_column.specs.Frame.{Fields}
 use Rattle.fq_column.proofs.SchemaLemmas.{length-fields_of}

@@ -1,10 +1,6 @@
-use Rattle.std.proofs.Common.{◌≡◌, ◌≤◌, ℕ, List, [], map, length, string_bytes, slice_index_or, subst, sym, ap, ◌∙◌, arith}
-use Rattle.std.proofs.lemmas.List.{length-map}
-use Rattle.fq_column.specs.declared.cells.Cell.{Cell}
-use Rattle.fq_column.specs.Frame.{Fields, Name, Row}
+use Rattle.std.proofs.Common.{◌≡◌, map, length, string_bytes, subst, ap, arith}
 use Rattle.fq_ops.specs.Fields.{AreAt}
-use Rattle.fq_ops.specs.Grouping.{key_at}
-use Rattle.fq_ops.specs.Pairs.{IsIndex, named_key}
+use Rattle.fq_ops.specs.Pairs.{IsIndex}
 use Rattle.fq_ops.proofs.PlaceLemmas.{keys-named, length-places}
 use Rattle.fq_ops.proofs.joins.JoinTable.build_from.Goals as goal
 

@@ -1,12 +1,10 @@
-use Rattle.std.proofs.Common.{◌≡◌, ℕ, List, [], ◌∷◌, Ok, Err, Some, None, Option, map, length, string_bytes, subst, sym, ap, ◌∙◌, slice_index_or, inl, inr, ◌⊎◌}
-use Rattle.std.specs.Prelude.{IsOk, Result}
+use Rattle.std.proofs.Common.{◌≡◌, ℕ, List, Ok, Some, None, Option, map, length, string_bytes, subst, sym, ap, ◌∙◌, inl, inr}
+use Rattle.std.specs.Prelude.{IsOk}
 use Rattle.std.specs.List.{AllPass}
 use Rattle.fq_column.specs.declared.cells.Cell.{Cell}
 use Rattle.fq_column.specs.declared.faults.BatchFault.{BatchFault}
-use Rattle.fq_column.specs.declared.faults.StepFault.{StepFault}
-use Rattle.fq_column.specs.declared.faults.StepFault.TheVariants.{Memory}
 use Rattle.fq_column.specs.Batch.{batch_fault, frame_of}
-use Rattle.fq_column.specs.Frame.{Fields, Frame, Name, Row, IsFrame, has_name, kinds_of, names_of}
+use Rattle.fq_column.specs.Frame.{Fields, Frame, Name, has_name, kinds_of, names_of}
 use Rattle.fq_column.specs.Lists.{numbers}
 use Rattle.fq_column.specs.Refusal.{IsJudgement}
 use Rattle.fq_column.specs.Stream.{Stream}

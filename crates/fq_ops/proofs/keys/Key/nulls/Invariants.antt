@@ -1,4 +1,4 @@
-use Rattle.std.proofs.Common.{◌≡◌, ◌+◌, ◌≤◌, vec_len}
+use Rattle.std.proofs.Common.{◌≡◌, ◌+◌, vec_len}
 use Rattle.fq_ops.proofs.keys.Key.nulls.Given as goal
 
 abbrev pub invariant-loop : goal.invariant-loop

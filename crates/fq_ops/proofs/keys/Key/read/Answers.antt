@@ -1,4 +1,4 @@
-use Rattle.std.proofs.Common.{◌∷◌, [], get_or, length, arith}
+use Rattle.std.proofs.Common.{[], get_or, arith}
 use Rattle.fq_column.proofs.BatchLemmas.{written}
 use Rattle.fq_ops.proofs.KeyLemmas.{cell-read, key-cons}
 use Rattle.fq_ops.proofs.keys.Key.read.Goals as goal

@@ -1,4 +1,4 @@
-use Rattle.std.proofs.Common.{List, [], ◌∷◌, ◌++◌, zip, sym, ap, ◌∙◌}
+use Rattle.std.proofs.Common.{List, [], ◌∷◌, ◌++◌, zip, ap, ◌∙◌}
 use Rattle.fq_ops.specs.Pairs.{Pair}
 use Rattle.fq_ops.proofs.ZipLemmas.{zip-push}
 use Rattle.fq_ops.proofs.pairs.Pairs.push.Goals as goal

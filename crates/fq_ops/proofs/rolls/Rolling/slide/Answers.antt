@@ -1,10 +1,10 @@
-use Rattle.std.proofs.Common.{◌≡◌, ◌+ℤ◌, ◌-ℤ◌, ◌+◌, ◌^◌, subst, sym, ap, ◌∙◌, arith, length, unwrap_or, None}
+use Rattle.std.proofs.Common.{◌≡◌, ◌+ℤ◌, ◌+◌, ◌^◌, subst, sym, ap, ◌∙◌, arith, length, unwrap_or, None}
 use Rattle.std.specs.Prelude.{option_to_list}
 use Rattle.circular_buffer.specs.Buffer.{Buffer}
 use Rattle.fq_ops.specs.Aggregate.{int_sum}
 use Rattle.fq_ops.specs.Sums.{IsWithin}
 use Rattle.fq_ops.specs.Window.{IsRunning, present}
-use Rattle.fq_ops.proofs.WindowLemmas.{kept, given_up, window-within, sum-left, count-left, window-left, count-few, slid}
+use Rattle.fq_ops.proofs.WindowLemmas.{kept, window-within, sum-left, count-left, window-left, count-few, slid}
 use Rattle.fq_ops.proofs.rolls.Rolling.slide.Goals as goal
 
 pub remove-requires-clause-within : goal.remove-requires-clause-within

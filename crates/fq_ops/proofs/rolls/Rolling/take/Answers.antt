@@ -1,16 +1,14 @@
-use Rattle.std.proofs.Common.{◌≡◌, ◌+◌, ◌++◌, ◌∷◌, [], List, Some, None, is_some, true, false, true≢false, map, take, length, sym, ap, subst, set, rules, ◌∙◌, arith}
-use Rattle.std.specs.Prelude.{slice_get}
+use Rattle.std.proofs.Common.{◌≡◌, ◌+◌, ◌++◌, ◌∷◌, [], Some, None, is_some, true, false, true≢false, map, take, length, sym, ap, subst, set, rules, ◌∙◌, arith}
 use mir.Syntax.{w64}
 use mir.Val.{SFits}
 use Rattle.std.proofs.lemmas.Int.{to_z-of_z}
 use Rattle.std.proofs.Math.Seq.{take_all}
 use Rattle.circular_buffer.specs.Buffer.{keep_last}
-use Rattle.fq_column.specs.declared.cells.Cell.{Cell}
 use Rattle.fq_column.specs.declared.cells.Cell.TheVariants.{Whole}
 use Rattle.fq_column.specs.Column.{Cells, cells_of, nullable}
 use Rattle.fq_column.specs.Lists.{before_missing, first_missing}
 use Rattle.fq_ops.specs.Roll.{rolled}
-use Rattle.fq_ops.specs.Taken.{Window, HasTakenCells}
+use Rattle.fq_ops.specs.Taken.{Window}
 use Rattle.fq_ops.specs.Window.{sum_of_window, sums_along}
 use Rattle.fq_ops.proofs.RollLemmas.{slid_along, slid-all, slid-more, IsSummed, IsFilled, summed-more, summed-before, summed-fault, summed-all, filled-none, filled-some, added, faulted-added}
 use Rattle.fq_ops.proofs.rolls.Rolling.take.Goals as goal
