@@ -1,6 +1,7 @@
 //! Plans over CSV files: the sources, the steps over the last of them, and why a plan or a run is refused or faults.
 //!
-//! `read_plan` reads a plan from its JSON text; the plan language is written down in `specs/Spelling.antt`.
+//! `read_plan` reads a plan from its JSON text; the plan language is written down in `specs/Spelling.antt`. `Plan::check`
+//! judges it, and `Checked::run` runs it over the files.
 #![tactic(auto)]
 
 mod checks;

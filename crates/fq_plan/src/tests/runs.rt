@@ -91,7 +91,7 @@ fn gives<T: Threads + Wait + Sync>(
     wanted: Result<&str, Fault>,
 ) -> Result<bool, Fail> {
     for batch_size in [1, 2, 1_024, 65_536] {
-        for workers in [1, 2, 5, 16] {
+        for workers in 1..=16 {
             let ran = run_plan(rt, alloc, plan, files, batch_size, workers)?;
             let as_wanted = match (ran.trace, wanted) {
                 (Ok(_), Ok(text)) => ran.text.as_slice() == text.as_bytes(),
