@@ -1,0 +1,318 @@
+#!/usr/bin/env python3
+"""Times frameq on whole plans beside the other programs on PATH that do the same work.
+
+    bench/program.py [--rows N] [--runs N] [--task NAME]... [--program PATH]
+
+Inputs are made first, the same at each call. In each round every program runs once on each task, one after another; the
+first round is not timed, and there the answers are compared, as sets of rows. Peers: mawk, Miller, SQLite, pandas, and R's
+data.table, where they are installed.
+"""
+import argparse
+import csv
+import multiprocessing
+import os
+import random
+import shutil
+import statistics
+import subprocess
+import sys
+import tempfile
+import time
+from dataclasses import dataclass
+from typing import Callable, Dict, List, Optional
+
+ROOT = os.path.dirname(os.path.dirname(os.path.abspath(__file__)))
+WORKERS = (1, 2, 4)
+DEFAULT = "frameq, 2 workers"
+REGIONS = 1_000
+WINDOW = 100
+
+
+# ---- inputs
+
+def make_sales(path, rows):
+    """Sales: a number, one of a thousand regions, a quantity (none in one of a hundred rows), and a price."""
+    draw = random.Random(1)
+    with open(path, "w", encoding="ascii") as file:
+        file.write("id,region,quantity,cents\n")
+        for start in range(0, rows, 10_000):
+            file.writelines(
+                f"{number},region {draw.randrange(REGIONS)},{draw.randrange(1, 100) if draw.randrange(100) else ''},{draw.randrange(1, 1_000_000)}\n"
+                for number in range(start, min(start + 10_000, rows)))
+
+
+def make_regions(path):
+    """Four of five regions, each with its manager."""
+    with open(path, "w", encoding="ascii") as file:
+        file.write("region,manager\n")
+        file.writelines(f"region {number},manager {number % 37}\n" for number in range(REGIONS) if number % 5)
+
+
+# ---- tasks
+
+SALES = '{"files":1,"columns":[["id","int"],["region","text"],["quantity","int"],["cents","int"]]}'
+MANAGERS = '{"files":1,"columns":[["region","text"],["manager","text"]]}'
+
+
+@dataclass
+class Task:
+    """One piece of work: the plan's sources and steps, its files, and what each peer runs."""
+    name: str
+    sources: str
+    steps: str
+    files: List[str]
+    awk: str
+    miller: List[str]
+    sqlite: str
+    pandas: str
+    data_table: str
+
+    def plan(self):
+        return f'{{"version":1,"sources":[{self.sources}],"steps":[{self.steps}]}}\n'
+
+
+FILTER = Task(
+    name="filter and a computed column",
+    sources=SALES,
+    steps='{"filter":["gt",{"col":"quantity"},50]},{"with_columns":[["total",["mul",{"col":"quantity"},{"col":"cents"}]]]}',
+    files=["sales.csv"],
+    awk='NR == 1 { print $0, "total"; next } $3 != "" && $3 > 50 { print $0, $3 * $4 }',
+    miller=["filter", 'is_not_empty($quantity) && $quantity > 50', "then", "put", "$total = $quantity * $cents"],
+    sqlite="SELECT *, quantity * cents AS total FROM sales WHERE quantity <> '' AND quantity > 50;",
+    pandas="d = sales(); d = d[(d.quantity > 50).fillna(False)]; answer = d.assign(total=d.quantity * d.cents)",
+    data_table="d <- sales()[quantity > 50]; d[, total := as.numeric(quantity) * cents]; answer <- d",
+)
+
+GROUP = Task(
+    name="group by one of 1,000 texts: sum, count, min",
+    sources=SALES,
+    steps='{"group_by":{"keys":["region"],"aggs":[["units","sum","quantity"],["sold","count","quantity"],["lowest","min","cents"]]}}',
+    files=["sales.csv"],
+    awk='NR == 1 { next } '
+        '!($2 in units) { order[++groups] = $2; lowest[$2] = $4 } '
+        '{ units[$2] += $3; sold[$2] += $3 != ""; if ($4 < lowest[$2]) lowest[$2] = $4 } '
+        'END { print "region", "units", "sold", "lowest"; for (i = 1; i <= groups; i++) { r = order[i]; print r, units[r], sold[r], lowest[r] } }',
+    miller=["stats1", "-a", "sum,count,min", "-f", "quantity,cents", "-g", "region",
+            "then", "rename", "quantity_sum,units,quantity_count,sold,cents_min,lowest", "then", "cut", "-o", "-f", "region,units,sold,lowest"],
+    sqlite="SELECT region, sum(nullif(quantity, '')) AS units, count(nullif(quantity, '')) AS sold, min(cents) AS lowest FROM sales GROUP BY region;",
+    pandas="answer = sales().groupby('region', sort=False).agg(units=('quantity', 'sum'), sold=('quantity', 'count'), lowest=('cents', 'min')).reset_index()",
+    data_table="answer <- sales()[, .(units = sum(as.numeric(quantity), na.rm = TRUE), sold = sum(!is.na(quantity)), lowest = min(cents)), by = region]",
+)
+
+JOIN = Task(
+    name="left join with a small file on a text",
+    sources=f"{MANAGERS},{SALES}",
+    steps='{"join":{"source":0,"on":["region"],"how":"left"}}',
+    files=["regions.csv", "sales.csv"],
+    awk='NR == FNR { manager[$1] = $2; next } FNR == 1 { print $0, "manager"; next } { print $0, manager[$2] }',
+    miller=["join", "--ur", "-j", "region", "-f", "regions.csv", "then", "template", "-f", "id,region,quantity,cents,manager"],
+    sqlite="SELECT id, sales.region, quantity, cents, manager FROM sales LEFT JOIN regions ON sales.region = regions.region;",
+    pandas="answer = sales().merge(regions(), how='left', on='region')",
+    data_table="d <- sales(); d[regions(), on = 'region', manager := i.manager]; answer <- d",
+)
+
+ROLL = Task(
+    name=f"rolling sum over {WINDOW} rows",
+    sources=SALES,
+    steps=f'{{"rolling_sum":{{"column":"cents","window":{WINDOW},"name":"rolled"}}}}',
+    files=["sales.csv"],
+    awk='NR == 1 { print $0, "rolled"; next } '
+        f'{{ n = NR - 1; at = n % {WINDOW}; sum += $4 - last[at]; last[at] = $4; print $0, n < {WINDOW} ? "" : sum }}',
+    miller=["put", f'begin {{ @sum = 0 }} @last[NR] = $cents; @sum += $cents; '
+            f'if (NR > {WINDOW}) {{ @sum -= @last[NR - {WINDOW}]; unset @last[NR - {WINDOW}] }} '
+            f'$rolled = NR < {WINDOW} ? "" : @sum'],
+    sqlite=f"SELECT id, region, quantity, cents, CASE WHEN count(*) OVER w = {WINDOW} THEN sum(cents) OVER w END AS rolled "
+           f"FROM sales WINDOW w AS (ORDER BY rowid ROWS {WINDOW - 1} PRECEDING);",
+    pandas=f"d = sales(); answer = d.assign(rolled=d.cents.rolling({WINDOW}).sum().astype('Int64'))",
+    data_table=f"d <- sales(); d[, rolled := frollsum(cents, {WINDOW})]; answer <- d",
+)
+
+TASKS = {"filter": FILTER, "group": GROUP, "join": JOIN, "roll": ROLL}
+
+
+# ---- programs
+
+@dataclass
+class Program:
+    """What is timed: its name, its version, and the words that run a task in the folder of the inputs."""
+    name: str
+    version: str
+    words: Callable[[str, Task], List[str]]
+
+
+def first_line(words):
+    """The first line that a command prints, or none where it does not run."""
+    try:
+        ran = subprocess.run(words, stdin=subprocess.DEVNULL, stdout=subprocess.PIPE, stderr=subprocess.STDOUT, check=True)
+    except (OSError, subprocess.CalledProcessError):
+        return None
+    lines = ran.stdout.decode(errors="replace").strip().splitlines()
+    return lines[0] if lines else ""
+
+
+def frameq(path):
+    version = first_line(["git", "-C", ROOT, "describe", "--always", "--dirty"]) or "no version known"
+    words = lambda workers: lambda key, task: [path, "--plan", f"{key}.json", "--workers", str(workers), *task.files]
+    return [Program(f"frameq, {workers} worker{'s' * (workers > 1)}", version, words(workers)) for workers in WORKERS]
+
+
+def mawk():
+    version = first_line(["mawk", "-W", "version"])
+    # Whole numbers are printed whole, however large.
+    start = ["mawk", "-F", ",", "-v", "OFS=,", "-v", "OFMT=%.0f", "-v", "CONVFMT=%.0f"]
+    return version and Program("mawk", version, lambda key, task: [*start, task.awk, *task.files])
+
+
+def miller():
+    version = first_line(["mlr", "--version"])
+    return version and Program("Miller", version, lambda key, task: ["mlr", "--csv", *task.miller, "sales.csv"])
+
+
+SQLITE_TABLES = [
+    "CREATE TABLE sales(id INTEGER, region TEXT, quantity INTEGER, cents INTEGER);",
+    "CREATE TABLE regions(region TEXT PRIMARY KEY, manager TEXT);",
+    ".mode csv", ".import --skip 1 sales.csv sales", ".import --skip 1 regions.csv regions", ".headers on",
+]
+
+
+def sqlite():
+    version = first_line(["sqlite3", "--version"])
+    return version and Program("SQLite", version.split()[0], lambda key, task: ["sqlite3", ":memory:", *SQLITE_TABLES, task.sqlite])
+
+
+PANDAS_START = """
+import pandas, sys
+def sales(): return pandas.read_csv('sales.csv', dtype={'id': 'int64', 'region': 'str', 'quantity': 'Int64', 'cents': 'int64'})
+def regions(): return pandas.read_csv('regions.csv')
+"""
+
+
+def pandas():
+    for folder in os.environ.get("PATH", "").split(os.pathsep):
+        python = os.path.join(folder, "python3")
+        version = os.access(python, os.X_OK) and first_line([python, "-c", "import pandas; print(pandas.__version__)"])
+        if version:
+            script = lambda task: f"{PANDAS_START}{task.pandas}\nanswer.to_csv(sys.stdout, index=False)\n"
+            return Program("pandas", version, lambda key, task: [python, "-c", script(task)])
+    return None
+
+
+DATA_TABLE_START = """
+suppressPackageStartupMessages(library(data.table))
+options(scipen = 99)
+sales <- function() fread('sales.csv')
+regions <- function() fread('regions.csv')
+"""
+
+
+def data_table():
+    version = first_line(["Rscript", "-e", "cat(format(packageVersion('data.table')), 'with', data.table::getDTthreads(), 'threads')"])
+    script = lambda task: f"{DATA_TABLE_START}{task.data_table}\nfwrite(answer, '/dev/stdout')\n"
+    return version and Program("data.table", version, lambda key, task: ["Rscript", "-e", script(task)])
+
+
+# ---- runs
+
+@dataclass
+class Measure:
+    """What one run took: seconds on the clock, and the most memory in MB."""
+    seconds: float
+    megabytes: float
+
+
+def measure(words, folder, output):
+    """Runs words in the folder, with the answer in the file `output`."""
+    with open(output, "wb") as out:
+        start = time.perf_counter()
+        child = subprocess.Popen(words, cwd=folder, stdin=subprocess.DEVNULL, stdout=out)
+        _, status, usage = os.wait4(child.pid, 0)
+        seconds = time.perf_counter() - start
+    child.returncode = os.waitstatus_to_exitcode(status)
+    if child.returncode:
+        sys.exit(f"{words[0]} ended with status {child.returncode}")
+    return Measure(seconds, usage.ru_maxrss / 1024)
+
+
+def rows_of(path):
+    with open(path, newline="", encoding="utf-8") as file:
+        return sorted(csv.reader(file))
+
+
+def same_answer(one, other):
+    """Whether two answers have the same names and the same rows, in whatever order."""
+    with open(one, "rb") as first, open(other, "rb") as second:
+        if first.read() == second.read():
+            return True
+    return rows_of(one) == rows_of(other)
+
+
+def compare_answers(key, task, programs, folder):
+    """The first round: every answer is to be that of the first program."""
+    expected, output = os.path.join(folder, "expected"), os.path.join(folder, "output")
+    measure(programs[0].words(key, task), folder, expected)
+    for program in programs[1:]:
+        measure(program.words(key, task), folder, output)
+        # In a process of its own, since what this one has held would count to the memory of those it starts.
+        with multiprocessing.Pool(1) as judge:
+            is_same = judge.apply(same_answer, (expected, output))
+        if not is_same:
+            sys.exit(f"{task.name}: {program.name} has another answer")
+    with open(expected, "rb") as file:
+        return sum(1 for _ in file) - 1
+
+
+def timed_rounds(key, task, programs, folder, runs):
+    measures: Dict[str, List[Measure]] = {program.name: [] for program in programs}
+    for _ in range(runs):
+        for program in programs:
+            measures[program.name].append(measure(program.words(key, task), folder, os.path.join(folder, "output")))
+    return measures
+
+
+def print_table(measures):
+    best = {name: min(one.seconds for one in all_runs) for name, all_runs in measures.items()}
+    print(f"  {'':20} {'best s':>8} {'median s':>9} {'MB':>7}   best, beside {DEFAULT}")
+    for name, all_runs in measures.items():
+        median = statistics.median(one.seconds for one in all_runs)
+        megabytes = max(one.megabytes for one in all_runs)
+        print(f"  {name:20} {best[name]:8.3f} {median:9.3f} {megabytes:7.0f}   {best[name] / best[DEFAULT]:.2f}")
+
+
+def binary(given: Optional[str]):
+    """The program to time: the one given, or else the one that ./frameq builds."""
+    if given:
+        return os.path.abspath(given)
+    subprocess.run([os.path.join(ROOT, "frameq"), "--help"], stdout=subprocess.DEVNULL, check=True)
+    return os.path.join(ROOT, "crates", "frameq", "out", "frameq")
+
+
+def arguments():
+    parser = argparse.ArgumentParser(description="Times frameq on whole plans beside other programs.")
+    parser.add_argument("--rows", type=int, default=1_000_000, help="rows of the large file [1000000]")
+    parser.add_argument("--runs", type=int, default=5, help="timed runs of each program on each task [5]")
+    parser.add_argument("--task", action="append", choices=TASKS, help="a task; may be given again [all]")
+    parser.add_argument("--program", help="the frameq to time [the one that ./frameq builds]")
+    return parser.parse_args()
+
+
+def main():
+    given = arguments()
+    own = frameq(binary(given.program))
+    peers = [peer for peer in (mawk(), miller(), sqlite(), pandas(), data_table()) if peer]
+    print(f"{os.cpu_count()} cores; frameq {own[0].version}; " + "; ".join(f"{peer.name} {peer.version}" for peer in peers))
+    with tempfile.TemporaryDirectory() as folder:
+        make_sales(os.path.join(folder, "sales.csv"), given.rows)
+        make_regions(os.path.join(folder, "regions.csv"))
+        size = os.path.getsize(os.path.join(folder, "sales.csv"))
+        print(f"{given.rows} rows, {size / 1e6:.1f} MB; {given.runs} runs of each")
+        for key in given.task or TASKS:
+            task = TASKS[key]
+            with open(os.path.join(folder, f"{key}.json"), "w", encoding="ascii") as file:
+                file.write(task.plan())
+            rows = compare_answers(key, task, [*own, *peers], folder)
+            print(f"\n{task.name}: {rows} rows out, all answers alike", flush=True)
+            print_table(timed_rounds(key, task, [*own, *peers], folder, given.runs))
+
+
+if __name__ == "__main__":
+    main()
