@@ -38,7 +38,7 @@ impl Key {
     /// A key of this many nulls, at least one.
     pub fn nulls(alloc: Global, count: usize) -> Result<Key, Memory>
         requires { 1 ≤ count }
-        ensures { IfOk result (λ key. length key ≡ count) }
+        ensures { IfOk result (λ key. key ≡ replicate count Cell.Null) }
     {
         let mut rest = Vec::with_capacity(alloc, count - 1)?;
         for _ in 1..count {

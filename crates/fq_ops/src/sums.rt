@@ -6,7 +6,9 @@ ghost use Rattle.fq_ops.specs.Sums.{AllFit, IsWithin};
 /// The sum and the number of values, of at most 2^40 numbers of 64 bits.
 #[derive(Clone, Copy)]
 pub struct Total {
+    /// The sum.
     pub sum: i128,
+    /// How many values it is of.
     pub count: u64,
 }
 

@@ -1,5 +1,6 @@
-use Rattle.std.proofs.Common.{◌≡◌, ◌+◌, vec_len}
+use Rattle.std.proofs.Common.{◌≡◌, ◌∷◌, replicate}
+use Rattle.fq_column.specs.declared.cells.Cell.TheVariants.{Null}
 use Rattle.fq_ops.proofs.keys.Key.nulls.Given as goal
 
 abbrev pub invariant-loop : goal.invariant-loop
-invariant-loop l = vec_len l.rest + 1 ≡ l.counter
+invariant-loop l = Null ∷ l.rest.items ≡ replicate l.counter Null
