@@ -13,6 +13,8 @@ use std::io::ErrorKind;
 use std::process::ExitCode;
 use words::with_words;
 
+#[cfg(test)]
+mod examples;
 mod failures;
 mod files;
 mod inputs;

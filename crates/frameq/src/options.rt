@@ -13,9 +13,9 @@ impl<'a> Options<'a> {
         Ok(Options(command(alloc)?.try_get_matches_from(words)?))
     }
 
-    /// The name of the plan file.
-    pub fn plan(&self) -> &'a str {
-        self.0.get_str("plan").unwrap_or_default()
+    /// The name of the plan file, which no words lack that are taken.
+    pub fn plan(&self) -> Option<&'a str> {
+        self.0.get_str("plan")
     }
 
     /// The names of the data files, in order.

@@ -20,7 +20,7 @@ use std::thread::Threads;
 
 /// Does what the words ask for, the program's own name left out, and answers the exit status.
 ///
-/// `--plan FILE [--batch N] [--workers N] FILE...` runs a plan over files and writes the frame to `out`; `--help` writes
+/// `--plan PLAN [--batch N] [--workers N] FILE...` runs a plan over files and writes the frame to `out`; `--help` writes
 /// the help there. At any other status than 0 something on `err` says why, and nothing is written to `out`, but at 5, where
 /// the write itself has failed, an unknown part may be. A failed write to `err` changes no status. Words are judged first,
 /// then the plan file, the plan, the number of files; then the files are opened in order, and read as the run goes on.
@@ -67,7 +67,8 @@ fn run_options<T: Threads + Wait + Sync, O: Opener, W: Write>(
 ) -> Result<(), Failure>
     ensures unwritten { IfErr result (λ f. f ≢ failure.Run fault.Write → Keeps (W.contents out.old) (W.contents out.new)) }
 {
-    let reader = open(files, options.plan(), Failure::PlanFile)?;
+    let name = options.plan().ok_or(Failure::PlanFile)?;
+    let reader = open(files, name, Failure::PlanFile)?;
     let text = read_whole(alloc, reader, Failure::PlanFile)?;
     let plan = checked_plan(alloc, text.as_slice())?;
     let (names, wanted) = (options.files(), plan.inputs());
