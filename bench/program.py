@@ -30,6 +30,10 @@ WINDOW = 100
 
 # ---- inputs
 
+def quantity(draw):
+    return draw.randrange(1, 100) if draw.randrange(100) else ""
+
+
 def make_sales(path, rows):
     """Sales: a number, one of a thousand regions, a quantity (none in one of a hundred rows), and a price."""
     draw = random.Random(1)
@@ -37,7 +41,7 @@ def make_sales(path, rows):
         file.write("id,region,quantity,cents\n")
         for start in range(0, rows, 10_000):
             file.writelines(
-                f"{number},region {draw.randrange(REGIONS)},{draw.randrange(1, 100) if draw.randrange(100) else ''},{draw.randrange(1, 1_000_000)}\n"
+                f"{number},region {draw.randrange(REGIONS)},{quantity(draw)},{draw.randrange(1, 1_000_000)}\n"
                 for number in range(start, min(start + 10_000, rows)))
 
 
@@ -74,7 +78,8 @@ class Task:
 FILTER = Task(
     name="filter and a computed column",
     sources=SALES,
-    steps='{"filter":["gt",{"col":"quantity"},50]},{"with_columns":[["total",["mul",{"col":"quantity"},{"col":"cents"}]]]}',
+    steps='{"filter":["gt",{"col":"quantity"},50]},'
+          '{"with_columns":[["total",["mul",{"col":"quantity"},{"col":"cents"}]]]}',
     files=["sales.csv"],
     awk='NR == 1 { print $0, "total"; next } $3 != "" && $3 > 50 { print $0, $3 * $4 }',
     miller=["filter", 'is_not_empty($quantity) && $quantity > 50', "then", "put", "$total = $quantity * $cents"],
@@ -86,17 +91,23 @@ FILTER = Task(
 GROUP = Task(
     name="group by one of 1,000 texts: sum, count, min",
     sources=SALES,
-    steps='{"group_by":{"keys":["region"],"aggs":[["units","sum","quantity"],["sold","count","quantity"],["lowest","min","cents"]]}}',
+    steps='{"group_by":{"keys":["region"],'
+          '"aggs":[["units","sum","quantity"],["sold","count","quantity"],["lowest","min","cents"]]}}',
     files=["sales.csv"],
     awk='NR == 1 { next } '
         '!($2 in units) { order[++groups] = $2; lowest[$2] = $4 } '
         '{ units[$2] += $3; sold[$2] += $3 != ""; if ($4 < lowest[$2]) lowest[$2] = $4 } '
-        'END { print "region", "units", "sold", "lowest"; for (i = 1; i <= groups; i++) { r = order[i]; print r, units[r], sold[r], lowest[r] } }',
+        'END { print "region", "units", "sold", "lowest"; '
+        'for (i = 1; i <= groups; i++) { r = order[i]; print r, units[r], sold[r], lowest[r] } }',
     miller=["stats1", "-a", "sum,count,min", "-f", "quantity,cents", "-g", "region",
-            "then", "rename", "quantity_sum,units,quantity_count,sold,cents_min,lowest", "then", "cut", "-o", "-f", "region,units,sold,lowest"],
-    sqlite="SELECT region, sum(nullif(quantity, '')) AS units, count(nullif(quantity, '')) AS sold, min(cents) AS lowest FROM sales GROUP BY region;",
-    pandas="answer = sales().groupby('region', sort=False).agg(units=('quantity', 'sum'), sold=('quantity', 'count'), lowest=('cents', 'min')).reset_index()",
-    data_table="answer <- sales()[, .(units = sum(as.numeric(quantity), na.rm = TRUE), sold = sum(!is.na(quantity)), lowest = min(cents)), by = region]",
+            "then", "rename", "quantity_sum,units,quantity_count,sold,cents_min,lowest",
+            "then", "cut", "-o", "-f", "region,units,sold,lowest"],
+    sqlite="SELECT region, sum(nullif(quantity, '')) AS units, count(nullif(quantity, '')) AS sold, min(cents) AS lowest "
+           "FROM sales GROUP BY region;",
+    pandas="groups = sales().groupby('region', sort=False); "
+           "answer = groups.agg(units=('quantity', 'sum'), sold=('quantity', 'count'), lowest=('cents', 'min')).reset_index()",
+    data_table="answer <- sales()[, .(units = sum(as.numeric(quantity), na.rm = TRUE), sold = sum(!is.na(quantity)), "
+               "lowest = min(cents)), by = region]",
 )
 
 JOIN = Task(
@@ -177,14 +188,19 @@ SQLITE_TABLES = [
 
 def sqlite():
     version = first_line(["sqlite3", "--version"])
-    return version and Program("SQLite", version.split()[0], lambda key, task: ["sqlite3", ":memory:", *SQLITE_TABLES, task.sqlite])
+    words = lambda key, task: ["sqlite3", ":memory:", *SQLITE_TABLES, task.sqlite]
+    return version and Program("SQLite", version.split()[0], words)
 
 
 PANDAS_START = """
 import pandas, sys
-def sales(): return pandas.read_csv('sales.csv', dtype={'id': 'int64', 'region': 'str', 'quantity': 'Int64', 'cents': 'int64'})
+KINDS = {'id': 'int64', 'region': 'str', 'quantity': 'Int64', 'cents': 'int64'}
+def sales(): return pandas.read_csv('sales.csv', dtype=KINDS)
 def regions(): return pandas.read_csv('regions.csv')
 """
+
+
+PANDAS_END = "answer.to_csv(sys.stdout, index=False)"
 
 
 def pandas():
@@ -192,8 +208,7 @@ def pandas():
         python = os.path.join(folder, "python3")
         version = os.access(python, os.X_OK) and first_line([python, "-c", "import pandas; print(pandas.__version__)"])
         if version:
-            script = lambda task: f"{PANDAS_START}{task.pandas}\nanswer.to_csv(sys.stdout, index=False)\n"
-            return Program("pandas", version, lambda key, task: [python, "-c", script(task)])
+            return Program("pandas", version, lambda key, task: [python, "-c", f"{PANDAS_START}{task.pandas}\n{PANDAS_END}"])
     return None
 
 
@@ -206,7 +221,8 @@ regions <- function() fread('regions.csv')
 
 
 def data_table():
-    version = first_line(["Rscript", "-e", "cat(format(packageVersion('data.table')), 'with', data.table::getDTthreads(), 'threads')"])
+    about = "cat(format(packageVersion('data.table')), 'with', data.table::getDTthreads(), 'threads')"
+    version = first_line(["Rscript", "-e", about])
     script = lambda task: f"{DATA_TABLE_START}{task.data_table}\nfwrite(answer, '/dev/stdout')\n"
     return version and Program("data.table", version, lambda key, task: ["Rscript", "-e", script(task)])
 
