@@ -224,44 +224,24 @@ fn sums_are_judged_as_a_whole(rt: HostRuntime) -> Result<(), Fail> {
     let schema = schema_of(alloc, &[("g", Kind::Whole), ("v", Kind::Whole)])?;
     let keys = names_of(alloc, &["g"])?;
     let keys = keys.as_slice();
-    let sum = [agg(alloc, "s", What::Sum(text_of(alloc, "v")?))?];
     let both = [
         agg(alloc, "n", What::Len)?,
         agg(alloc, "s", What::Sum(text_of(alloc, "v")?))?,
     ];
+    let both = both.as_slice();
+    let sum = &both[1..];
     let most = [Item::Int(1), Item::Int(i64::MAX)];
     let one = [Item::Int(1), Item::Int(1)];
     let less = [Item::Int(1), Item::Int(-1)];
-    let up = [most, one, less];
-    let down = [less, most, one];
-    let over = [most, one];
-    let row = [Item::Int(1), Item::Int(i64::MAX)];
-    let wanted = [row.as_slice()];
+    let row = most.as_slice();
+    let wanted = [row];
     let wanted = Ok(wanted.as_slice());
     let first = Err(GroupFault::SumRange { item: 0 });
     let second = Err(GroupFault::SumRange { item: 1 });
-    assert!(rt; gives(alloc, &schema, keys, sum.as_slice(), up.as_slice(), wanted)?);
-    assert!(rt;
-        gives(
-            alloc,
-            &schema,
-            keys,
-            sum.as_slice(),
-            down.as_slice(),
-            wanted
-        )?
-    );
-    assert!(rt; gives(alloc, &schema, keys, sum.as_slice(), over.as_slice(), first)?);
-    assert!(rt;
-        gives(
-            alloc,
-            &schema,
-            keys,
-            both.as_slice(),
-            over.as_slice(),
-            second
-        )?
-    );
+    assert!(rt; gives(alloc, &schema, keys, sum, &[most, one, less], wanted)?);
+    assert!(rt; gives(alloc, &schema, keys, sum, &[less, most, one], wanted)?);
+    assert!(rt; gives(alloc, &schema, keys, sum, &[most, one], first)?);
+    assert!(rt; gives(alloc, &schema, keys, both, &[most, one], second)?);
     Ok(())
 }
 
