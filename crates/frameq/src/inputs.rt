@@ -20,7 +20,7 @@ pub fn read_whole<R: Read + Drop>(
     ensures failed { IfErr result (λ f. (f ≡ failure) ⊎ (f ≡ Failure.MEMORY)) }
 {
     let mut bytes = Vec::new(alloc);
-    let mut reader = Patient {
+    let mut reader = Limited {
         reader,
         reads_left: MAX_READS,
     };
@@ -33,12 +33,12 @@ pub fn read_whole<R: Read + Drop>(
 
 // A reader that fails after so many reads.
 #[derive(Drop)]
-struct Patient<R> {
+struct Limited<R> {
     reader: R,
     reads_left: u64,
 }
 
-impl<R: Read> Read for Patient<R> {
+impl<R: Read> Read for Limited<R> {
     ghost remaining = { λ p. R.remaining p.reader };
 
     fn read(&mut self, buffer: &mut [u8]) -> io::Result<usize> {
