@@ -1,0 +1,379 @@
+"""Random plans and files, most of them right, some wrong on purpose. The same seed gives the same cases."""
+import json
+import random
+from collections import namedtuple
+
+import oracle
+from oracle import GREATEST, KINDS, LEAST
+
+# The bytes of a plan and of its files, in the order of the sources.
+Case = namedtuple("Case", "plan files")
+
+NAMES = ["a", "b", "c", "d", "e", "k", "a_right", "é", "x,y", ""]
+UNKNOWN = "nowhere"
+EDGES = [GREATEST, GREATEST - 1, LEAST, LEAST + 1]
+SMALL = [0, 0, 1, 1, 2, 3, -1, -7, 10]
+TEXTS = ["", "x", "y", "zz", "é", "\U0001f600", 'a"b', "p,q", "l\nm", "true", "7"]
+
+
+class Draw(random.Random):
+    def often(self, percent):
+        """True in so many of a hundred draws."""
+        return self.random() * 100 < percent
+
+    def some(self, items, least, most):
+        """From `least` to `most` items, each once, as far as there are so many."""
+        count = self.randint(least, most)
+        return self.sample(items, min(count, len(items)))
+
+
+# ---- expressions
+
+def literal(draw, kind):
+    if draw.often(12):
+        return {"null": kind}
+    if kind == "int":
+        return draw.choice(EDGES if draw.often(8) else SMALL)
+    return draw.choice(TEXTS) if kind == "text" else draw.often(50)
+
+
+def leaf(draw, columns, kind):
+    if draw.often(0.2):
+        return {"col": UNKNOWN}
+    names = [name for name, of_kind in columns.items() if of_kind == kind]
+    return {"col": draw.choice(names)} if names and draw.often(75) else literal(draw, kind)
+
+
+def at_the_edge(draw):
+    """An operation whose answer fits 64 bits just so, or just not."""
+    if draw.often(15):
+        return ["neg", draw.choice(EDGES)]
+    return [draw.choice(oracle.ARITHMETIC), draw.choice(EDGES), draw.choice([-1, 0, 1, 2])]
+
+
+def expression(draw, columns, kind, depth):
+    """An expression of a kind, seldom of another, with at most so many operators one in another."""
+    if draw.often(0.5):
+        kind = draw.choice(KINDS)
+    if depth == 0 or draw.often(25):
+        return leaf(draw, columns, kind)
+    part = lambda of_kind: expression(draw, columns, of_kind, depth - 1)
+    if draw.often(12) or kind == "text":
+        return ["fill_null", part(kind), part(kind)]
+    if kind == "int" and draw.often(4):
+        return at_the_edge(draw)
+    if kind == "int":
+        return ["neg", part("int")] if draw.often(15) else [draw.choice(oracle.ARITHMETIC), part("int"), part("int")]
+    operator = draw.choice(["not", "is_null", "is_not_null", "and", "or", *oracle.COMPARISONS])
+    if operator in ("and", "or"):
+        return [operator, part("bool"), part("bool")]
+    if operator == "not":
+        return [operator, part("bool")]
+    operand = draw.choice(KINDS)
+    if operator in oracle.UNARIES:
+        return [operator, part(operand)]
+    return [operator, part(operand), part(operand)]
+
+
+# ---- steps
+
+def outputs(draw, columns):
+    names = draw.some(NAMES, 0 if draw.often(3) else 1, 3)
+    if draw.often(1.5):
+        names += names[:1]
+    if draw.often(0.7):
+        names += [f"wide {number}" for number in range(draw.choice([60, 63, 64, 65]))]
+    return [[name, expression(draw, columns, draw.choice(KINDS), draw.randrange(3))] for name in names]
+
+
+def filter_step(draw, columns, joins):
+    return {"filter": expression(draw, columns, "int" if draw.often(1) else "bool", draw.randint(1, 3))}
+
+
+def with_columns_step(draw, columns, joins):
+    return {"with_columns": outputs(draw, columns)}
+
+
+def select_step(draw, columns, joins):
+    return {"select": outputs(draw, columns)}
+
+
+def join_step(draw, columns, joins):
+    if not joins and draw.often(95):
+        return filter_step(draw, columns, joins)
+    source = draw.randrange(len(joins)) if joins and draw.often(97) else draw.choice([-1, len(joins), 99])
+    right = joins[source] if 0 <= source < len(joins) else {}
+    common = [name for name in columns if columns[name] == right.get(name)]
+    if not common and draw.often(90):
+        return filter_step(draw, columns, joins)
+    on = draw.some(common, 1, 2) if common and draw.often(96) else draw.some(NAMES, 0, 2)
+    if draw.often(1.5):
+        on += on[:1]
+    return {"join": {"source": source, "on": on, "how": draw.choice(["inner", "left"])}}
+
+
+def column_name(draw, columns, kind=None):
+    """The name of a column, mostly of this kind where one is asked for."""
+    names = [name for name in columns if kind in (None, columns[name])]
+    if draw.often(1):
+        return UNKNOWN
+    return draw.choice(names if names and draw.often(97) else list(columns))
+
+
+def may_sum(draw, columns):
+    """Whether to sum a column: where one has whole numbers, and seldom where none has."""
+    return "int" in columns.values() or draw.often(10)
+
+
+def group_by_step(draw, columns, joins):
+    keys = draw.some(list(columns), 1, 2) if draw.often(98) else draw.some([*columns, UNKNOWN], 0, 1)
+    names = draw.some(NAMES if draw.often(5) else [name for name in NAMES if name not in keys], 0, 4)
+    aggregates = []
+    for name in names:
+        function = draw.choice(["len", "sum", "sum", *oracle.FUNCTIONS])
+        if function == "len":
+            aggregates.append([name, "len"])
+        elif function == "sum":
+            aggregates.append([name, "sum" if may_sum(draw, columns) else "count", column_name(draw, columns, "int")])
+        else:
+            aggregates.append([name, function, column_name(draw, columns)])
+    return {"group_by": {"keys": keys, "aggs": aggregates}}
+
+
+def rolling_sum_step(draw, columns, joins):
+    if not may_sum(draw, columns):
+        return filter_step(draw, columns, joins)
+    window = draw.choice([1, 2, 3, 4, 7, 65536]) if draw.often(98) else draw.choice([0, -1, 65537])
+    step = {"column": column_name(draw, columns, "int"), "window": window, "name": draw.choice(NAMES)}
+    if draw.often(60):
+        step["min_samples"] = draw.randint(1, max(1, min(window, 3))) if draw.often(98) else draw.choice([0, window + 1])
+    return {"rolling_sum": step}
+
+
+STEPS = [filter_step, with_columns_step, select_step, join_step, join_step, group_by_step, rolling_sum_step]
+
+
+def steps(draw, sources):
+    """Steps, each on the columns that the one before leaves, up to the first that is refused."""
+    try:
+        *joins, columns = [oracle.columns_of_source(source["columns"]) for source in sources]
+    except oracle.Refusal:
+        return []
+    drawn = []
+    for _ in range(draw.randrange(6)):
+        drawn.append(draw.choice(STEPS)(draw, columns, joins))
+        try:
+            columns = oracle.columns_after(columns, oracle.step_of(drawn[-1]), joins)
+        except oracle.Refusal:
+            break
+    return drawn
+
+
+# ---- plans
+
+def source(draw):
+    columns = [[name, draw.choice(["int", *KINDS])] for name in draw.some(NAMES, 1, 4)]
+    if draw.often(0.5):
+        wide = [[f"wide {number}", "int"] for number in range(draw.choice([64, 65]))]
+        columns = draw.choice([[], columns + columns[:1], wide])
+    return {"files": draw.choice([1, 1, 1, 2, 3]), "columns": columns}
+
+
+def plan(draw):
+    sources = [source(draw) for _ in range(draw.choice([1, 1, 2, 2, 3]))]
+    main = sources[-1]["columns"]
+    for joined in sources[:-1]:
+        if main and draw.often(80):
+            key = draw.choice(main)
+            joined["columns"] = [key] + [column for column in joined["columns"] if column[0] != key[0]]
+    return {"version": 1, "sources": sources, "steps": steps(draw, sources)}
+
+
+def shuffled(draw, value):
+    """The same value, with the members of its objects in another order."""
+    if isinstance(value, list):
+        return [shuffled(draw, item) for item in value]
+    if isinstance(value, dict):
+        return {name: shuffled(draw, value[name]) for name in draw.sample(list(value), len(value))}
+    return value
+
+
+def text_of(draw, value):
+    """The JSON of a value, with or without escapes and spaces, mostly on one line."""
+    indent = 2 if draw.often(10) else None
+    return json.dumps(shuffled(draw, value), ensure_ascii=draw.often(50), indent=indent).encode()
+
+
+# ---- plans that are wrong on purpose
+
+# Stand in the place of a part of a plan, where they are seldom right.
+STRANGE = [None, True, 0, 1, -1, 17, 1.5, 1.0, -0.0, 2**63, 10**30, 10**400, "", "len", "int", "col", [], [[]], {}, {"col": "a"}]
+
+
+def places(value):
+    """Every place in a value: what holds it, and its index or name there."""
+    inner = value.items() if isinstance(value, dict) else enumerate(value) if isinstance(value, list) else []
+    for key, part in inner:
+        yield value, key
+        yield from places(part)
+
+
+def with_other_part(draw, value):
+    """A plan with something strange in one place, or one member or item less or more."""
+    value = json.loads(json.dumps(value))
+    holder, key = draw.choice(list(places(value)))
+    change = draw.randrange(4)
+    if change == 0:
+        del holder[key]
+    elif change == 1 and isinstance(holder, dict):
+        holder[draw.choice(["extra", "min_samples", "col"])] = draw.choice(STRANGE)
+    elif change == 2 and isinstance(holder, list):
+        holder.insert(key, draw.choice(STRANGE))
+    else:
+        holder[key] = draw.choice(STRANGE)
+    return value
+
+
+def past_a_limit(draw, value):
+    """A plan at or past a limit on its sources, files, steps or nesting."""
+    change = draw.randrange(4)
+    if change == 0:
+        value["sources"] = [{"files": 1, "columns": [["a", "int"]]}] * draw.choice([0, 8, 9])
+        value["steps"] = []
+    elif change == 1:
+        others = sum(one["files"] for one in value["sources"][1:])
+        value["sources"][0]["files"] = draw.choice([0, 16 - others, 17 - others, 17])
+    elif change == 2:
+        value["steps"] = [{"filter": True}] * draw.choice([64, 65])
+    else:
+        predicate = True
+        for _ in range(draw.choice([123, 124, 125, 200])):
+            predicate = ["not", predicate]
+        value["steps"] = [{"filter": predicate}]
+    return value
+
+
+TOKENS = [
+    "-0", "1e999", "1" * 400, "NaN", "-Infinity", "01", "1.", "+1", "tru", "'a'", "[1,]", '{"col": "a",}',
+    r'"\ud800"', r'"\ude00"', r'"\ud83d\ude00"', r'"\x"', '"\x01"', '"\t"', r'"a\/b"', '"', "", "1 2",
+]
+
+
+def with_other_token(draw, value):
+    """A text with one value spelt in an odd way, mostly in no way that JSON has."""
+    value = json.loads(json.dumps(value))
+    holder, key = draw.choice([place for place in places(value) if not isinstance(place[0][place[1]], (list, dict))])
+    holder[key] = "the odd one"
+    return text_of(draw, value).replace(b'"the odd one"', draw.choice(TOKENS).encode())
+
+
+def with_other_bytes(draw, text):
+    """A text with a few bytes changed, added or missing: mostly no JSON."""
+    at = draw.randrange(len(text))
+    middle = draw.choice([b"", b"\xff", b",", b'"', b"\x00", b"}", b"\\", b" ", b"\xef\xbb\xbf"])
+    return text[:at] + middle + text[at + draw.randrange(2):]
+
+
+def with_double_version(draw, value):
+    """A text in which the version is given twice; the last counts."""
+    first, last = draw.choice([(1, 2), (2, 1)])
+    return text_of(draw, {**value, "version": first})[:-1] + b', "version": %d}' % last
+
+
+def wrong_plan_text(draw, value):
+    change = draw.randrange(12)
+    if change < 5:
+        return text_of(draw, with_other_part(draw, value))
+    if change < 7:
+        return text_of(draw, past_a_limit(draw, value))
+    if change < 9:
+        return with_other_token(draw, value)
+    if change < 11:
+        return with_other_bytes(draw, text_of(draw, value))
+    return with_double_version(draw, value)
+
+
+# ---- files
+
+# How often rows have numbers near the limits of 64 bits, and how often something is wrong with them, in percent.
+Care = namedtuple("Care", "edges wrong")
+
+WRONG_FIELDS = ["1.5", "no", " 1", "1 ", "+-1", "+", "-", "9223372036854775808", "-9223372036854775809", "1e3", "٣", "truE "]
+
+
+def field(draw, kind, care):
+    if draw.often(care.wrong):
+        return draw.choice(WRONG_FIELDS).encode() if draw.often(90) else b"\xff"
+    if draw.often(18):
+        return b""
+    if kind == "int":
+        number = draw.choice(EDGES if draw.often(care.edges) else SMALL)
+        return draw.choice(["%d", "%d", "%d", "%+d", "%03d"]).encode() % number
+    if kind == "bool":
+        return draw.choice([b"true", b"false", b"TRUE", b"False"])
+    return draw.choice(TEXTS).encode()
+
+
+def quoted(draw, text):
+    """A field as it stands in a file: in quotes where it needs them, and now and then where it does not."""
+    if any(mark in text for mark in (b",", b'"', b"\r", b"\n")) or draw.often(4):
+        return b'"' + text.replace(b'"', b'""') + b'"'
+    return text
+
+
+def line(draw, fields):
+    return b'""' if fields == [b""] else b",".join(quoted(draw, one) for one in fields)
+
+
+def header(draw, columns, care):
+    names = [name.encode() for name, _ in columns]
+    if draw.often(care.wrong * 2):
+        others = [names[::-1], names[1:], [*names, b"z"], [name.upper() for name in names], [b" " + names[0], *names[1:]]]
+        names = draw.choice(others)
+    return line(draw, names)
+
+
+def row(draw, columns, care):
+    fields = [field(draw, kind, care) for _, kind in columns]
+    if draw.often(care.wrong / 2):
+        fields = draw.choice([[*fields, b"1"], fields[1:] or [b"", b""]])
+    return line(draw, fields)
+
+
+def csv_file(draw, columns, most_rows, care):
+    if draw.often(care.wrong / 2):
+        return draw.choice([b"", b"\n\n", b"\xef\xbb\xbf"])
+    lines = [header(draw, columns, care)]
+    for _ in range(draw.randint(0, most_rows)):
+        lines.append(row(draw, columns, care))
+        if draw.often(3):
+            lines.append(b"")
+    end = draw.choice([b"\n", b"\n", b"\r\n", b"\r"])
+    mark = b"\xef\xbb\xbf" if draw.often(3) else b""
+    last = b"" if draw.often(20) else end
+    torn = b'"torn' if draw.often(care.wrong / 2) else b""
+    return mark + end.join(lines) + last + torn
+
+
+def files_of(draw, value):
+    """Files for all sources. Seldom the main source is large, with more rows than a batch has by default."""
+    care = Care(edges=draw.choice([0, 0, 2, 25]), wrong=draw.choice([0, 0, 0, 0.5, 4]))
+    files = []
+    for place, one in enumerate(value["sources"]):
+        is_main = place == len(value["sources"]) - 1
+        most_rows = 1500 if is_main and draw.often(1) else 12
+        files += [csv_file(draw, one["columns"] or [["a", "int"]], most_rows, care) for _ in range(one["files"])]
+    if draw.often(2):
+        files = draw.choice([files + [b"a\n"], files[1:] or [b"a\n", b"a\n"]])
+    return files
+
+
+# ---- cases
+
+def case(seed, number):
+    """Case `number` of a seed."""
+    draw = Draw(f"{seed}, {number}")
+    value = plan(draw)
+    files = files_of(draw, value)
+    text = wrong_plan_text(draw, value) if draw.often(10) else text_of(draw, value)
+    return Case(text, files)
