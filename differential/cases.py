@@ -13,7 +13,7 @@ NAMES = ["a", "b", "c", "d", "e", "k", "a_right", "é", "x,y", ""]
 UNKNOWN = "nowhere"
 EDGES = [GREATEST, GREATEST - 1, LEAST, LEAST + 1]
 SMALL = [0, 0, 1, 1, 2, 3, -1, -7, 10]
-TEXTS = ["", "x", "y", "zz", "é", "\U0001f600", 'a"b', "p,q", "l\nm", "true", "7"]
+TEXTS = ["", "x", "y", "zz", "é", "\U0001f600", 'a"b', "p,q", "l\nm", "l\rm", "true", "7"]
 
 
 class Draw(random.Random):
@@ -79,10 +79,10 @@ def expression(draw, columns, kind, depth):
 
 def outputs(draw, columns):
     names = draw.some(NAMES, 0 if draw.often(3) else 1, 3)
-    if draw.often(1.5):
-        names += names[:1]
     if draw.often(0.7):
-        names += [f"wide {number}" for number in range(draw.choice([60, 63, 64, 65]))]
+        names += [f"wide {number}" for number in range(draw.randint(59, 65))]
+    if draw.often(30 if len(names) > 3 else 1.5):
+        names += names[-1:]
     return [[name, expression(draw, columns, draw.choice(KINDS), draw.randrange(3))] for name in names]
 
 
@@ -143,10 +143,10 @@ def group_by_step(draw, columns, joins):
 def rolling_sum_step(draw, columns, joins):
     if not may_sum(draw, columns):
         return filter_step(draw, columns, joins)
-    window = draw.choice([1, 2, 3, 4, 7, 65536]) if draw.often(98) else draw.choice([0, -1, 65537])
+    window = draw.choice([1, 2, 3, 4, 7, 65536]) if draw.often(96) else draw.choice([0, -1, 65537])
     step = {"column": column_name(draw, columns, "int"), "window": window, "name": draw.choice(NAMES)}
     if draw.often(60):
-        step["min_samples"] = draw.randint(1, max(1, min(window, 3))) if draw.often(98) else draw.choice([0, window + 1])
+        step["min_samples"] = draw.randint(1, max(1, min(window, 3))) if draw.often(97) else draw.choice([0, window + 1])
     return {"rolling_sum": step}
 
 
@@ -207,7 +207,9 @@ def text_of(draw, value):
 # ---- plans that are wrong on purpose
 
 # Stand in the place of a part of a plan, where they are seldom right.
-STRANGE = [None, True, 0, 1, -1, 17, 1.5, 1.0, -0.0, 2**63, 10**30, 10**400, "", "len", "int", "col", [], [[]], {}, {"col": "a"}]
+STRANGE = [
+    None, True, 0, 1, -1, 17, 1.5, 1.0, -0.0, 2**63, 10**30, 10**400, "", "len", "int", "col", [], [[]], {}, {"col": "a"},
+]
 
 
 def places(value):
@@ -314,30 +316,31 @@ def field(draw, kind, care):
     return draw.choice(TEXTS).encode()
 
 
-def quoted(draw, text):
-    """A field as it stands in a file: in quotes where it needs them, and now and then where it does not."""
-    if any(mark in text for mark in (b",", b'"', b"\r", b"\n")) or draw.often(4):
+def quoted(draw, text, care):
+    """A field as it stands in a file: in quotes where it needs them, seldom without; and now and then where it does not."""
+    needs_quotes = any(mark in text for mark in (b",", b'"', b"\r", b"\n"))
+    if draw.often(100 - care.wrong if needs_quotes else 4):
         return b'"' + text.replace(b'"', b'""') + b'"'
     return text
 
 
-def line(draw, fields):
-    return b'""' if fields == [b""] else b",".join(quoted(draw, one) for one in fields)
+def line(draw, fields, care):
+    return b'""' if fields == [b""] else b",".join(quoted(draw, one, care) for one in fields)
 
 
 def header(draw, columns, care):
     names = [name.encode() for name, _ in columns]
     if draw.often(care.wrong * 2):
-        others = [names[::-1], names[1:], [*names, b"z"], [name.upper() for name in names], [b" " + names[0], *names[1:]]]
-        names = draw.choice(others)
-    return line(draw, names)
+        spaced = [b" " + names[0], *names[1:]]
+        names = draw.choice([names[::-1], names[1:], [*names, b"z"], [name.upper() for name in names], spaced])
+    return line(draw, names, care)
 
 
 def row(draw, columns, care):
     fields = [field(draw, kind, care) for _, kind in columns]
     if draw.often(care.wrong / 2):
         fields = draw.choice([[*fields, b"1"], fields[1:] or [b"", b""]])
-    return line(draw, fields)
+    return line(draw, fields, care)
 
 
 def csv_file(draw, columns, most_rows, care):
