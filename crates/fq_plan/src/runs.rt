@@ -18,15 +18,12 @@ use crate::gathering::Gathering;
 use crate::openings::{empty_sources, file_schemas, open_feeds};
 use crate::workers::LeadingSteps;
 use fq_column::Batch;
-use fq_csv::print_frame;
+use fq_csv::{MAX_BATCH_SIZE, print_frame};
 use fq_lanes::{Report, run_rounds};
 use std::alloc::Global;
 use std::io::{Read, Write};
 use std::sync::Wait;
 use std::thread::Threads;
-
-/// The most rows of a batch.
-const MAX_BATCH_SIZE: u32 = 65_536;
 
 /// The most workers.
 const MAX_WORKERS: u16 = 16;
