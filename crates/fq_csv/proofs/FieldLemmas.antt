@@ -1,10 +1,10 @@
 -- What std says of a field that it reads as a whole number or as text, as the tests of the definitions.
-use Rattle.std.proofs.Common.{◌≡◌, ◌<◌, ◌^◌, ℕ, ℤ, pos, negsuc, List, [], ◌∷◌, true, Result, Ok, Err, zero, suc, None, refl, ap, arith, w64, inl, inr, Bor, Some}
+use Rattle.std.proofs.Common.{◌≡◌, ◌<◌, ◌^◌, ◌∙◌, sym, cond, neg_ℤ, Bool, false, ℕ, ℤ, pos, negsuc, List, [], ◌∷◌, true, Result, Ok, Err, zero, suc, None, refl, ap, arith, w64, inl, inr, Bor, Some}
 use Rattle.std.specs.Bool.{Decides}
 use Rattle.std.specs.Prelude.{◌&&◌, MatchResult, option_map}
 use Rattle.std.specs.Result.{result_ok}
 use Rattle.std.specs.Str.{IsAscii, IsUtf8, all_ascii_digits, is_utf8}
-use Rattle.std.specs.Str.Parse.{IsNumeral, ParsesSigned, signed_digits_value, without_leading_sign}
+use Rattle.std.specs.Str.Parse.{IsNumeral, ParsesSigned, digits_value, starts_with_minus, signed_digits_value, without_leading_sign}
 use Rattle.std.proofs.lemmas.Bool.{cases_Bool, false_from_ne_true, lt-ltb, ltb-true}
 use Rattle.std.proofs.lemmas.Bool.Decides.{Decides-and, eqb_tells}
 use Rattle.std.proofs.lemmas.Fmt.{IsAscii-from_digits}
@@ -35,6 +35,18 @@ parsed-whole bs (Err x) h =
       | inl e ↦ absurd (h ((decides-whole bs).0 e))
       | inr e ↦ rw e refl
     ]
+
+-- a sign and digits that write a number below 10 ^ 18
+pub few-whole : (field : List ℕ) (is_negative : Bool) (digits : List ℕ) (n : ℕ) → is_negative ≡ starts_with_minus field → digits ≡ without_leading_sign field
+    → is_numeral digits ≡ true → n ≡ digits_value 10 digits → n < 10 ^ 18 → Some (cond is_negative (neg_ℤ (pos n)) (pos n)) ≡ whole_of field
+few-whole field is_negative digits n minus same numeral value few =
+    let v = signed (starts_with_minus field) n few in
+    rw (minus, sym (value ∙ ap (digits_value 10) same), rw same at numeral) (rw v refl)
+  where
+    signed : (is_negative : Bool) (n : ℕ) → n < 10 ^ 18 → fits (cond is_negative (neg_ℤ (pos n)) (pos n)) ≡ true
+    signed true zero l = refl
+    signed true (suc k) l = (decides-fits (negsuc k)).1 (record { sfits = omega (arith, l) })
+    signed false n l = (decides-fits (pos n)).1 (record { sfits = omega (arith, l) })
 
 ascii-signed : (bs : List ℕ) → IsAscii (without_leading_sign bs) → IsAscii bs
 ascii-signed [] h = h

@@ -1,3 +1,4 @@
+mod DigitLemmas
 pub mod FieldLemmas
 pub mod RecordLemmas
 pub mod RowLemmas

@@ -1,14 +1,61 @@
 // The cells that fields are.
-ghost use Rattle.std.specs.Prelude.{◌≡◌, ◌++◌, ◌∷◌, [], Some, None, IfOk, MatchBool, option_map};
+ghost use Rattle.std.specs.Prelude.{◌≡◌, ◌≤◌, ◌++◌, ◌∷◌, [], Some, None, IfOk, MatchBool, length, option_map, true};
+ghost use Rattle.std.specs.Option.{SomeIff};
+ghost use Rattle.std.specs.Str.Parse.{digits_value, starts_with_minus, without_leading_sign};
 ghost use Rattle.fq_column.specs.declared.cells.Cell.{Cell};
-ghost use Rattle.fq_csv.specs.Field.{cell_of, text_of, truth_of, whole_of};
+ghost use Rattle.fq_csv.specs.Field.{cell_of, is_numeral, text_of, truth_of, whole_of};
 ghost use Rattle.fq_csv.specs.Rows.{with_cell};
 
 use fq_column::{Column, Kind, Memory};
 use std::str;
 
+/// As many digits as write a number within 64 bits, whichever they are.
+const FEW_DIGITS: usize = 18;
+
 /// The whole number that a field spells, if it spells one within 64 bits.
 fn whole(field: &[u8]) -> Option<i64>
+    ensures { result ≡ whole_of field.now }
+{
+    let (is_negative, digits) = split_sign(field);
+    if digits.len() > FEW_DIGITS {
+        return long_whole(field);
+    }
+    let number = few_digits(digits)?.cast_signed();
+    Some(if is_negative { -number } else { number })
+}
+
+/// Whether a field begins with a minus, and the field without its sign.
+fn split_sign(field: &[u8]) -> (bool, &[u8])
+    ensures minus { result.0 ≡ starts_with_minus field.now }
+    ensures digits { result.1.now ≡ without_leading_sign field.now }
+{
+    match field {
+        [b'-', digits @ ..] => (true, digits),
+        [b'+', digits @ ..] => (false, digits),
+        digits => (false, digits),
+    }
+}
+
+/// The number that at most 18 digits write; none where they are none, or other bytes are among them.
+fn few_digits(digits: &[u8]) -> Option<u64>
+    requires few { length digits.now ≤ 18 }
+    ensures { SomeIff result (is_numeral digits.now ≡ true) (digits_value 10 digits.now) }
+{
+    if digits.is_empty() {
+        return None;
+    }
+    let mut number = 0;
+    for &byte in digits {
+        if !byte.is_ascii_digit() {
+            return None;
+        }
+        number = number * 10 + u64::from(byte - b'0');
+    }
+    Some(number)
+}
+
+/// The whole number that a field spells, however long it is.
+fn long_whole(field: &[u8]) -> Option<i64>
     ensures { result ≡ whole_of field.now }
 {
     match str::from_utf8(field) {
