@@ -4,5 +4,6 @@ pub mod ColumnLemmas
 pub mod ListLemmas
 pub mod PieceLemmas
 pub mod SchemaLemmas
+pub mod ValidityLemmas
 pub mod PutColumnLemmas
 pub mod PutLemmas

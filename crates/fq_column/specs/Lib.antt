@@ -8,3 +8,5 @@ pub mod Refusal
 pub mod Schema
 pub mod SchemaLaws
 pub mod Stream
+pub mod Text
+pub mod Validity

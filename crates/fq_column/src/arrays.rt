@@ -11,7 +11,7 @@ use std::marker::Model;
 /// A value that an array can hold.
 pub trait Element: Drop {
     /// What stands where no value is; takes no memory.
-    fn filler(alloc: Global) -> Self;
+    fn filler() -> Self;
 
     /// An equal value in memory of its own.
     fn copy_of(&self, alloc: Global) -> Result<Self, Memory>
@@ -24,7 +24,7 @@ pub trait Element: Drop {
 }
 
 impl Element for i64 {
-    fn filler(_alloc: Global) -> i64 {
+    fn filler() -> i64 {
         0
     }
 
@@ -39,7 +39,7 @@ impl Element for i64 {
 }
 
 impl Element for bool {
-    fn filler(_alloc: Global) -> bool {
+    fn filler() -> bool {
         false
     }
 
@@ -54,8 +54,8 @@ impl Element for bool {
 }
 
 impl Element for Text {
-    fn filler(alloc: Global) -> Text {
-        Text::empty(alloc)
+    fn filler() -> Text {
+        Text::empty()
     }
 
     fn copy_of(&self, alloc: Global) -> Result<Text, Memory> {
@@ -113,7 +113,7 @@ impl<T: Element> Array<T> {
         ensures { IfOk result (λ a. a ≡ []) }
     {
         let values = Vec::with_capacity(alloc, capacity)?;
-        let validity = Validity::with_capacity(alloc, capacity)?;
+        let validity = Validity::new(alloc);
         Ok(Array { values, validity })
     }
 
@@ -165,8 +165,7 @@ impl<T: Element> Array<T> {
         ensures ok { OnOk result (self.new ≡ self.old ++ None ∷ []) }
         ensures err { OnErr result (self.new ≡ self.old) }
     {
-        let filler = T::filler(self.allocator());
-        self.push_marked(filler, false)
+        self.push_marked(T::filler(), false)
     }
 
     // Appends a place with this mark.
@@ -188,7 +187,7 @@ impl<T: Element> Array<T> {
         ensures { self.new ≡ slice_set self.old i (Some value) }
     {
         self.values[i] = value;
-        self.validity.set(i, true);
+        self.validity.set(i);
     }
 
     /// Copies of the values at these places, each as often as it is named. A place past the end has no value.

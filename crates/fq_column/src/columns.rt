@@ -275,10 +275,16 @@ impl Column {
         requires { i < length self.now.cells }
         ensures { OnOk result (slice_get self.now.cells i ≡ Some cell.new) }
     {
-        match &self.values {
-            Values::Text(array) => {
-                if let (Some(text), Cell::Text(own)) = (array.get(i), &mut *cell) {
-                    return own.assign(text.as_str());
+        match (&self.values, &mut *cell) {
+            (Values::Whole(array), Cell::Whole(own)) => {
+                if let Some(value) = array.get(i) {
+                    *own = *value;
+                    return Ok(());
+                }
+            }
+            (Values::Text(array), Cell::Text(own)) => {
+                if let Some(text) = array.get(i) {
+                    return own.assign(alloc, text.as_str());
                 }
             }
             _ => {}

@@ -275,9 +275,106 @@ fn cells_are_read_into_a_cell(rt: HostRuntime) -> Result<(), Fail> {
     assert!(rt; cell == text(alloc, "xyz")?);
     texts.read_cell(alloc, 1, &mut cell)?;
     assert!(rt; cell == text(alloc, "w")?);
-    let mut own = Text::new(alloc, "abc")?;
-    own.assign("d")?;
-    assert!(rt; own.as_str() == "d");
+    Ok(())
+}
+
+#[test]
+fn texts_in_place_and_on_the_heap_are_alike(rt: HostRuntime) -> Result<(), Fail> {
+    let alloc = rt.alloc();
+    let words = [
+        "",
+        "d",
+        "sixteen bytes ab",
+        "seventeen bytes a",
+        "é, and a tail that is longer",
+    ];
+    for word in words {
+        let text = Text::new(alloc, word)?;
+        assert!(rt; text.as_str() == word);
+        assert!(rt; text.copy(alloc)? == text);
+        for other in words {
+            let mut changed = Text::new(alloc, other)?;
+            assert_eq!(rt; changed == text, other == word);
+            assert_eq!(rt; changed.cmp(&text), other.cmp(word));
+            changed.assign(alloc, word)?;
+            assert!(rt; changed == text);
+            assert!(rt; changed.as_str() == word);
+        }
+    }
+    Ok(())
+}
+
+// The numbers below `count`, or every second one, but for three that are null.
+fn with_gaps(alloc: Global, count: i64, every_second: bool) -> Result<Vec<Cell>, Memory> {
+    let mut cells = Vec::new(alloc);
+    for i in 0..count {
+        if i % 2 == 0 || !every_second {
+            cells.push(match i {
+                63 | 64 | 129 => Cell::Null,
+                _ => Cell::Whole(i),
+            })?;
+        }
+    }
+    Ok(cells)
+}
+
+// The column of whole numbers and nulls.
+fn column_of(rt: &impl Abort, alloc: Global, cells: &[Cell]) -> Result<Column, Memory> {
+    let mut column = Column::new(alloc, Kind::Whole);
+    for cell in cells {
+        assert!(rt; column.kind() == Kind::Whole);
+        match cell {
+            Cell::Whole(value) => column.push_whole(*value)?,
+            _ => column.push_null()?,
+        }
+    }
+    Ok(column)
+}
+
+// Whether a column of so many cells, with one of so many others behind, holds the cells of both.
+fn joins(rt: &impl Abort, alloc: Global, count: i64, others: i64) -> Result<bool, Memory> {
+    let mut cells = with_gaps(alloc, count, false)?;
+    let mut more = with_gaps(alloc, others, false)?;
+    let mut column = column_of(rt, alloc, cells.as_slice())?;
+    let other = column_of(rt, alloc, more.as_slice())?;
+    assert!(rt; column.kind() == other.kind());
+    column.append(&other)?;
+    cells.append(&mut more)?;
+    holds(alloc, &column, cells.as_slice())
+}
+
+// Which of so many places are even.
+fn even_places(alloc: Global, count: usize) -> Result<Vec<bool>, Memory> {
+    let mut mask = Vec::new(alloc);
+    for i in 0..count {
+        mask.push(i % 2 == 0)?;
+    }
+    Ok(mask)
+}
+
+#[test]
+fn marks_are_joined_across_words(rt: HostRuntime) -> Result<(), Fail> {
+    for (count, others) in [
+        (63, 130),
+        (64, 130),
+        (65, 63),
+        (65, 130),
+        (128, 130),
+        (130, 65),
+    ] {
+        assert!(rt; joins(&rt, rt.alloc(), count, others)?);
+    }
+    Ok(())
+}
+
+#[test]
+fn marks_are_kept_across_words(rt: HostRuntime) -> Result<(), Fail> {
+    let alloc = rt.alloc();
+    let mut column = column_of(&rt, alloc, with_gaps(alloc, 130, false)?.as_slice())?;
+    let mask = even_places(alloc, column.len())?;
+    assert_eq!(rt; column.len(), mask.len());
+    column.keep(mask.as_slice());
+    assert!(rt; holds(alloc, &column, with_gaps(alloc, 130, true)?.as_slice())?);
     Ok(())
 }
 

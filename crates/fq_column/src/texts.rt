@@ -1,6 +1,5 @@
-// A text of a cell: a string that contracts see as its bytes.
+// A text of a cell, which contracts see as its bytes.
 ghost use Rattle.std.specs.Prelude.{◌≡◌, [], Some, refl, IfOk, OnOk, OnErr, nat_eq};
-ghost use Rattle.std.specs.String.{string_bytes};
 ghost use Rattle.std.specs.Cmp as laws;
 ghost use Rattle.std.specs.Ordering.{nat_cmp};
 ghost use Rattle.std.specs.Cmp.Lexicographic.{pointwise, slice_cmp, nat_list_eq_equiv, nat_list_cmp_total, texts_ties, texts_po};
@@ -9,77 +8,95 @@ ghost use Rattle.std.specs.Cmp.Rules.{hashing, comparing};
 ghost use Rattle.std.proofs.Common.{rules};
 
 use crate::faults::Memory;
+use arrayvec::ArrayString;
 use std::alloc::Global;
 use std::cmp::Ordering;
 use std::hash::{Hash, Hasher};
 use std::marker::Model;
 
+/// The most bytes of a text that lies in the cell itself.
+const INLINE: usize = 16;
+
+/// Where the bytes of a text lie.
+#[derive(Drop, Debug)]
+enum Storage {
+    /// In the value itself.
+    Inline(ArrayString<INLINE>),
+    /// In memory of its own.
+    Heap(String),
+}
+
 /// A text of a cell, which is equal to, ordered with and hashed as another by its UTF-8 bytes.
+///
+/// Up to 16 bytes lie in the value itself; a longer text takes memory.
 #[derive(Drop, Debug)]
 pub struct Text {
-    string: String,
+    storage: Storage,
 }
 
 impl Model for Text {
     ghost use Rattle.std.specs.Prelude.{List, ℕ};
-    ghost use Rattle.std.specs.String.{string_bytes};
+    ghost use Rattle.fq_column.specs.Text.{stored};
 
     ghost Value = { List ℕ };
 
-    ghost view = { λ a. string_bytes a.string };
+    ghost view = { λ a. stored a.storage };
 }
 
 impl Text {
     /// The empty text, which takes no memory.
-    pub fn empty(alloc: Global) -> Text
+    pub fn empty() -> Text
         ensures { result ≡ [] }
     {
         Text {
-            string: String::new(alloc),
+            storage: Storage::Inline(ArrayString::new()),
         }
     }
 
-    /// A copy of these characters.
+    /// A copy of these characters; takes memory where they are more than 16 bytes.
     pub fn new(alloc: Global, text: &str) -> Result<Text, Memory>
         ensures { IfOk result (λ t. t ≡ text.now) }
     {
-        let string = String::from_str(alloc, text)?;
-        Ok(Text { string })
-    }
-
-    /// The text that a string holds, with no copy.
-    pub fn from_string(string: String) -> Text
-        ensures { result ≡ string_bytes string }
-    {
-        Text { string }
-    }
-
-    /// The string that holds the text, with no copy.
-    pub fn into_string(self) -> String
-        ensures { string_bytes result ≡ self }
-    {
-        let Text { string } = self;
-        string
+        let storage = match ArrayString::from(text) {
+            Ok(string) => Storage::Inline(string),
+            Err(_) => Storage::Heap(String::from_str(alloc, text)?),
+        };
+        Ok(Text { storage })
     }
 
     /// The characters.
     pub fn as_str(&self) -> &str
         ensures { result.now ≡ self.now }
     {
-        self.string.as_str()
+        match &self.storage {
+            Storage::Inline(string) => string.as_str(),
+            Storage::Heap(string) => string.as_str(),
+        }
     }
 
-    /// Takes these characters in place of its own, in the same memory where it is enough. Is empty after a refusal.
-    pub fn assign(&mut self, text: &str) -> Result<(), Memory>
+    /// Takes these characters in place of its own, in the same memory where it has some. Is empty after a refusal.
+    pub fn assign(&mut self, alloc: Global, text: &str) -> Result<(), Memory>
         ensures ok { OnOk result (self.new ≡ text.now) }
         ensures err { OnErr result (self.new ≡ []) }
     {
-        self.string.clear();
-        self.string.push_str(text)?;
+        match &mut self.storage {
+            Storage::Inline(string) => {
+                string.clear();
+                if let Ok(()) = string.try_push_str(text) {
+                    return Ok(());
+                }
+            }
+            Storage::Heap(string) => {
+                string.clear();
+                string.push_str(text)?;
+                return Ok(());
+            }
+        }
+        *self = Text::new(alloc, text)?;
         Ok(())
     }
 
-    /// An equal text in memory of its own.
+    /// An equal text; takes memory where it is more than 16 bytes.
     pub fn copy(&self, alloc: Global) -> Result<Text, Memory>
         ensures { IfOk result (λ t. t ≡ self.now) }
     {
@@ -93,7 +110,7 @@ impl PartialEq for Text {
     ghost laws = { laws.partial_equiv_from_equiv nat_list_eq_equiv };
 
     fn eq(&self, other: &Text) -> bool {
-        self.string == other.string
+        self.as_str() == other.as_str()
     }
 }
 
@@ -121,7 +138,7 @@ impl Ord for Text {
     ghost matches_eq = { texts_ties };
 
     fn cmp(&self, other: &Text) -> Ordering {
-        self.string.cmp(&other.string)
+        self.as_str().cmp(other.as_str())
     }
 }
 
@@ -131,6 +148,6 @@ impl Hash for Text {
     ghost respects_eq = { Prim.search (hashing, rules) };
 
     fn hash<H: Hasher>(&self, state: &mut H) {
-        self.string.hash(state);
+        self.as_str().hash(state);
     }
 }

@@ -1,7 +1,7 @@
 use Rattle.std.proofs.Common.{◌≡◌, ◌∙◌, ap, sym, subst}
 use Rattle.fq_column.specs.declared.cells.Kind.{Kind}
 use Rattle.fq_column.specs.Column.{AreOfKind}
-use Rattle.fq_column.specs.Frame.{Fields, put_named}
+use Rattle.fq_column.specs.Frame.{put_named}
 use Rattle.fq_column.proofs.ColumnLemmas.{AreOfKind-values}
 use Rattle.fq_column.proofs.PutColumnLemmas.{column-replaced, width-replaced, column-appended, width-appended}
 use Rattle.fq_column.proofs.batches.put_column.Goals.{In_ok-put-in-Some, In-Ok}

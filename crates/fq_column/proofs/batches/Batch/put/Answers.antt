@@ -1,7 +1,6 @@
-use Rattle.std.proofs.Common.{◌≡◌, ◌∙◌, ap, sym, length, map, subst, ◌≤◌}
-use Rattle.fq_column.specs.Batch.{height_of, frame_of, frame_with}
-use Rattle.fq_column.specs.Column.{Cells}
-use Rattle.fq_column.specs.Frame.{Fields, Frame, put_named, rows_of}
+use Rattle.std.proofs.Common.{◌≡◌, ◌∙◌, ap, sym, length, subst, ◌≤◌}
+use Rattle.fq_column.specs.Batch.{height_of, frame_with}
+use Rattle.fq_column.specs.Frame.{Fields, Frame, put_named}
 use Rattle.fq_column.proofs.BatchLemmas.{length-rows_of, of_height}
 use Rattle.fq_column.proofs.PutColumnLemmas.{StandsIn-put, frame-put}
 use Rattle.fq_column.proofs.batches.Batch.put.Goals.{In_ok-put_column}
