@@ -57,7 +57,7 @@ impl Accumulator {
             IsAccumulator (length batch.now.fields) groups (n + length numbers.now) self.new) }
     {
         let column = batch.column(self.column);
-        grow(alloc, &mut self.states, self.function, groups)?;
+        grow(&mut self.states, self.function, groups)?;
         step_all(alloc, &mut self.states, column, numbers)
     }
 
@@ -83,19 +83,14 @@ impl Accumulator {
 }
 
 // Adds the running values of new groups.
-fn grow(
-    alloc: Global,
-    states: &mut Vec<Running>,
-    function: Function,
-    groups: usize,
-) -> Result<(), Memory>
+fn grow(states: &mut Vec<Running>, function: Function, groups: usize) -> Result<(), Memory>
     requires { length states.old.items ≤ groups }
     ensures grown { OnOk result (states.new.items ≡ padded groups (start_of function) states.old.items) }
     ensures bounded { OnOk result ((n : ℕ) → All (IsBoundedBy n) states.old.items → All (IsBoundedBy n) states.new.items) }
 {
     states.reserve(groups - states.len())?;
     for _ in states.len()..groups {
-        states.push(Running::start(alloc, function))?;
+        states.push(Running::start(function))?;
     }
     Ok(())
 }

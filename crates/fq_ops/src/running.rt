@@ -28,28 +28,29 @@ pub enum Function {
 }
 
 /// Distinct cells.
+///
+/// They lie behind a pointer, so that a running value of another aggregate is small.
 #[derive(Drop)]
 pub struct Distinct {
-    cells: IndexSet<Cell>,
+    cells: Option<Box<IndexSet<Cell>>>,
 }
 
 impl Model for Distinct {
-    ghost use Rattle.std.specs.Prelude.{List};
+    ghost use Rattle.std.specs.Prelude.{List, []};
+    ghost use Rattle.std.specs.Option.{option_map_or};
     ghost use Rattle.fq_column.specs.declared.cells.Cell.{Cell};
 
     ghost Value = { List Cell };
 
-    ghost view = { λ d. d.cells.keys };
+    ghost view = { λ d. option_map_or (λ b. b.value.keys) d.cells [] };
 }
 
 impl Distinct {
     /// No cell; takes no memory.
-    pub fn new(alloc: Global) -> Distinct
+    pub fn new() -> Distinct
         ensures { result ≡ [] }
     {
-        Distinct {
-            cells: IndexSet::new(alloc),
-        }
+        Distinct { cells: None }
     }
 
     /// How many cells there are.
@@ -57,21 +58,37 @@ impl Distinct {
         ensures len { result ≡ length self.now }
         ensures small { result < 2 ^ 63 }
     {
-        self.cells.len()
+        match &self.cells {
+            Some(cells) => cells.len(),
+            None => 0,
+        }
     }
 
     /// One cell more, which is copied only where it is new.
     pub fn insert(&mut self, alloc: Global, cell: &Cell) -> Result<(), Memory>
         ensures { OnOk result (self.new ≡ insert_key same_cell self.old cell.now) }
     {
-        cell_law();
-        if self.cells.get_index_of(cell).is_some() {
+        let Some(cells) = &mut self.cells else {
+            let mut cells = IndexSet::new(alloc);
+            insert_new(alloc, &mut cells, cell)?;
+            self.cells = Some(Box::new(alloc, cells)?);
             return Ok(());
-        }
-        let own = copy_cell(alloc, cell)?;
-        self.cells.insert(own)?;
-        Ok(())
+        };
+        insert_new(alloc, cells, cell)
     }
+}
+
+// One cell more, which is copied only where it is new.
+fn insert_new(alloc: Global, cells: &mut IndexSet<Cell>, cell: &Cell) -> Result<(), Memory>
+    ensures { OnOk result (cells.new.keys ≡ insert_key same_cell cells.old.keys cell.now) }
+{
+    cell_law();
+    if cells.get_index_of(cell).is_some() {
+        return Ok(());
+    }
+    let own = copy_cell(alloc, cell)?;
+    cells.insert(own)?;
+    Ok(())
 }
 
 /// The value of an aggregate over the rows of a group so far.
@@ -97,7 +114,7 @@ pub enum Running {
 
 impl Running {
     /// The value over no row; takes no memory.
-    pub fn start(alloc: Global, function: Function) -> Running
+    pub fn start(function: Function) -> Running
         ensures { result ≡ start_of function }
     {
         match function {
@@ -108,7 +125,7 @@ impl Running {
             Function::Len => Running::Len(0),
             Function::First => Running::First(None),
             Function::Last => Running::Last(Cell::Null),
-            Function::NUnique => Running::NUnique(Distinct::new(alloc)),
+            Function::NUnique => Running::NUnique(Distinct::new()),
         }
     }
 
