@@ -1,6 +1,6 @@
 -- The running values of groups after more rows.
-use Rattle.std.proofs.Common.{◌≡◌, ℕ, zero, suc, ◌+◌, ◌-◌, ◌*◌, ◌^◌, ◌<◌, ◌≤◌, List, [], ◌∷◌, ◌++◌, drop, fold, get_or, inl, inr, set, length, map, replicate, take, zip, refl, sym, ap, ◌∙◌, arith, append_assoc, length-append}
-use Rattle.std.specs.Prelude.{All}
+use Rattle.std.proofs.Common.{◌≡◌, ℕ, zero, suc, ◌+◌, ◌-◌, ◌*◌, ◌^◌, ◌<◌, ◌≤◌, List, [], ◌∷◌, ◌++◌, Ok, Err, true, drop, fold, get_or, inl, inr, set, length, map, replicate, take, zip, refl, sym, ap, ◌∙◌, arith, append_assoc, length-append}
+use Rattle.std.specs.Prelude.{All, OnOk, Result, is_some}
 use Rattle.std.specs.List.{position_or_len}
 use Rattle.std.proofs.Math.Seq.{take-suc}
 use Rattle.std.proofs.lemmas.Bool.{cases_lt}
@@ -9,13 +9,11 @@ use Rattle.std.proofs.lemmas.Int.{ints}
 use Rattle.std.proofs.lemmas.List.{length-set, length-replicate, map-append}
 use Rattle.std.proofs.lemmas.List.Sums.{fold-append}
 use Rattle.fq_column.specs.declared.cells.Cell.{Cell}
-use Rattle.fq_ops.specs.declared.running.Running.{Running}
-use Rattle.fq_ops.specs.declared.running.Running.TheVariants.{Sum, Min, Max, Count, Len, First, Last, NUnique}
 use Rattle.fq_ops.specs.Accumulated.{numbers_along, padded, stepped_along, stepped_at}
 use Rattle.fq_ops.specs.declared.running.Function.{Function}
 use Rattle.fq_ops.specs.declared.running.Function.TheVariants as function
 use Rattle.fq_ops.specs.Group.{same_key}
-use Rattle.fq_ops.specs.Running.{IsBoundedBy, start_of, stepped}
+use Rattle.fq_ops.specs.Running.{Running, Sum, Min, Max, Count, Len, First, Last, NUnique, IsBoundedBy, finished, start_of, stepped}
 use Rattle.fq_ops.proofs.GroupLemmas.{length-insert_key, position-within}
 
 -- ---- bounds
@@ -41,6 +39,12 @@ all-push P [] y h w zero d low = w
 all-push P [] y h w (suc k) d low = absurd (omega (arith, low))
 all-push P (x ∷ xs) y h w zero d low = h zero d (omega arith)
 all-push P (x ∷ xs) y h w (suc k) d low = all-push P xs y (λ j e b. h (suc j) e (omega (arith, b))) w k d (omega (arith, low))
+
+-- what was bounded before an earlier step stays so after a later one
+pub bounded-from : {T E : Type 0} (r : Result T E) (count : ℕ) (xs old new : List Running) → ((n : ℕ) → All (IsBoundedBy n) old → All (IsBoundedBy n) new) →
+    OnOk r ((n : ℕ) → All (IsBoundedBy n) new → All (IsBoundedBy (n + count)) xs) → OnOk r ((n : ℕ) → All (IsBoundedBy n) old → All (IsBoundedBy (n + count)) xs)
+bounded-from (Ok x) count xs old new f h = λ n p. h n (f n p)
+bounded-from (Err e) count xs old new f h = tt
 
 -- ---- one row more
 
@@ -86,6 +90,13 @@ start-bounded n function.NUnique = omega arith
 
 pub length-padded : {X : Type 0} (n : ℕ) (x : X) (xs : List X) → length xs ≤ n → length (padded n x xs) ≡ n
 length-padded n x xs h = length-append xs (replicate (n - length xs) x) ∙ ap (λ k. length xs + k) (length-replicate (n - length xs) x) ∙ omega (arith, h)
+
+-- ---- values that always fit
+
+pub all-fit : {X : Type 0} (run : X → Running) → ((x : X) → is_some (finished (run x)) ≡ true) → (xs : List X) (k : ℕ) → is_some (finished (get_or (map run xs) k (Len 0))) ≡ true
+all-fit run h [] k = refl
+all-fit run h (x ∷ xs) zero = h x
+all-fit run h (x ∷ xs) (suc k) = all-fit run h xs k
 
 -- ---- the numbers of keys
 

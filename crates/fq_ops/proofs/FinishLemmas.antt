@@ -12,10 +12,9 @@ use Rattle.fq_column.specs.Column.{Cells}
 use Rattle.fq_column.specs.Frame.{value_at}
 use Rattle.fq_column.specs.Lists.{first_missing, numbers}
 use Rattle.fq_ops.specs.declared.running.Function.TheVariants as function
-use Rattle.fq_ops.specs.declared.running.Running.TheVariants.{Len}
 use Rattle.fq_ops.specs.Accumulated.{Accumulated, first_found, group_pick, group_picks, key_pick, value_pick}
 use Rattle.fq_ops.specs.Picks.{Pick, column_of, columns_of}
-use Rattle.fq_ops.specs.Running.{of_kind, outcome}
+use Rattle.fq_ops.specs.Running.{Len, of_kind, outcome}
 use Rattle.fq_ops.proofs.PickLemmas.{columns-push}
 use Rattle.fq_ops.proofs.RollLemmas.{missing-none, missing-some, numbers-more}
 

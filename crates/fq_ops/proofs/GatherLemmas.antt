@@ -8,14 +8,12 @@ use Rattle.std.proofs.lemmas.List.Folds.{fold-map}
 use Rattle.indexmap.specs.IndexSet.{insert_all, insert_key}
 use Rattle.fq_column.specs.declared.cells.Cell.{Cell}
 use Rattle.fq_column.specs.Frame.{Fields, Name, Row, value_at}
-use Rattle.fq_ops.specs.declared.running.Running.{Running}
-use Rattle.fq_ops.specs.declared.running.Running.TheVariants.{Len}
 use Rattle.fq_ops.specs.Accumulated.{Accumulated, IsAccumulator, accumulated, numbers_along, padded, stepped_along}
 use Rattle.fq_ops.specs.Aggregate.{Output, first_seen}
 use Rattle.fq_ops.specs.Gathered.{fresh, function_of, gathered, place_of}
 use Rattle.fq_ops.specs.Group.{group_of, key_of, keys_of_rows, same_key}
 use Rattle.fq_ops.specs.Grouping.{keys_seen, replaced, state_of, states_of}
-use Rattle.fq_ops.specs.Running.{IsBoundedBy, start_of, stepped}
+use Rattle.fq_ops.specs.Running.{Running, Len, IsBoundedBy, start_of, stepped}
 use Rattle.fq_ops.proofs.AccumulatorLemmas.{insert-grows}
 use Rattle.fq_ops.proofs.GroupLemmas.{first_seen-push, keys_seen-push, length-insert_key, position-within, same_key_laws, states-push}
 use Rattle.fq_ops.proofs.RefusalLemmas.{map-map}

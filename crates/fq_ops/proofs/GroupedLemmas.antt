@@ -17,14 +17,13 @@ use Rattle.fq_column.specs.Cell.{has_kind}
 use Rattle.fq_column.specs.Frame.{Field, Fields, Name, Row, kinds_of, row_fits, value_at, value_named}
 use Rattle.fq_column.specs.Lists.{all_or_missing, first_missing, numbers}
 use Rattle.fq_column.specs.Schema.{kind_named}
-use Rattle.fq_ops.specs.declared.running.Running.TheVariants.{Len}
 use Rattle.fq_ops.specs.Accumulated.{Accumulated, first_found, group_pick, group_picks, out_of_range_in, value_in}
 use Rattle.fq_ops.specs.Aggregate.{Output, aggregated, first_seen, len}
 use Rattle.fq_ops.specs.Fields.{Judged}
 use Rattle.fq_ops.specs.Gathered.{Gathered, HasTakenRows, gathered, running_of}
 use Rattle.fq_ops.specs.Group.{aggregate_kind, all_ok, group_of, group_row, group_schema, grouped, grouped_fields, grouped_kinds, key_of, keys_of_rows, same_key}
 use Rattle.fq_ops.specs.Picks.{Pick, row_of}
-use Rattle.fq_ops.specs.Running.{finished, of_kind, outcome}
+use Rattle.fq_ops.specs.Running.{Len, finished, of_kind, outcome}
 use Rattle.fq_ops.proofs.AcceptedLemmas.{aggregate-kinds, key-kinds, length-grouped}
 use Rattle.fq_ops.proofs.FinishLemmas.{below, found-here, found-past, none, not-below}
 use Rattle.fq_ops.proofs.OutcomeLemmas.{aggregated-fits, named-fits, running-is}

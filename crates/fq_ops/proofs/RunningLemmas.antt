@@ -10,8 +10,7 @@ use Rattle.fq_column.specs.Cell.{is_null, cell_cmp, fitted, same_cell}
 use Rattle.fq_column.specs.Column.{nullable}
 use Rattle.fq_column.specs.Frame.{value_at}
 use Rattle.fq_ops.specs.Aggregate.{wholes, int_sum, values, least, greatest, count, first_seen}
-use Rattle.fq_ops.specs.declared.running.Running.TheVariants.{Sum, Min, Max, Count, Len, First, Last, NUnique}
-use Rattle.fq_ops.specs.Running.{addend, lesser, greater, stepped, finished}
+use Rattle.fq_ops.specs.Running.{Sum, Min, Max, Count, Len, First, Last, NUnique, addend, lesser, greater, stepped, finished}
 use Rattle.fq_ops.proofs.GroupLemmas.{first_seen-push, same_cell_laws}
 
 -- ---- what a cell that is no whole number adds

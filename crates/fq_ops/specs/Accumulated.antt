@@ -9,17 +9,38 @@ use Rattle.fq_column.specs.Frame.{Row, column_at, value_at}
 use Rattle.fq_column.specs.Lists.{first_missing, numbers}
 use Rattle.fq_ops.specs.declared.running.Function.{Function}
 use Rattle.fq_ops.specs.declared.running.Function.TheVariants as function
-use Rattle.fq_ops.specs.declared.running.Running.{Running}
-use Rattle.fq_ops.specs.declared.running.Running.TheVariants.{Len}
+use Rattle.fq_ops.specs.declared.accumulators.States.{States}
+use Rattle.fq_ops.specs.declared.accumulators.States.TheVariants.{Sum as Sums, Min as Leasts, Max as Greatests, Count as Counts, Len as Lens, First as Firsts, Last as Lasts, NUnique as NUniques}
 use Rattle.fq_ops.specs.Group.{same_key}
 use Rattle.fq_ops.specs.Picks.{Pick}
-use Rattle.fq_ops.specs.Running.{IsBoundedBy, finished, of_kind, outcome, start_of, stepped}
+use Rattle.fq_ops.specs.Running.{Running, Sum, Min, Max, Count, Len, First, Last, NUnique, IsBoundedBy, finished, of_kind, outcome, start_of, stepped}
 
 -- an aggregate function, the place of its column, and its running value in each group
 pub record Accumulated : Type 0 where
   pub function : Function
   pub column : ℕ
   pub states : List Running
+
+-- the function of running values that are kept by their type, and what they say
+abbrev pub function_in : States → Function
+function_in (Sums xs) = function.Sum
+function_in (Leasts xs) = function.Min
+function_in (Greatests xs) = function.Max
+function_in (Counts xs) = function.Count
+function_in (Lens xs) = function.Len
+function_in (Firsts xs) = function.First
+function_in (Lasts xs) = function.Last
+function_in (NUniques xs) = function.NUnique
+
+abbrev pub running_in : States → List Running
+running_in (Sums xs) = map (λ s. Sum s.0) xs.items
+running_in (Leasts xs) = map (λ s. Min s.0) xs.items
+running_in (Greatests xs) = map (λ s. Max s.0) xs.items
+running_in (Counts xs) = map (λ s. Count s.0) xs.items
+running_in (Lens xs) = map (λ s. Len s.0) xs.items
+running_in (Firsts xs) = map (λ s. First s.0) xs.items
+running_in (Lasts xs) = map (λ s. Last s.0) xs.items
+running_in (NUniques xs) = map (λ s. NUnique s.0.keys) xs.items
 
 -- the numbers of keys in the order of first appearance, where these were seen before
 abbrev pub numbers_along : List (List Cell) → List (List Cell) → List ℕ
@@ -38,9 +59,13 @@ stepped_at states p = slice_set states p.0 (stepped (slice_index_or states p.0 (
 abbrev pub stepped_along : List Running → List ℕ → List Cell → List Running
 stepped_along states numbers cells = fold stepped_at states (zip numbers cells)
 
+-- the running values of a function after cells, in so many groups
+abbrev pub grown_and_stepped : ℕ → List ℕ → List Cell → Function → List Running → List Running
+grown_and_stepped groups numbers cells f states = stepped_along (padded groups (start_of f) states) numbers cells
+
 -- the running values after rows, in so many groups
 abbrev pub accumulated : ℕ → List ℕ → List Row → Accumulated → Accumulated
-accumulated groups numbers rows a = record a { states = stepped_along (padded groups (start_of a.function) a.states) numbers (column_at a.column rows) }
+accumulated groups numbers rows a = record a { states = grown_and_stepped groups numbers (column_at a.column rows) a.function a.states }
 
 -- the accumulator reads a column among so many, and its values, of at most n rows, are those of so many groups
 pub record IsAccumulator (width groups n : ℕ) (a : Accumulated) : Type 0 where
@@ -53,8 +78,11 @@ abbrev pub value_in : ℕ → Accumulated → Option Cell
 value_in group a = finished (slice_index_or a.states group (Len 0))
 
 -- a column of the groups' aggregates
+abbrev pub running_pick : Kind → List Running → Pick ℕ
+running_pick kind states = (kind, λ group. of_kind kind (outcome (slice_index_or states group (Len 0))))
+
 abbrev pub value_pick : Kind → Accumulated → Pick ℕ
-value_pick kind a = (kind, λ group. of_kind kind (outcome (slice_index_or a.states group (Len 0))))
+value_pick kind a = running_pick kind a.states
 
 -- a column of the keys' cells at a place
 abbrev pub key_pick : Kind → ℕ → List (List Cell) → Pick ℕ

@@ -7,12 +7,11 @@ use Rattle.fq_ops.specs.declared.groups.GroupFault.{GroupFault}
 use Rattle.fq_ops.specs.declared.groups.GroupFault.TheVariants.{SumRange, Memory}
 use Rattle.fq_ops.specs.declared.running.Function.{Function}
 use Rattle.fq_ops.specs.declared.running.Function.TheVariants as function
-use Rattle.fq_ops.specs.declared.running.Running.{Running}
 use Rattle.fq_ops.specs.Accumulated.{Accumulated, IsAccumulator}
 use Rattle.fq_ops.specs.Aggregate.{Aggregate, Output, sum_of, min_of, max_of, count_of, len, first_of_all, last_of_all, unique_of}
 use Rattle.fq_ops.specs.Fields.{AreAt}
 use Rattle.fq_ops.specs.Group.{group_of, group_schema, grouped_fields, keys_of_rows}
-use Rattle.fq_ops.specs.Running.{start_of, stepped}
+use Rattle.fq_ops.specs.Running.{Running, start_of, stepped}
 
 -- what contracts see of a grouper: the columns that it takes and those that it gives, how many rows it has taken, whether
 -- it has failed, and beside these what it keeps

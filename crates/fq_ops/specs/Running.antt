@@ -1,5 +1,5 @@
 -- A running value of an aggregate: what one more cell makes of it, and what it means at the end.
-use Rattle.std.specs.Prelude.{ℕ, ◌+◌, ◌≤◌, [], ℤ, pos, ◌+ℤ◌, length, Option, Some, None, unwrap_or, if◌then◌else◌}
+use Rattle.std.specs.Prelude.{ℕ, ◌+◌, ◌≤◌, [], ℤ, pos, ◌+ℤ◌, List, length, Option, Some, None, unwrap_or, if◌then◌else◌}
 use Rattle.std.specs.Ordering.{is_lt, is_gt}
 use Rattle.indexmap.specs.IndexSet.{insert_key}
 use Rattle.fq_column.specs.declared.cells.Kind.{Kind}
@@ -8,10 +8,20 @@ use Rattle.fq_column.specs.declared.cells.Cell.TheVariants.{Null, Whole, Text, T
 use Rattle.fq_column.specs.Cell.{is_null, cell_cmp, fitted, has_kind, same_cell}
 use Rattle.fq_ops.specs.declared.running.Function.{Function}
 use Rattle.fq_ops.specs.declared.running.Function.TheVariants as function
-use Rattle.fq_ops.specs.declared.running.Running.{Running}
-use Rattle.fq_ops.specs.declared.running.Running.TheVariants.{Sum, Min, Max, Count, Len, First, Last, NUnique}
 use Rattle.fq_ops.specs.Aggregate.{count}
 use Rattle.fq_ops.specs.Sums.{IsWithin}
+
+-- the value of an aggregate over the cells of a group so far: a sum, the least and the greatest that is not null, how many
+-- are not null, how many there are, the first, the last, and the distinct ones
+pub data Running : Type 0 where
+  Sum : ℤ → Running
+  Min : Cell → Running
+  Max : Cell → Running
+  Count : ℕ → Running
+  Len : ℕ → Running
+  First : Option Cell → Running
+  Last : Cell → Running
+  NUnique : List Cell → Running
 
 -- the whole number that a cell adds to a sum
 abbrev pub addend : Cell → ℤ

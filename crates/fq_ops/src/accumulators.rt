@@ -1,11 +1,12 @@
 // The running values of an aggregate, one for each group.
-ghost use Rattle.std.specs.Prelude.{◌≡◌, ◌+◌, ◌-◌, ◌<◌, ◌≤◌, ◌^◌, ℕ, [], All, is_some, length, IfOk, OnOk};
+ghost use Rattle.std.specs.Prelude.{◌≡◌, ◌+◌, ◌-◌, ◌<◌, ◌≤◌, ◌^◌, ℕ, [], All, is_some, length, map, IfOk, OnOk};
 ghost use Rattle.fq_column.specs.Lists.{numbers};
-ghost use Rattle.fq_ops.specs.Accumulated.{IsAccumulator, accumulated, padded, stepped_along, value_in, value_pick};
+ghost use Rattle.fq_ops.specs.Accumulated.{IsAccumulator, accumulated, function_in, grown_and_stepped, padded, running_in, running_pick, stepped_along, value_in, value_pick};
 ghost use Rattle.fq_ops.specs.Picks.{column_of};
 ghost use Rattle.fq_ops.specs.Running.{IsBoundedBy, start_of};
 
-use crate::running::{Function, Running};
+use crate::running::{Function, State};
+use crate::states::{Count, Distinct, First, Greatest, Last, Least, RowCount, Sum};
 use fq_column::{Batch, Cell, Column, Kind, Memory};
 use std::alloc::Global;
 use std::marker::Model;
@@ -13,17 +14,29 @@ use std::marker::Model;
 /// An aggregate function of a column, and its running value in each group.
 #[derive(Drop)]
 pub struct Accumulator {
-    function: Function,
     column: usize,
-    states: Vec<Running>,
+    states: States,
 }
 
 impl Model for Accumulator {
-    ghost use Rattle.fq_ops.specs.Accumulated.{Accumulated};
+    ghost use Rattle.fq_ops.specs.Accumulated.{Accumulated, function_in, running_in};
 
     ghost Value = { Accumulated };
 
-    ghost view = { λ a. record { function = a.function; column = a.column; states = a.states.items } };
+    ghost view = { λ a. record { function = function_in a.states; column = a.column; states = running_in a.states } };
+}
+
+/// The running values of one aggregate function, one for each group.
+#[derive(Drop)]
+pub enum States {
+    Sum(Vec<Sum>),
+    Min(Vec<Least>),
+    Max(Vec<Greatest>),
+    Count(Vec<Count>),
+    Len(Vec<RowCount>),
+    First(Vec<First>),
+    Last(Vec<Last>),
+    NUnique(Vec<Distinct>),
 }
 
 impl Accumulator {
@@ -32,9 +45,8 @@ impl Accumulator {
         ensures { result ≡ record { function = function; column = column; states = [] } }
     {
         Accumulator {
-            function,
             column,
-            states: Vec::new(alloc),
+            states: States::new(alloc, function),
         }
     }
 
@@ -57,8 +69,7 @@ impl Accumulator {
             IsAccumulator (length batch.now.fields) groups (n + length numbers.now) self.new) }
     {
         let column = batch.column(self.column);
-        grow(&mut self.states, self.function, groups)?;
-        step_all(alloc, &mut self.states, column, numbers)
+        self.states.take(alloc, column, numbers, groups)
     }
 
     /// Whether the value of a group fits 64 bits, which only a sum may not.
@@ -66,7 +77,10 @@ impl Accumulator {
         requires { group < length self.now.states }
         ensures { result ≡ is_some (value_in group self.now) }
     {
-        self.states[group].fits()
+        match &self.states {
+            States::Sum(sums) => sums[group].fits(),
+            _ => true,
+        }
     }
 
     /// The column of the groups' values, with null where a value does not fit 64 bits or is of another kind.
@@ -74,40 +88,114 @@ impl Accumulator {
         requires { All (IsBoundedBy (2 ^ 40)) self.now.states }
         ensures { IfOk result (λ column. column ≡ column_of (numbers (length self.now.states)) (value_pick kind self.now)) }
     {
-        let mut column = Column::with_capacity(alloc, kind, self.states.len())?;
-        for group in 0..self.states.len() {
-            self.states[group].push_to(&mut column)?;
+        match &self.states {
+            States::Sum(states) => gather(alloc, kind, states),
+            States::Min(states) => gather(alloc, kind, states),
+            States::Max(states) => gather(alloc, kind, states),
+            States::Count(states) => gather(alloc, kind, states),
+            States::Len(states) => gather(alloc, kind, states),
+            States::First(states) => gather(alloc, kind, states),
+            States::Last(states) => gather(alloc, kind, states),
+            States::NUnique(states) => gather(alloc, kind, states),
         }
-        Ok(column)
     }
 }
 
+impl States {
+    // No group yet; takes no memory.
+    fn new(alloc: Global, function: Function) -> States
+        ensures function { function_in result ≡ function }
+        ensures states { running_in result ≡ [] }
+    {
+        match function {
+            Function::Sum => States::Sum(Vec::new(alloc)),
+            Function::Min => States::Min(Vec::new(alloc)),
+            Function::Max => States::Max(Vec::new(alloc)),
+            Function::Count => States::Count(Vec::new(alloc)),
+            Function::Len => States::Len(Vec::new(alloc)),
+            Function::First => States::First(Vec::new(alloc)),
+            Function::Last => States::Last(Vec::new(alloc)),
+            Function::NUnique => States::NUnique(Vec::new(alloc)),
+        }
+    }
+
+    // Takes the cells of a column, each in the group of its row's number, of so many groups in all.
+    fn take(
+        &mut self,
+        alloc: Global,
+        column: &Column,
+        numbers: &[usize],
+        groups: usize,
+    ) -> Result<(), Memory>
+        requires beside { length numbers.now ≡ length column.now.cells }
+        requires within { All (λ n. n < groups) numbers.now }
+        requires groups { length (running_in self.old) ≤ groups }
+        requires few { length numbers.now ≤ 2 ^ 40 }
+        requires bounded { All (IsBoundedBy (2 ^ 40 - length numbers.now)) (running_in self.old) }
+        ensures function { OnOk result (function_in self.new ≡ function_in self.old) }
+        ensures taken { OnOk result (running_in self.new ≡ grown_and_stepped groups numbers.now column.now.cells (function_in self.old) (running_in self.old)) }
+        ensures bounded { OnOk result ((n : ℕ) → All (IsBoundedBy n) (running_in self.old) → All (IsBoundedBy (n + length numbers.now)) (running_in self.new)) }
+    {
+        match self {
+            States::Sum(states) => take(alloc, states, column, numbers, groups),
+            States::Min(states) => take(alloc, states, column, numbers, groups),
+            States::Max(states) => take(alloc, states, column, numbers, groups),
+            States::Count(states) => take(alloc, states, column, numbers, groups),
+            States::Len(states) => take(alloc, states, column, numbers, groups),
+            States::First(states) => take(alloc, states, column, numbers, groups),
+            States::Last(states) => take(alloc, states, column, numbers, groups),
+            States::NUnique(states) => take(alloc, states, column, numbers, groups),
+        }
+    }
+}
+
+// Takes the cells of a column, each in the group of its row's number, of so many groups in all.
+fn take<S: State>(
+    alloc: Global,
+    states: &mut Vec<S>,
+    column: &Column,
+    numbers: &[usize],
+    groups: usize,
+) -> Result<(), Memory>
+    requires beside { length numbers.now ≡ length column.now.cells }
+    requires within { All (λ n. n < groups) numbers.now }
+    requires groups { length states.old.items ≤ groups }
+    requires few { length numbers.now ≤ 2 ^ 40 }
+    requires bounded { All (IsBoundedBy (2 ^ 40 - length numbers.now)) (map S.running states.old.items) }
+    ensures taken { OnOk result (map S.running states.new.items ≡ grown_and_stepped groups numbers.now column.now.cells S.function (map S.running states.old.items)) }
+    ensures bounded { OnOk result ((n : ℕ) → All (IsBoundedBy n) (map S.running states.old.items) → All (IsBoundedBy (n + length numbers.now)) (map S.running states.new.items)) }
+{
+    grow(alloc, states, groups)?;
+    step_all(alloc, states, column, numbers)
+}
+
 // Adds the running values of new groups.
-fn grow(states: &mut Vec<Running>, function: Function, groups: usize) -> Result<(), Memory>
+fn grow<S: State>(alloc: Global, states: &mut Vec<S>, groups: usize) -> Result<(), Memory>
     requires { length states.old.items ≤ groups }
-    ensures grown { OnOk result (states.new.items ≡ padded groups (start_of function) states.old.items) }
-    ensures bounded { OnOk result ((n : ℕ) → All (IsBoundedBy n) states.old.items → All (IsBoundedBy n) states.new.items) }
+    ensures grown { OnOk result (map S.running states.new.items ≡ padded groups (start_of S.function) (map S.running states.old.items)) }
+    ensures size { OnOk result (length states.new.items ≡ groups) }
+    ensures bounded { OnOk result ((n : ℕ) → All (IsBoundedBy n) (map S.running states.old.items) → All (IsBoundedBy n) (map S.running states.new.items)) }
 {
     states.reserve(groups - states.len())?;
     for _ in states.len()..groups {
-        states.push(Running::start(function))?;
+        states.push(S::start(alloc))?;
     }
     Ok(())
 }
 
 // Takes the cells of a column, each in the group of its row's number.
-fn step_all(
+fn step_all<S: State>(
     alloc: Global,
-    states: &mut Vec<Running>,
+    states: &mut Vec<S>,
     column: &Column,
     numbers: &[usize],
 ) -> Result<(), Memory>
     requires beside { length numbers.now ≡ length column.now.cells }
     requires within { All (λ n. n < length states.old.items) numbers.now }
     requires few { length numbers.now ≤ 2 ^ 40 }
-    requires bounded { All (IsBoundedBy (2 ^ 40 - length numbers.now)) states.old.items }
-    ensures stepped { OnOk result (states.new.items ≡ stepped_along states.old.items numbers.now column.now.cells) }
-    ensures bounded { OnOk result ((n : ℕ) → All (IsBoundedBy n) states.old.items → All (IsBoundedBy (n + length numbers.now)) states.new.items) }
+    requires bounded { All (IsBoundedBy (2 ^ 40 - length numbers.now)) (map S.running states.old.items) }
+    ensures stepped { OnOk result (map S.running states.new.items ≡ stepped_along (map S.running states.old.items) numbers.now column.now.cells) }
+    ensures bounded { OnOk result ((n : ℕ) → All (IsBoundedBy n) (map S.running states.old.items) → All (IsBoundedBy (n + length numbers.now)) (map S.running states.new.items)) }
 {
     let mut scratch = Cell::Null;
     for row in 0..numbers.len() {
@@ -115,4 +203,16 @@ fn step_all(
         state.step(alloc, column, row, &mut scratch)?;
     }
     Ok(())
+}
+
+// The column of the groups' values, with null where a value does not fit 64 bits or is of another kind.
+fn gather<S: State>(alloc: Global, kind: Kind, states: &Vec<S>) -> Result<Column, Memory>
+    requires { All (IsBoundedBy (2 ^ 40)) (map S.running states.now.items) }
+    ensures { IfOk result (λ column. column ≡ column_of (numbers (length states.now.items)) (running_pick kind (map S.running states.now.items))) }
+{
+    let mut column = Column::with_capacity(alloc, kind, states.len())?;
+    for group in 0..states.len() {
+        states[group].push_to(&mut column)?;
+    }
+    Ok(column)
 }

@@ -1,5 +1,5 @@
 // Groups of rows over batches that come one after another.
-ghost use Rattle.std.specs.Prelude.{◌≡◌, ◌+◌, ◌-◌, ◌<◌, ◌≤◌, ◌^◌, ◌++◌, ◌⊎◌, ℕ, List, [], ◌∷◌, All, true, false, length, map, string_bytes, Ok, Err, IfOk, IfErr, IfSome, IsOk, OnOk, OnErr};
+ghost use Rattle.std.specs.Prelude.{◌≡◌, ◌+◌, ◌-◌, ◌<◌, ◌≤◌, ◌^◌, ◌++◌, ℕ, List, [], All, true, false, length, map, string_bytes, Ok, Err, IfOk, IfErr, IfSome, IsOk, OnOk, OnErr};
 ghost use Rattle.indexmap.specs.IndexSet.{insert_all};
 ghost use Rattle.fq_column.specs.Frame.{IsFrame, Name, Row, kinds_of};
 ghost use Rattle.fq_column.specs.Lists.{numbers};

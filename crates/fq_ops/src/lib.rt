@@ -16,6 +16,7 @@ mod pairs;
 mod rolls;
 mod running;
 mod schemas;
+mod states;
 mod sums;
 
 pub use aggregates::{Agg, What};

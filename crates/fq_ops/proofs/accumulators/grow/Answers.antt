@@ -1,17 +1,24 @@
-use Rattle.std.proofs.Common.{◌∷◌, [], ◌++◌, length, subst, sym, ap, ◌∙◌, arith}
+use Rattle.std.proofs.Common.{◌∷◌, [], ◌++◌, ◌+◌, ◌-◌, length, map, replicate, subst, sym, ap, ◌∙◌, arith}
 use Rattle.std.specs.Prelude.{All}
-use Rattle.std.proofs.lemmas.List.{length-append}
+use Rattle.std.proofs.lemmas.List.{length-append, length-map, map-append}
 use Rattle.fq_ops.specs.Running.{IsBoundedBy, start_of}
 use Rattle.fq_ops.proofs.AccumulatorLemmas.{all-push, padded-more, start-bounded}
 use Rattle.fq_ops.proofs.accumulators.grow.Goals as goal
 
 pub loop-preserved : goal.loop-preserved
-loop-preserved c =
-    let old = c.args.states.now.items in
-    let xs = c.loop.states.items in
-    let pushed = c.in_ok-push.ensures.items ∙ ap (λ r. xs ++ r ∷ []) c.start.ensures in
+loop-preserved g c =
+    let run = g.S.State.running in
+    let old = map run c.args.states.now.items in
+    let xs = map run c.loop.states.items in
+    let start = start_of g.S.State.function in
+    let n = c.loop.counter in
+    let size = length-map c.args.states.now.items run in
+    let pushed = ap (map run) c.in_ok-push.ensures.items ∙ map-append run c.loop.states.items (c.start.result ∷ []) ∙ ap (λ r. xs ++ r ∷ []) c.start.ensures in
     record {
-      items = pushed ∙ ap (λ l. l ++ start_of c.args.function ∷ []) c.loop.invariant.items ∙ sym (padded-more old c.loop.counter (start_of c.args.function) (omega arith));
-      size = ap length pushed ∙ length-append xs (start_of c.args.function ∷ []) ∙ omega (arith, c.loop.invariant.size);
-      bounded = λ n h. subst (All (IsBoundedBy n)) (sym pushed) (all-push (IsBoundedBy n) xs (start_of c.args.function) (c.loop.invariant.bounded n h) (start-bounded n c.args.function));
+      items = pushed ∙ ap (λ l. l ++ start ∷ []) c.loop.invariant.items
+          ∙ ap (λ k. (old ++ replicate (n - k) start) ++ start ∷ []) (sym size)
+          ∙ sym (padded-more old n start (omega (arith, size)))
+          ∙ ap (λ k. old ++ replicate (n + 1 - k) start) size;
+      size = ap length c.in_ok-push.ensures.items ∙ length-append c.loop.states.items (c.start.result ∷ []) ∙ omega (arith, c.loop.invariant.size);
+      bounded = λ k h. subst (All (IsBoundedBy k)) (sym pushed) (all-push (IsBoundedBy k) xs start (c.loop.invariant.bounded k h) (start-bounded k g.S.State.function));
     }

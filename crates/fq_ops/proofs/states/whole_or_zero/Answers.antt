@@ -4,7 +4,7 @@ use Rattle.fq_column.specs.Column.{Cells, cells_of}
 use Rattle.fq_column.specs.Frame.{value_at}
 use Rattle.fq_ops.specs.Running.{addend}
 use Rattle.fq_ops.proofs.RunningLemmas.{addend-other}
-use Rattle.fq_ops.proofs.running.whole_or_zero.Goals as goal
+use Rattle.fq_ops.proofs.states.whole_or_zero.Goals as goal
 
 pub returns-in-Text : goal.returns-in-Text
 returns-in-Text c =
