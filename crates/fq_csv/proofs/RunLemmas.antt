@@ -8,7 +8,7 @@ use Rattle.std.proofs.Math.Nat.{mul-le-mul_left, eq-or-lt_of_le}
 use Rattle.fq_column.specs.Frame.{Fields, Row}
 use Rattle.fq_column.specs.Lists.{pieces}
 use Rattle.fq_column.specs.Stream.{Stream}
-use Rattle.fq_csv.specs.Run.{Follows, IsRun, answers, answers_from, frame_with}
+use Rattle.fq_csv.specs.Run.{Follows, IsRun, answers, answers_from, framed}
 use Rattle.fq_csv.specs.Scan.{IsFailed, IsLastWord, IsNextBatch, Scanning}
 use Rattle.fq_csv.specs.Stage.{ended, without}
 use Rattle.fq_csv.specs.declared.faults.ScanFault.{ScanFault}
@@ -64,12 +64,12 @@ module _ {X : Type 0} where
 
 module _ (file size : ℕ) (fields : Fields) where
   pub answers-next : (serial : ℕ) (u : Stream ScanFault) → 0 < size → 0 < length u.rows
-      → answers file fields size serial u ≡ Batch file serial (frame_with fields (take size u.rows)) ∷ answers file fields size (serial + 1) (without size u)
+      → answers file fields size serial u ≡ Batch file serial (framed fields (take size u.rows)) ∷ answers file fields size (serial + 1) (without size u)
   answers-next serial u hs hu =
       let more = pieces-more size u.rows hs hu in
       let rest = pieces size (drop size u.rows) in
       ap (λ ps. answers_from file fields serial ps (End file (serial + length ps) u.fault)) more
-      ∙ ap (λ n. Batch file serial (frame_with fields (take size u.rows)) ∷ answers_from file fields (serial + 1) rest (End file n u.fault)) (let e : serial + suc (length rest) ≡ serial + 1 + length rest = omega arith in e)
+      ∙ ap (λ n. Batch file serial (framed fields (take size u.rows)) ∷ answers_from file fields (serial + 1) rest (End file n u.fault)) (let e : serial + suc (length rest) ≡ serial + 1 + length rest = omega arith in e)
 
   pub answers-last : (serial : ℕ) (fault : Option ScanFault) → answers file fields size serial (ended fault) ≡ End file serial fault ∷ []
   answers-last serial fault =
@@ -95,9 +95,9 @@ run-follows (Batch number serial batch ∷ xs) old new u hs e r =
     let out : (batch.rows ≡ take old.batch_size u.rows) × (mid.upcoming ≡ Some (without old.batch_size u)) = r.2 u e in
     let some : 0 < length u.rows = omega (arith, form.some, ap length out.0, length-take old.batch_size u.rows) in
     let step = answers-next old.file old.batch_size old.fields old.serial u hs some in
-    let same : batch ≡ frame_with old.fields (take old.batch_size u.rows) = λ i. record { fields = form.schema i; rows = out.0 i } in
-    let first : ◌≡◌ {A = Scan} (Batch old.file old.serial (frame_with old.fields (take old.batch_size u.rows))) (Batch number serial batch) =
-    ap (λ f. Batch f old.serial (frame_with old.fields (take old.batch_size u.rows))) (sym form.number) ∙ ap (λ n. Batch number n (frame_with old.fields (take old.batch_size u.rows))) (sym form.in_order) ∙ ap (Batch number serial) (sym same) in
+    let same : batch ≡ framed old.fields (take old.batch_size u.rows) = λ i. record { fields = form.schema i; rows = out.0 i } in
+    let first : ◌≡◌ {A = Scan} (Batch old.file old.serial (framed old.fields (take old.batch_size u.rows))) (Batch number serial batch) =
+    ap (λ f. Batch f old.serial (framed old.fields (take old.batch_size u.rows))) (sym form.number) ∙ ap (λ n. Batch number n (framed old.fields (take old.batch_size u.rows))) (sym form.in_order) ∙ ap (Batch number serial) (sym same) in
     let more = run-follows xs mid new (without old.batch_size u) (omega (arith, hs, form.same.size)) out.1 r.3 in
     let rest = moved mid.file old.file mid.batch_size mid.serial (old.serial + 1) mid.fields old.fields old.batch_size (without old.batch_size u) xs form.same.file form.same.schema form.same.size form.counted more in
     subst (λ (ys : List Scan). Follows old.file ys (Batch number serial batch ∷ xs)) (sym step) (first, rest)

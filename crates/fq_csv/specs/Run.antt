@@ -8,13 +8,13 @@ use Rattle.fq_csv.specs.declared.faults.ScanFault.{ScanFault}
 use Rattle.fq_csv.specs.declared.scans.Scan.{Scan}
 use Rattle.fq_csv.specs.declared.scans.Scan.TheVariants.{Batch, End}
 
-abbrev pub frame_with : Fields → List Row → Frame
-frame_with fields rows = record { fields = fields; rows = rows }
+abbrev pub framed : Fields → List Row → Frame
+framed fields rows = record { fields = fields; rows = rows }
 
 -- runs of rows as batches, with serials from this one on, and then the end with their number
 abbrev pub answers_from : ℕ → Fields → ℕ → List (List Row) → Scan → List Scan
 answers_from file fields serial [] end = end ∷ []
-answers_from file fields serial (rows ∷ more) end = Batch file serial (frame_with fields rows) ∷ answers_from file fields (serial + 1) more end
+answers_from file fields serial (rows ∷ more) end = Batch file serial (framed fields rows) ∷ answers_from file fields (serial + 1) more end
 
 -- the rows of a stream in runs of `size`, and then its end
 abbrev pub answers : ℕ → Fields → ℕ → ℕ → Stream ScanFault → List Scan

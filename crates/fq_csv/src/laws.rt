@@ -2,7 +2,7 @@
 ghost use Rattle.std.specs.Prelude.{◌≡◌, ◌+◌, ◌<◌, ◌∷◌, [], ℕ, List, Option, Some, length, take};
 ghost use Rattle.fq_column.specs.Frame.{Fields};
 ghost use Rattle.fq_column.specs.Stream.{Stream};
-ghost use Rattle.fq_csv.specs.Run.{Follows, IsRun, answers, frame_with};
+ghost use Rattle.fq_csv.specs.Run.{Follows, IsRun, answers, framed};
 ghost use Rattle.fq_csv.specs.Scan.{Scanning};
 ghost use Rattle.fq_csv.specs.Stage.{ended, without};
 ghost use Rattle.fq_csv.specs.declared.faults.ScanFault.{ScanFault};
@@ -13,7 +13,7 @@ ghost use Rattle.fq_csv.specs.declared.scans.Scan.TheVariants.{Batch, End};
 /// number and the stream's end; where a read fails or memory is refused, it is the first of these.
 pub fn scan_laws()
     ensures next { (file size serial : ℕ) (fields : Fields) (u : Stream ScanFault) → 0 < size → 0 < length u.rows
-        → answers file fields size serial u ≡ Batch file serial (frame_with fields (take size u.rows)) ∷ answers file fields size (serial + 1) (without size u) }
+        → answers file fields size serial u ≡ Batch file serial (framed fields (take size u.rows)) ∷ answers file fields size (serial + 1) (without size u) }
     ensures last { (file size serial : ℕ) (fields : Fields) (fault : Option ScanFault)
         → answers file fields size serial (ended fault) ≡ End file serial fault ∷ [] }
     ensures run { (old new : Scanning) (handed_out : List Answer) (u : Stream ScanFault) → 0 < old.batch_size → old.upcoming ≡ Some u → IsRun old handed_out new

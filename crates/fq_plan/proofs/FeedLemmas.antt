@@ -3,7 +3,7 @@ use Rattle.std.proofs.Common.{◌≡◌, ◌≢◌, ◌<◌, inl, inr, ℕ, Bool
 use Rattle.std.proofs.lemmas.Option.{none-some, same_Some}
 use Rattle.fq_column.specs.Frame.{Fields, Frame, Row}
 use Rattle.fq_column.specs.Stream.{Stream}
-use Rattle.fq_csv.specs.Run.{frame_with}
+use Rattle.fq_csv.specs.Run.{framed}
 use Rattle.fq_csv.specs.Scan.{HandsOut, IsFailed, IsNextBatch, Scanning}
 use Rattle.fq_csv.specs.Stage.{ended, without}
 use Rattle.fq_csv.specs.declared.faults.ScanFault.{ScanFault}
@@ -16,11 +16,11 @@ use Rattle.fq_plan.specs.declared.feeds.Scanned.TheVariants.{Batch, Ended}
 
 -- a batch is the first item, and the rest comes
 scanned_items-next : (fields : Fields) (size : ℕ) (u : Stream ScanFault) → 0 < size → 0 < length u.rows
-    → scanned_items fields size u ≡ Batch (frame_with fields (take size u.rows)) ∷ scanned_items fields size (without size u)
-scanned_items-next fields size u hs hu = ap (λ ps. map (λ rows. Batch (frame_with fields rows)) ps ++ end_item u.fault) (pieces-more size u.rows hs hu)
+    → scanned_items fields size u ≡ Batch (framed fields (take size u.rows)) ∷ scanned_items fields size (without size u)
+scanned_items-next fields size u hs hu = ap (λ ps. map (λ rows. Batch (framed fields rows)) ps ++ end_item u.fault) (pieces-more size u.rows hs hu)
 
 scanned_items-ended : (fields : Fields) (size : ℕ) (fault : Option ScanFault) → scanned_items fields size (ended fault) ≡ end_item fault
-scanned_items-ended fields size fault = ap (λ ps. map (λ rows. Batch (frame_with fields rows)) ps ++ end_item fault) (pieces-none {X = Row} size)
+scanned_items-ended fields size fault = ap (λ ps. map (λ rows. Batch (framed fields rows)) ps ++ end_item fault) (pieces-none {X = Row} size)
 
 -- what comes of a scan whose fault was not given, where its stream is known
 comes : (s : Scanning) (over : Bool) (f : Feeding) (known : List Scanned) → f ≡ feeding_of s over → over ≡ false → f.items ≡ Some known
@@ -46,9 +46,9 @@ next-batch old new over f file serial batch xs v n form out h known e =
     let size : 0 < old.batch_size = omega (arith, form.some, form.fits) in
     let rest : xs ≡ scanned_items new.fields new.batch_size (without old.batch_size u) =
     h _ (ap (λ over. (feeding_of new over).items) n ∙ ap (option_map (scanned_items new.fields new.batch_size)) o.1) in
-    let same : batch ≡ frame_with old.fields (take old.batch_size u.rows) = λ i. record { fields = form.schema i; rows = o.0 i } in
+    let same : batch ≡ framed old.fields (take old.batch_size u.rows) = λ i. record { fields = form.schema i; rows = o.0 i } in
     ap (λ b. Batch b ∷ xs) same
-    ∙ ap (λ ys. Batch (frame_with old.fields (take old.batch_size u.rows)) ∷ ys)
+    ∙ ap (λ ys. Batch (framed old.fields (take old.batch_size u.rows)) ∷ ys)
     (rest ∙ ap (λ fields. scanned_items fields new.batch_size (without old.batch_size u)) form.same.schema ∙ ap (λ size. scanned_items old.fields size (without old.batch_size u)) form.same.size)
     ∙ sym (scanned_items-next old.fields old.batch_size u size some)
     ∙ told.2

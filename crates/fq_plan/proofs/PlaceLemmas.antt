@@ -5,7 +5,7 @@ use Rattle.std.proofs.lemmas.Bool.Decides.{nat_tests}
 use Rattle.std.proofs.lemmas.List.{length-replicate, map-append}
 use Rattle.std.proofs.lemmas.List.Sums.{sum_by-append, sum_by-cons}
 use Rattle.fq_column.specs.Frame.{Fields, Frame, Row}
-use Rattle.fq_csv.specs.Run.{frame_with}
+use Rattle.fq_csv.specs.Run.{framed}
 use Rattle.fq_plan.specs.Plan.{Source, Query, but_last, last_or, file_fields, files_wanted, join_files, main_fields}
 use Rattle.fq_plan.specs.Rounds.{front_fields, leading_steps, main_files, no_rows, nothing_taken}
 use Rattle.fq_plan.specs.Working.{stepped, untouched, work_on}
@@ -126,7 +126,7 @@ module _ (p : Query) (main : Source) (has : HasMain p main) where
       go false q = absurd (cc q)
 
   fit-at : (i : ℕ) (fields : Fields) → slice_get (file_fields p) i ≡ Some fields → (rows : List Row) →
-      Fits (work_on (leading_steps p) (join_files p) i (Batch (frame_with fields rows))) (fields_at i (map head_of (nothing_taken p)))
+      Fits (work_on (leading_steps p) (join_files p) i (Batch (framed fields rows))) (fields_at i (map head_of (nothing_taken p)))
   fit-at i fields e rows = go (nat_lt i (join_files p)) refl
     where
       own : List Head
@@ -136,7 +136,7 @@ module _ (p : Query) (main : Source) (has : HasMain p main) where
       here = heads-nothing (but_last p.sources) (no_rows (main_files p) (front_fields p) ∷ [])
 
       batch : Frame
-      batch = frame_with fields rows
+      batch = framed fields rows
 
       worked_as : Bool → Bool → Worked
       worked_as join same = Piece (cond join (untouched batch) (cond same (stepped (leading_steps p) batch) (untouched batch)))

@@ -8,7 +8,7 @@ use Rattle.fq_column.specs.Schema.{same_fields}
 use Rattle.fq_column.specs.SchemaLaws.{same_fields_decides}
 use Rattle.fq_column.specs.Stream.{Stream, done, faulted, rename_fault}
 use Rattle.fq_csv.specs.File.{file_stream}
-use Rattle.fq_csv.specs.Run.{frame_with}
+use Rattle.fq_csv.specs.Run.{framed}
 use Rattle.fq_csv.specs.declared.faults.ScanFault.{ScanFault}
 use Rattle.fq_expr.specs.Expression.{Step}
 use Rattle.fq_expr.specs.Front.{NumberedSteps, fault_at}
@@ -86,8 +86,8 @@ module _ (front : NumberedSteps) (joins : ℕ) where
   streams-append (e ∷ es) fs = ap (λ (ts : List Taken). (e.0, worked_stream (work_on front joins e.0 e.2)) ∷ ts) (streams-append es fs)
 
   -- the items of a file fit, where its batches do
-  fits-file : (hs : List Head) (fields : Fields) (k s : ℕ) (ps : List (List Row)) (end : Option ScanFault) → ((rows : List Row) → Fits (work_on front joins k (Batch (frame_with fields rows))) (fields_at k hs))
-      → AllFit hs (answers_to (numbered_file k s (map (λ rows. Batch (frame_with fields rows)) ps ++ end_item end)))
+  fits-file : (hs : List Head) (fields : Fields) (k s : ℕ) (ps : List (List Row)) (end : Option ScanFault) → ((rows : List Row) → Fits (work_on front joins k (Batch (framed fields rows))) (fields_at k hs))
+      → AllFit hs (answers_to (numbered_file k s (map (λ rows. Batch (framed fields rows)) ps ++ end_item end)))
   fits-file hs fields k s [] None h = tt
   fits-file hs fields k s [] (Some f) h = (tt, tt)
   fits-file hs fields k s (p ∷ ps) end h = (h p, fits-file hs fields k (suc s) ps end h)
@@ -99,7 +99,7 @@ module _ (front : NumberedSteps) (joins : ℕ) where
   -- so for each file, numbered from this one on
   abbrev pub FilesFit : List Head → ℕ → List Fields → Type 0
   FilesFit hs k [] = Unit {0}
-  FilesFit hs k (fields ∷ fss) = ((rows : List Row) → Fits (work_on front joins k (Batch (frame_with fields rows))) (fields_at k hs)) × FilesFit hs (suc k) fss
+  FilesFit hs k (fields ∷ fss) = ((rows : List Row) → Fits (work_on front joins k (Batch (framed fields rows))) (fields_at k hs)) × FilesFit hs (suc k) fss
 
   pub fit-files : (hs : List Head) (b k : ℕ) (fss : List Fields) (us : List (Stream ScanFault)) → FilesFit hs k fss
       → AllFit hs (answers_to (numbered k (zip_with (λ fields u. scanned_items fields b u) fss us)))
@@ -125,18 +125,18 @@ module _ (p : Query) where
   by-place k (Ended f ∷ xs) = ap (λ us. faulted (scan_fault f) ∷ us) (by-place k xs)
   by-place k (Batch b ∷ xs) = ap (λ us. worked_by (nat_lt k (join_files p)) (Batch b) ∷ us) (by-place k xs)
 
-  join-items : (fields : Fields) (ps : List (List Row)) (end : Option ScanFault) → map (worked_by true) (map (λ rows. Batch (frame_with fields rows)) ps ++ end_item end) ≡ map done ps ++ last_item (option_map scan_fault end)
+  join-items : (fields : Fields) (ps : List (List Row)) (end : Option ScanFault) → map (worked_by true) (map (λ rows. Batch (framed fields rows)) ps ++ end_item end) ≡ map done ps ++ last_item (option_map scan_fault end)
   join-items fields [] None = refl
   join-items fields [] (Some f) = refl
   join-items fields (rows ∷ ps) end = ap (λ us. done rows ∷ us) (join-items fields ps end)
 
   main-items : (fields : Fields) (ps : List (List Row)) (end : Option ScanFault) → fields ≡ main_fields p →
-      map (worked_by false) (map (λ rows. Batch (frame_with fields rows)) ps ++ end_item end) ≡ map (apply_steps Overflow 0 (main_fields p) (front_of p.steps)) (map done ps ++ last_item (option_map scan_fault end))
+      map (worked_by false) (map (λ rows. Batch (framed fields rows)) ps ++ end_item end) ≡ map (apply_steps Overflow 0 (main_fields p) (front_of p.steps)) (map done ps ++ last_item (option_map scan_fault end))
   main-items fields [] None e = refl
   main-items fields [] (Some f) e = ap (λ u. u ∷ []) (sym (faulted-steps 0 (main_fields p) (front_of p.steps) (scan_fault f)))
   main-items fields (rows ∷ ps) end e =
-      let batch : Frame = frame_with fields rows in
-      let rest : List (Stream Fault) = map (worked_by false) (map (λ rows. Batch (frame_with fields rows)) ps ++ end_item end) in
+      let batch : Frame = framed fields rows in
+      let rest : List (Stream Fault) = map (worked_by false) (map (λ rows. Batch (framed fields rows)) ps ++ end_item end) in
       ap (λ b. piece_stream (cond b (stepped (leading_steps p) batch) (untouched batch)) ∷ rest) ((same_fields_decides fields (main_fields p)).1 e)
       ∙ ap (λ u. u ∷ rest) (rename_fault-apply_steps fault_at row_fault 0 (main_fields p) (front_of p.steps) (done rows))
       ∙ ap (λ us. apply_steps Overflow 0 (main_fields p) (front_of p.steps) (done rows) ∷ us) (main-items fields ps end e)
@@ -180,9 +180,9 @@ file-numbers k s (x ∷ xs) =
 
 done-length : (fields : Fields) (b : ℕ) (u : Stream ScanFault) → u.fault ≡ None → length (scanned_items fields b u) ≡ length (pieces b u.rows)
 done-length fields b u e =
-    ap (λ end. length (map (λ rows. Batch (frame_with fields rows)) (pieces b u.rows) ++ end_item end)) e
-    ∙ ap length (append-nil (map (λ rows. Batch (frame_with fields rows)) (pieces b u.rows)))
-    ∙ length-map (pieces b u.rows) (λ rows. Batch (frame_with fields rows))
+    ap (λ end. length (map (λ rows. Batch (framed fields rows)) (pieces b u.rows) ++ end_item end)) e
+    ∙ ap length (append-nil (map (λ rows. Batch (framed fields rows)) (pieces b u.rows)))
+    ∙ length-map (pieces b u.rows) (λ rows. Batch (framed fields rows))
 
 pub files-numbers : (b k : ℕ) (fss : List Fields) (us : List (Stream ScanFault)) → length fss ≡ length us → AllDone us →
     numbers (numbered k (zip_with (λ fields u. scanned_items fields b u) fss us))

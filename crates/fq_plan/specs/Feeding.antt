@@ -4,7 +4,7 @@ use Rattle.std.proofs.lemmas.Option.{none-some, same_Some}
 use Rattle.fq_column.specs.Frame.{Fields}
 use Rattle.fq_column.specs.Lists.{pieces}
 use Rattle.fq_column.specs.Stream.{Stream}
-use Rattle.fq_csv.specs.Run.{frame_with}
+use Rattle.fq_csv.specs.Run.{framed}
 use Rattle.fq_csv.specs.Scan.{Scanning}
 use Rattle.fq_csv.specs.declared.faults.ScanFault.{ScanFault}
 use Rattle.fq_plan.specs.declared.feeds.Scanned.{Scanned}
@@ -17,7 +17,7 @@ end_item (Some fault) = Ended fault ∷ []
 
 -- the items of a stream of these columns: its rows in batches, and then its fault if it has one
 abbrev pub scanned_items : Fields → ℕ → Stream ScanFault → List Scanned
-scanned_items fields batch_size u = map (λ rows. Batch (frame_with fields rows)) (pieces batch_size u.rows) ++ end_item u.fault
+scanned_items fields batch_size u = map (λ rows. Batch (framed fields rows)) (pieces batch_size u.rows) ++ end_item u.fault
 
 -- how many items may come at most, and which do, where the reader tells its bytes and has not failed
 pub record Feeding : Type 0 where

@@ -46,12 +46,14 @@ fn command<'a>(alloc: Global) -> Result<Command<'a>, AllocError> {
         .long("batch")
         .value_name("N")
         .value_parser(value_parser!(u32).range(1..=65_536))
-        .help("Rows that are read and worked on at a time, from 1 to 65536 [default: 1024]");
+        .default_value("1024")
+        .help("Rows that are read and worked on at a time, from 1 to 65536");
     let workers = Arg::new(alloc, "workers")
         .long("workers")
         .value_name("N")
         .value_parser(value_parser!(u16).range(1..=16))
-        .help("Threads that work on batches, from 1 to 16 [default: 2]");
+        .default_value("2")
+        .help("Threads that work on batches, from 1 to 16");
     let file = Arg::new(alloc, "file")
         .value_name("FILE")
         .required(true)
