@@ -1,11 +1,11 @@
 -- Columns that are functions of the rows, and the rows that stand in them.
-use Rattle.std.proofs.Common.{◌≡◌, ℕ, zero, suc, ◌+◌, ◌<◌, ◌≤◌, Bool, true, false, cond, not, List, [], ◌∷◌, ◌++◌, length, map, drop, set, replicate, refl, ap, sym, ◌∙◌, arith, Option, Some, None}
+use Rattle.std.proofs.Common.{◌≡◌, ℕ, zero, suc, ◌+◌, ◌<◌, ◌≤◌, Bool, true, false, cond, not, List, [], ◌∷◌, length, map, drop, replicate, refl, ap, sym, ◌∙◌, arith, Option, Some, None}
 use Rattle.std.specs.Prelude.{All}
 use Rattle.std.specs.Bool.{◌==◌}
-use Rattle.std.specs.List.{zip, list_all}
+use Rattle.std.specs.List.{list_all}
 use Rattle.std.specs.Cmp.Lexicographic.{pointwise}
 use Rattle.std.proofs.Math.Seq.{drop-cons}
-use Rattle.std.proofs.lemmas.List.{length-map, length-set, length-append, map-append}
+use Rattle.std.proofs.lemmas.List.{length-map}
 use Rattle.std.proofs.lemmas.Bool.Decides.{nat_tests}
 use Rattle.std.proofs.lemmas.Bool.{and_from}
 use Rattle.fq_column.specs.declared.cells.Cell.{Cell}
@@ -15,11 +15,10 @@ use Rattle.fq_column.specs.declared.faults.BatchFault.TheVariants.{Width, Kind a
 use Rattle.fq_column.specs.Batch.{batch_fault, has_kind_of, height_of, kind_of_cells, frame_of}
 use Rattle.fq_column.specs.Cell.{same_kind}
 use Rattle.fq_column.specs.Column.{Cells}
-use Rattle.fq_column.specs.Frame.{Field, Fields, Name, Row, kinds_of, names_of, rows_of, value_at, position_of, put_named, put_all, same_name}
+use Rattle.fq_column.specs.Frame.{Field, Fields, Row, kinds_of, rows_of, value_at}
 use Rattle.fq_column.specs.Lists.{zip_with}
 use Rattle.fq_column.specs.SchemaLaws.{same_kind_decides}
 use Rattle.fq_column.proofs.BatchLemmas.{HaveHeight, height_of-is, lengths-all, column_at-rows_of, pass-lengths}
-use Rattle.fq_column.proofs.PutLemmas.{put_named-new, zip-set, zip-push}
 use Rattle.fq_expr.specs.Outputs.{cells_of_column}
 
 -- ---- the rows of columns that are functions of the rows

@@ -1,5 +1,5 @@
 // The row-wise steps of a plan, over one batch at a time.
-ghost use Rattle.std.specs.Prelude.{◌≡◌, ◌+◌, ◌≤◌, map, vec_len, IfOk, IsOk};
+ghost use Rattle.std.specs.Prelude.{◌≡◌, ◌+◌, ◌≤◌, ◌==◌, length, map, vec_len, IfOk, IsOk};
 ghost use Rattle.fq_column.specs.Stream.{done};
 ghost use Rattle.fq_expr.specs.Front.{fault_at};
 ghost use Rattle.fq_expr.specs.Kinds.{steps_schema};
@@ -83,6 +83,13 @@ impl Front {
         ensures { result.now ≡ self.now.fields }
     {
         &self.schema
+    }
+
+    /// Whether there is no step.
+    pub fn is_empty(&self) -> bool
+        ensures { result ≡ (length self.now.steps == 0) }
+    {
+        self.steps.is_empty()
     }
 
     /// The steps on the rows of a batch.

@@ -33,8 +33,8 @@ impl Checked {
     ///
     /// `inputs` are the files' readers, in argument order: those of the first source, then those of the next, and so on.
     /// Their rows are read in batches of `batch_size` rows, from 1 to 65,536, and the leading row-wise steps are done by
-    /// as many `workers`, from 1 to 16. What is written does not depend on either. The report lists the file and serial
-    /// of each batch, by file, then serial.
+    /// as many `workers`, from 1 to 16; without such steps no thread is started. What is written does not depend on
+    /// either. The report lists the file and serial of each batch, by file, then serial.
     ///
     /// The first of these faults is answered: `Inputs` for another number of readers than `Checked::inputs`, and
     /// `Setting` for a batch size or a number of workers out of range, both before any reading; `Memory` where a growth
@@ -136,6 +136,8 @@ impl Checked {
             front: &self.front,
             join_files: self.inputs - main.files,
         };
+        // without leading steps threads have nothing to do
+        let workers = if self.front.is_empty() { 1 } else { workers };
         let (tail, outcome) = run_rounds(rt, alloc, feeds, &work, Gathering { sources }, workers);
         Ok((tail, outcome?))
     }
