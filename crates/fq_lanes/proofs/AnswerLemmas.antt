@@ -2,13 +2,16 @@
 use Rattle.std.proofs.Common.{◌≡◌, ℕ, List, [], ◌∷◌, ◌++◌, length, refl, sym, subst, ap, ◌∙◌, arith, Some, None, Ok, IfOk}
 use Rattle.std.proofs.lemmas.Result.{IfOk-weaker, IfOk-at_ok}
 use Rattle.fq_lanes.specs.Due.{close_at}
-use Rattle.fq_lanes.specs.Refusals.{refusal}
+use Rattle.fq_lanes.specs.Refusals.{refusal_now, Accepted}
 use Rattle.fq_lanes.specs.Lists.{Each}
 use Rattle.fq_lanes.specs.Numbering.{item_at}
 use Rattle.fq_lanes.specs.Ledger.{times, Books, OffersWorked}
 use Rattle.fq_lanes.specs.Round.{job_numbers, answer_numbers, AreItems, Answers, AreWorked}
+use Rattle.fq_lanes.specs.Window.{AreNear}
 use Rattle.fq_lanes.proofs.EventLemmas.{or_else_none, close_at_append}
 use Rattle.fq_lanes.proofs.LedgerLemmas.{one_self, books_offer, offers_more}
+use Rattle.fq_lanes.proofs.SinkLemmas.{accepted_more}
+use Rattle.fq_lanes.proofs.WindowLemmas.{near_accepted, near_on, due_count_grows}
 use Rattle.fq_lanes.specs.declared.events.Event.{Event}
 use Rattle.fq_lanes.specs.declared.events.Event.TheVariants.{Offer}
 use Rattle.fq_lanes.specs.declared.job.Job.{Job}
@@ -36,18 +39,22 @@ module _ {X O : Type 0} where
   -- the next answer is offered
   pub answer_offer : (works : ℕ → X → O → Type 0) (items : List (List X)) (events : List (Event O)) (a : Answer O) (rest : List (Answer O)) (o : O)
       → a.outcome ≡ Ok o → Books items (λ f s. times f s (answer_numbers (a ∷ rest))) events → OffersWorked works items events → AreWorked works items (a ∷ rest)
-      → (refusal (length items) events (Offer a.file a.serial o) ≡ None)
+      → Accepted (length items) events → AreNear events (length items) (answer_numbers (a ∷ rest))
+      → (refusal_now (length items) events (Offer a.file a.serial o) ≡ None)
       × Books items (λ f s. times f s (answer_numbers rest)) (events ++ Offer a.file a.serial o ∷ [])
       × OffersWorked works items (events ++ Offer a.file a.serial o ∷ [])
       × ((f : ℕ) → close_at (events ++ Offer a.file a.serial o ∷ []) f ≡ close_at events f)
       × AreWorked works items rest
-  answer_offer works items events a rest o is books offers works_all =
+      × AreNear (events ++ Offer a.file a.serial o ∷ []) (length items) (answer_numbers rest)
+  answer_offer works items events a rest o is books offers works_all accepted near =
       let one = one_self a.file a.serial in
       let all = books_offer items (λ f s. times f s (answer_numbers (a ∷ rest))) (λ f s. times f s (answer_numbers rest)) events a.file a.serial o books (omega (arith, one)) (λ g r. omega arith) in
       let work = IfOk-at_ok (λ o. (x : X) × (item_at items a.file a.serial ≡ Some x) × works a.file x o) is works_all.0 in (
-        all.0,
+        near_accepted (length items) events a.file a.serial o all.0 near.0,
         all.1,
         offers_more works items events a.file a.serial work.0 o offers work.1 work.2,
         (λ f. close_at_append events (Offer a.file a.serial o ∷ []) f ∙ or_else_none (close_at events f)),
         works_all.1,
+        near_on (length items) events (events ++ Offer a.file a.serial o ∷ []) (answer_numbers rest)
+            (λ f. due_count_grows (length items) events (Offer a.file a.serial o) f (accepted_more (length items) [] events (Offer a.file a.serial o) accepted all.0)) near.1,
       )

@@ -6,11 +6,11 @@ use Rattle.std.specs.Option.{is_some}
 use Rattle.std.proofs.lemmas.Bool.{eqb-true, le-leb, true≢false}
 use Rattle.std.proofs.lemmas.List.{append-nil}
 use Rattle.fq_lanes.specs.Due.{due, offer_at, close_at, Extends, ClosesHold}
-use Rattle.fq_lanes.specs.Refusals.{refusal, offer_refusal, close_refusal, offers_from, is_past, AcceptedAfter, Accepted, after, accepted_of, refused_one, refused_of, item_of, IsRefusal}
+use Rattle.fq_lanes.specs.Refusals.{refusal, offer_refusal, close_refusal, offers_from, is_past, AcceptedAfter, Accepted, after, accepted_of, refused_one, refused_of, item_of, refusal_now, refusal_at}
 use Rattle.fq_lanes.proofs.EventLemmas.{or_else, or_else_none, offer_at_append, close_at_append, none_from}
 use Rattle.fq_lanes.proofs.PrefixLemmas.{due_on}
 use Rattle.fq_lanes.specs.declared.events.Why.{Why}
-use Rattle.fq_lanes.specs.declared.events.Why.TheVariants.{Stranger, Closed, Double, Short, Memory}
+use Rattle.fq_lanes.specs.declared.events.Why.TheVariants.{Stranger, Closed, Double, Short}
 use Rattle.fq_lanes.specs.declared.events.Event.{Event}
 use Rattle.fq_lanes.specs.declared.events.Event.TheVariants.{Offer, Close}
 
@@ -31,10 +31,6 @@ first_close : (c : Option ℕ) (b : Bool) (n m : ℕ) (P : Type 0) → or_else c
 first_close None true n m P e h k = k refl (cc)
 first_close None false n m P e h k = let bad : ⊥ = cc in absurd bad
 first_close (Some q) b n m P e h k = h e
-
-pub rule_is : (rule : Option Why) (why : Why) → IsRefusal rule why → (why ≡ Memory → ⊥) → rule ≡ Some why
-rule_is None why h n = absurd (n h)
-rule_is (Some w) why h n = ap Some (sym h)
 
 module _ {T : Type 0} where
   pub extends_more : (es ds : List (Event T)) → Extends es (es ++ ds)
@@ -81,32 +77,32 @@ module _ {T : Type 0} where
 
   -- one more event of a list
   pub accepted_of_push : (files : ℕ) (before es : List (Event T)) (e : Event T)
-      → accepted_of files before (es ++ e ∷ []) ≡ after (refusal files (accepted_of files before es) e) (accepted_of files before es) e
+      → accepted_of files before (es ++ e ∷ []) ≡ after (refusal_now files (accepted_of files before es) e) (accepted_of files before es) e
   accepted_of_push files before [] e = refl
-  accepted_of_push files before (d ∷ es) e = accepted_of_push files (after (refusal files before d) before d) es e
+  accepted_of_push files before (d ∷ es) e = accepted_of_push files (after (refusal_now files before d) before d) es e
 
   pub refused_of_push : (files number : ℕ) (before es : List (Event T)) (e : Event T)
-      → refused_of files number before (es ++ e ∷ []) ≡ refused_of files number before es ++ refused_one (refusal files (accepted_of files before es) e) (number + length es) e
+      → refused_of files number before (es ++ e ∷ []) ≡ refused_of files number before es ++ refused_one (refusal_now files (accepted_of files before es) e) (number + length es) e
   refused_of_push files number before [] e =
-      let z : number ≡ number + length {A = Event T} [] = omega arith in append-nil (refused_one (refusal files before e) number e) ∙ ap (λ n. refused_one (refusal files before e) n e) z
+      let z : number ≡ number + length {A = Event T} [] = omega arith in append-nil (refused_one (refusal_now files before e) number e) ∙ ap (λ n. refused_one (refusal_now files before e) n e) z
   refused_of_push files number before (d ∷ es) e =
-      let now = after (refusal files before d) before d in
+      let now = after (refusal_now files before d) before d in
       let z : suc number + length es ≡ number + length (d ∷ es) = omega arith in
-      ap (λ l. refused_one (refusal files before d) number d ++ l) (refused_of_push files (suc number) now es e
-      ∙ ap (λ n. refused_of files (suc number) now es ++ refused_one (refusal files (accepted_of files now es) e) n e) z)
-      ∙ sym (append_assoc (refused_one (refusal files before d) number d) (refused_of files (suc number) now es) (refused_one (refusal files (accepted_of files now es) e) (number + length (d ∷ es)) e))
+      ap (λ l. refused_one (refusal_now files before d) number d ++ l) (refused_of_push files (suc number) now es e
+      ∙ ap (λ n. refused_of files (suc number) now es ++ refused_one (refusal_now files (accepted_of files now es) e) n e) z)
+      ∙ sym (append_assoc (refused_one (refusal_now files before d) number d) (refused_of files (suc number) now es) (refused_one (refusal_now files (accepted_of files now es) e) (number + length (d ∷ es)) e))
 
-  -- what a sink was refused_one
-  pub tell_none : (files number : ℕ) (es : List (Event T)) (e e' : Event T) (P : List (Event T) → Type 0) → e ≡ e' → refusal files es e' ≡ None → P (es ++ e' ∷ [])
-      → P (after (refusal files es e) es e) × ([] ≡ refused_one (refusal files es e) number e)
-  tell_none files number es e e' P is free h =
-      subst (λ d. P (after (refusal files es d) es d) × ([] ≡ refused_one (refusal files es d) number d)) (sym is)
+  -- what a sink was told
+  pub tell_none : (files t number : ℕ) (es : List (Event T)) (e e' : Event T) (P : List (Event T) → Type 0) → e ≡ e' → refusal_at files es t e' ≡ None → P (es ++ e' ∷ [])
+      → P (after (refusal_at files es t e) es e) × ([] ≡ refused_one (refusal_at files es t e) number e)
+  tell_none files t number es e e' P is free h =
+      subst (λ d. P (after (refusal_at files es t d) es d) × ([] ≡ refused_one (refusal_at files es t d) number d)) (sym is)
       (subst (λ r. P (after r es e') × ([] ≡ refused_one r number e')) (sym free) (h, refl))
 
-  pub tell_some : (files number : ℕ) (es : List (Event T)) (e e' : Event T) (P : List (Event T) → Type 0) (rule : Why) → e ≡ e' → refusal files es e' ≡ Some rule → P es
-      → P (after (refusal files es e) es e) × (record { event = number; why = rule; item = item_of e' } ∷ [] ≡ refused_one (refusal files es e) number e)
-  tell_some files number es e e' P rule is free h =
-      subst (λ d. P (after (refusal files es d) es d) × (record { event = number; why = rule; item = item_of e' } ∷ [] ≡ refused_one (refusal files es d) number d)) (sym is)
+  pub tell_some : (files t number : ℕ) (es : List (Event T)) (e e' : Event T) (P : List (Event T) → Type 0) (rule : Why) → e ≡ e' → refusal_at files es t e' ≡ Some rule → P es
+      → P (after (refusal_at files es t e) es e) × (record { event = number; why = rule; item = item_of e' } ∷ [] ≡ refused_one (refusal_at files es t e) number e)
+  tell_some files t number es e e' P rule is free h =
+      subst (λ d. P (after (refusal_at files es t d) es d) × (record { event = number; why = rule; item = item_of e' } ∷ [] ≡ refused_one (refusal_at files es t d) number d)) (sym is)
       (subst (λ r. P (after r es e') × (record { event = number; why = rule; item = item_of e' } ∷ [] ≡ refused_one r number e')) (sym free) (h, refl))
 
   pub due_after : (files : ℕ) (rule : Option Why) (es : List (Event T)) (e : Event T) → Accepted files (after rule es e) → IsPrefix (due es files) (due (after rule es e) files)

@@ -1,8 +1,7 @@
--- A file's counts and map, when an event is accepted.
-use Rattle.std.proofs.Common.{◌≡◌, ◌==◌, ◌&&◌, ◌||◌, ◌≤◌, ◌<◌, ℕ, ◌+◌, List, [], ◌∷◌, ◌++◌, refl, sym, ap, ◌∙◌, arith, Option, Some, None, Bool, true, false, cond, nat_le, nat_lt, nat_cmp, max, Less, Equal, Greater, inl, inr, ◌⊎◌}
+-- A file's counts and slots, when an event is accepted.
+use Rattle.std.proofs.Common.{◌≡◌, ◌==◌, ◌&&◌, ◌||◌, ◌≤◌, ◌<◌, ℕ, ◌+◌, List, [], ◌∷◌, ◌++◌, refl, sym, ap, ◌∙◌, arith, Option, Some, None, Bool, true, false, cond, nat_le, nat_lt, max, inl, inr, ◌⊎◌}
 use Rattle.std.specs.Option.{is_some}
-use Rattle.std.specs.Ordering.{is_eq}
-use Rattle.std.proofs.lemmas.Bool.{eqb-true, eq-eqb, ne_eqb, true≢false, cases_lt, le-ltb}
+use Rattle.std.proofs.lemmas.Bool.{eqb-true, eq-eqb, ne_eqb, cases_lt, le-ltb}
 use Rattle.std.proofs.lemmas.Bool.Decides.{nat_tests}
 use Rattle.std.proofs.Math.Bool.{or-false}
 use Rattle.fq_lanes.specs.Due.{offer_at, close_at}
@@ -118,23 +117,5 @@ module _ {T : Type 0} where
         short = k.short;
       }
 
-ltb_same : (s r : ℕ) → s ≡ r → nat_lt s r ≡ false
-ltb_same s r e = le-ltb s r (omega (arith, e))
-
 pub top_max : (top s : ℕ) → ((max top (s + 1) ≡ top) × (s < top)) ⊎ ((max top (s + 1) ≡ s + 1) × (top ≤ s))
 top_max top s = elim (cases_lt s top) [ inl lt ↦ inl (omega arith, lt) | inr le ↦ inr (omega arith, le) ]
-
--- a map's place, by the number that it is asked at
-module _ {A : Type 0} where
-  cases_at : (e l : Bool) (x y : A) → (e ≡ true → l ≡ false) → cond (is_eq (cond l Less (cond e Equal Greater))) x y ≡ cond e x y
-  cases_at true true x y h = absurd (true≢false (h refl))
-  cases_at true false x y h = refl
-  cases_at false true x y h = refl
-  cases_at false false x y h = refl
-
-  pub put_at : (s r : ℕ) (x y : A) → cond (is_eq (nat_cmp s r)) x y ≡ cond (s == r) x y
-  put_at s r x y = cases_at (s == r) (nat_lt s r) x y (λ e. ltb_same s r (eqb-true s r e))
-
-  pub one_more : (old : Option A) (m n : ℕ) → old ≡ None → n ≡ m + cond (is_some old) 0 1 → n ≡ m + 1
-  one_more None m n e h = h
-  one_more (Some x) m n e h = let bad : ⊥ = cc in absurd bad

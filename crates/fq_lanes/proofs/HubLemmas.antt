@@ -1,16 +1,14 @@
 -- The hub hands on what is due.
-use Rattle.std.proofs.Common.{◌≡◌, ℕ, ◌+◌, List, [], ◌∷◌, ◌++◌, length, length-append, refl, sym, subst, ap, ◌∙◌, arith, Some, None, inl}
+use Rattle.std.proofs.Common.{◌≡◌, ℕ, ◌+◌, List, [], ◌∷◌, ◌++◌, length, length-append, refl, sym, subst, ap, ◌∙◌, arith, Some, inl}
 use Rattle.std.proofs.lemmas.List.{map-append}
 use Rattle.std.specs.List.{slice_get}
 use mathlib.Core.List.{IsPrefix}
 use Rattle.fq_lanes.specs.Due.{due}
-use Rattle.fq_lanes.specs.Refusals.{refusal}
 use Rattle.fq_lanes.specs.Sink.{HasAccepted, file_count}
 use Rattle.fq_lanes.specs.Taking.{Took}
 use Rattle.fq_lanes.specs.Hub.{HandsOn, HandedOn, HasStopped}
 use Rattle.fq_lanes.proofs.ListLemmas.{prefix_same}
 use Rattle.fq_lanes.proofs.PrefixLemmas.{prefix_equal}
-use Rattle.fq_lanes.proofs.SinkLemmas.{accepted_more}
 use Rattle.fq_lanes.proofs.DueLemmas.{due_grows, prefix_push}
 use Rattle.fq_lanes.specs.declared.events.Event.{Event}
 use Rattle.fq_lanes.specs.declared.hub.Hub.{Hub}
@@ -59,16 +57,6 @@ module _ {S O : Type 0} where
     took = subst (λ s. Took takes first (due events (file_count hub.sink)) s) (sym tail) h.took;
     traced = trace ∙ h.traced;
   }
-
-  -- the sink had no memory for the event
-  pub stops_told : (takes : S → ℕ → ℕ → O → S → Type 0) (refuses : S → S → Type 0) (first : S) (events : List (Event O)) (e : Event O) (hub : Hub S O)
-      → HandedOn takes first events hub → refusal (file_count hub.sink) events e ≡ None
-      → HasStopped takes refuses first (events ++ e ∷ []) (file_count hub.sink) hub.tail
-  stops_told takes refuses first events e hub h free = (
-    due events (file_count hub.sink),
-    due_grows (file_count hub.sink) events (e ∷ []) (accepted_more (file_count hub.sink) [] events e h.accepted.accepted free),
-    inl h.took,
-  )
 
   -- the hub stops where all that is due was handed on
   pub stops_all : (takes : S → ℕ → ℕ → O → S → Type 0) (refuses : S → S → Type 0) (first : S) (events : List (Event O)) (hub : Hub S O)

@@ -252,14 +252,9 @@ module _ {X O : Type 0} where
         )
       ]
 
-  -- where nothing waits and each file is closed, everything is due
-  pub books_settle : (items : List (List X)) (events : List (Event O)) → Books items none_waits events
-      → ((i : ℕ) (xs : List X) → slice_get items i ≡ Some xs → close_at events i ≡ Some (length xs))
-      → numbers (due events (length items)) ≡ numbers (numbered zero items)
-  books_settle items events b closed =
-      due_numbers events zero items (λ i xs at.
-      let here : zero + i ≡ i = omega arith in
-      let close = closed i xs at in
+  -- where nothing waits, all items of a file are ready
+  pub books_ready : (items : List (List X)) (events : List (Event O)) (i : ℕ) (xs : List X) → Books items none_waits events → slice_get items i ≡ Some xs → length (ready events i) ≡ length xs
+  books_ready items events i xs b at =
       let each : (s : ℕ) → s < length xs → 1 ≤ offered i s events = λ s lt.
       let all = b.balanced i s in
       let x = get_in xs s lt in
@@ -270,8 +265,20 @@ module _ {X O : Type 0} where
       let none : given items i (length xs) ≡ 0 = ap (λ o. cond {A = ℕ} (is_some o) 1 0) (file_item items i (length xs) xs at ∙ get_past xs (length xs) (omega arith)) in
       omega (arith, all, none)) in
       let z : zero + length xs ≡ length xs = omega arith in
-      let size : length (ready events i) ≡ length xs =
       full_ready events i zero (length xs) (length events) (enough (length xs) i events each) (λ r a lt. once_offered i r events (each r (omega arith)))
-      (subst (λ n. offer_at events i n ≡ None) (sym z) past) in
-      let whole : is_complete events i ≡ true = ap (λ c. is_closed_at c (length (ready events i))) close ∙ eq-eqb (length xs) (length (ready events i)) (sym size) in
-      subst (λ n. (is_complete events n ≡ true) × (length (ready events n) ≡ length xs)) (sym here) (whole, size))
+      (subst (λ n. offer_at events i n ≡ None) (sym z) past)
+
+  -- and a file that is closed is complete
+  pub books_complete : (items : List (List X)) (events : List (Event O)) (i : ℕ) (xs : List X) → Books items none_waits events → slice_get items i ≡ Some xs → close_at events i ≡ Some (length xs)
+      → is_complete events i ≡ true
+  books_complete items events i xs b at close =
+      ap (λ c. is_closed_at c (length (ready events i))) close ∙ eq-eqb (length xs) (length (ready events i)) (sym (books_ready items events i xs b at))
+
+  -- where nothing waits and each file is closed, everything is due
+  pub books_settle : (items : List (List X)) (events : List (Event O)) → Books items none_waits events
+      → ((i : ℕ) (xs : List X) → slice_get items i ≡ Some xs → close_at events i ≡ Some (length xs))
+      → numbers (due events (length items)) ≡ numbers (numbered zero items)
+  books_settle items events b closed =
+      due_numbers events zero items (λ i xs at.
+      let here : zero + i ≡ i = omega arith in
+      subst (λ n. (is_complete events n ≡ true) × (length (ready events n) ≡ length xs)) (sym here) (books_complete items events i xs b at (closed i xs at), books_ready items events i xs b at))

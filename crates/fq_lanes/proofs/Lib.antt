@@ -1,11 +1,13 @@
 pub mod EventLemmas
 pub mod FileLemmas
+pub mod SlotLemmas
 pub mod PrefixLemmas
 pub mod ReadyLemmas
 pub mod StagingLemmas
 pub mod SinkLemmas
 pub mod DueLemmas
 pub mod RefusalLemmas
+pub mod WindowLemmas
 pub mod ListLemmas
 pub mod NumberingLemmas
 pub mod HubLemmas

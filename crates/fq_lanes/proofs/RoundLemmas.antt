@@ -4,26 +4,29 @@ use Rattle.std.proofs.lemmas.Bool.{eqb-true, eq-eqb, true≢false}
 use Rattle.std.proofs.lemmas.List.{map-append}
 use Rattle.std.specs.List.{slice_get}
 use mathlib.Core.List.{IsPrefix}
-use Rattle.fq_lanes.specs.Due.{due, offer_at, close_at, ready, is_complete}
+use Rattle.fq_lanes.specs.Due.{due, offer_at, close_at, ready, is_complete, due_count}
 use Rattle.fq_lanes.specs.Refusals.{refusal}
 use Rattle.fq_lanes.specs.Sink.{file_count}
 use Rattle.fq_lanes.specs.Numbering.{item_at, numbered, numbers}
 use Rattle.fq_lanes.specs.Hub.{HasStopped}
 use Rattle.fq_lanes.specs.Inlet.{GaveOne, Gave, ClosesEnded, end_of}
-use Rattle.fq_lanes.specs.Ledger.{one_if, times, Books, Reads}
+use Rattle.fq_lanes.specs.Ledger.{one_if, times, none_waits, Books, Reads}
 use Rattle.fq_lanes.specs.Round.{job_numbers, AreItems, InRound, Halted}
+use Rattle.fq_lanes.specs.Window.{IsNear, AreNear}
 use Rattle.fq_lanes.proofs.DueNumbers.{due_begins, due_holds}
 use Rattle.fq_lanes.proofs.EventLemmas.{or_else, or_else_none, offer_at_append, close_at_append}
 use Rattle.fq_lanes.proofs.InletLemmas.{gave_get, gave_set, gave_sizes, gave_rest, goes_on_item, goes_on_ended}
-use Rattle.fq_lanes.proofs.LedgerLemmas.{bool_cases, times_append, books_item, books_close, offer_item, item_push}
-use Rattle.fq_lanes.proofs.ListLemmas.{prefix_then, get_within, get_append, get_set_same, get_set_other, each_length, set_same}
+use Rattle.fq_lanes.proofs.LedgerLemmas.{bool_cases, times_append, books_item, books_close, books_ready, books_complete, offer_item, item_push}
+use Rattle.fq_lanes.proofs.ListLemmas.{nothing_in, prefix_then, get_in, get_within, get_append, get_set_same, get_set_other, each_length, set_same}
 use Rattle.fq_lanes.proofs.NumberingLemmas.{all_numbered_prefix, all_numbered_map, file_item, item_set_other, item_set_same}
 use Rattle.fq_lanes.proofs.PrefixLemmas.{closed_with}
+use Rattle.fq_lanes.proofs.WindowLemmas.{near_push, due_ready}
 use Rattle.fq_lanes.specs.declared.events.Event.{Event}
 use Rattle.fq_lanes.specs.declared.events.Event.TheVariants.{Close}
 use Rattle.fq_lanes.specs.declared.hub.Hub.{Hub}
 use Rattle.fq_lanes.specs.declared.inlet.Inlet.{Inlet}
 use Rattle.fq_lanes.specs.declared.job.Job.{Job}
+use Rattle.fq_lanes.specs.declared.file_state.TheConstants.{SLOTS}
 
 end_some : (b : Bool) (n k : ℕ) → cond b (Some n) None ≡ Some k → b ≡ true
 end_some true n k e = refl
@@ -142,8 +145,9 @@ module _ {F X S O : Type 0} where
       (feeds : List F) (first : S) (items : List (List X)) (events : List (Event O)) (ns : List (Inlet F)) (hub : Hub S O) (jobs : List (Job X)) (j : Job X) (n n' : Inlet F)
       → InRound gives is_open may_fail most takes feeds first items events ns hub jobs → slice_get ns j.file ≡ Some n → n.ended ≡ false → n'.ended ≡ false
       → ((feed : F) (xs : List X) → GaveOne gives is_open may_fail most feed xs n → (j.serial ≡ length xs) × GaveOne gives is_open may_fail most feed (xs ++ j.item ∷ []) n')
+      → IsNear events (file_count hub.sink) j.file n.items
       → (items' : List (List X)) × (events' : List (Event O)) × Reads items items' events events' × InRound gives is_open may_fail most takes feeds first items' events' (set ns j.file n') hub (jobs ++ j ∷ [])
-  turn_item gives is_open may_fail most takes feeds first items events ns hub jobs j n n' r at going still gave =
+  turn_item gives is_open may_fail most takes feeds first items events ns hub jobs j n n' r at going still gave near =
       let old = gave_get gives is_open may_fail most feeds items ns j.file n r.gave at in
       let xs = old.1 in
       let new = gave old.0 xs old.4 in
@@ -170,6 +174,8 @@ module _ {F X S O : Type 0} where
           files = r.files;
           waits = are_items_push items' jobs j (are_items_on items items' jobs reads.stays r.waits)
               (ap (item_at items' j.file) new.0 ∙ item_push items j.file xs j.item old.3);
+          near = subst (λ l. AreNear events (file_count hub.sink) l) (sym (map-append (λ (i : Job X). (i.file, i.serial)) jobs (j ∷ [])))
+              (near_push (file_count hub.sink) events (job_numbers jobs) (j.file, j.serial) r.near (let here = new.0 in let count = old.4.count in omega (arith, here, count, near)));
         },
       )
 
@@ -212,3 +218,21 @@ module _ {F X S O : Type 0} where
         ]),
         reads_close items events f n'.items,
       )
+
+  -- where nothing waits and each lower feed has ended, all that a feed gave is due
+  pub lowest_due : (gives : F → List X → Type 0) (is_open may_fail : F → Type 0) (most : F → ℕ) (takes : S → ℕ → ℕ → O → S → Type 0)
+      (feeds : List F) (first : S) (items : List (List X)) (events : List (Event O)) (ns : List (Inlet F)) (hub : Hub S O) (jobs : List (Job X)) (f : ℕ) (n : Inlet F)
+      → InRound gives is_open may_fail most takes feeds first items events ns hub jobs → length jobs ≡ 0 → slice_get ns f ≡ Some n
+      → ((i : ℕ) (m : Inlet F) → i < f → slice_get ns i ≡ Some m → m.ended ≡ true) → due_count events (file_count hub.sink) f ≡ n.items
+  lowest_due gives is_open may_fail most takes feeds first items events ns hub jobs f n r none at ended =
+      let books : Books items none_waits events = subst (λ l. Books items (λ g s. times g s (job_numbers l)) events) (nothing_in jobs none) r.books in
+      let own = gave_get gives is_open may_fail most feeds items ns f n r.gave at in
+      let sizes = gave_sizes gives is_open may_fail most feeds items ns r.gave in
+      let within : f < length ns = get_within ns f n at in
+      due_ready events zero (file_count hub.sink) f f (omega arith) (omega (arith, within, sizes.1, r.files)) (λ i lt.
+      let m = get_in ns i (omega (arith, lt, within)) in
+      let one = gave_get gives is_open may_fail most feeds items ns i m.0 r.gave m.1 in
+      let here : zero + i ≡ i = omega arith in
+      subst (λ k. is_complete events k ≡ true) (sym here)
+      (books_complete items events i one.1 books one.3 (r.closed i m.0 m.1 ∙ end_closed m.0 (ended i m.0 lt m.1) ∙ ap Some one.4.count)))
+      ∙ books_ready items events f own.1 books own.3 ∙ sym own.4.count

@@ -73,6 +73,7 @@ module _ {F X S O : Type 0} where
     handed = handed;
     files = files ∙ r.files;
     waits = tt;
+    near = tt;
   }
 
   -- every feed has ended, and nothing waits

@@ -7,7 +7,7 @@ use Rattle.std.proofs.lemmas.List.{append-nil}
 use Rattle.std.proofs.lemmas.List.Sorted.{All-permutation, sum_by-IsPermutation}
 use Rattle.std.proofs.lemmas.List.Sums.{sum_by-cons}
 use Rattle.fq_lanes.specs.Due.{due, offer_at, close_at}
-use Rattle.fq_lanes.specs.Refusals.{refusal, AcceptedAfter, Accepted}
+use Rattle.fq_lanes.specs.Refusals.{refusal, refused_of, AcceptedAfter, Accepted}
 use Rattle.fq_lanes.specs.Lists.{Each}
 use Rattle.fq_lanes.specs.Numbering.{item_at, numbered_file, numbered, numbers, AllNumbered}
 use Rattle.fq_lanes.specs.Engine.{IsWorked}
@@ -18,6 +18,7 @@ use Rattle.fq_lanes.proofs.DueNumbers.{due_holds}
 use Rattle.fq_lanes.proofs.LedgerLemmas.{one_self, books_offer, books_close, books_settle, offers_more}
 use Rattle.fq_lanes.proofs.ListLemmas.{get_within}
 use Rattle.fq_lanes.proofs.NumberingLemmas.{items_all, each_worked}
+use Rattle.fq_lanes.proofs.WindowLemmas.{none_refused}
 use Rattle.fq_lanes.specs.declared.events.Event.{Event}
 use Rattle.fq_lanes.specs.declared.events.Event.TheVariants.{Offer, Close}
 
@@ -344,7 +345,7 @@ module _ {X O : Type 0} where
 
   -- the law
   pub schedules_settle : (work : ℕ → X → O) (items : List (List X)) (workers : List (List (ℕ × ℕ × X))) (events : List (Event O))
-      → IsSchedule work items workers events → Accepted (length items) events × (due events (length items) ≡ worked_items work items)
+      → IsSchedule work items workers events → Accepted (length items) events × (refused_of (length items) 0 [] events ≡ []) × (due events (length items) ≡ worked_items work items)
   schedules_settle work items workers events s =
       let works : ℕ → X → O → Type 0 = λ f x o. o ≡ work f x in
       let dealt = flat_map (λ w. w) workers in
@@ -370,4 +371,4 @@ module _ {X O : Type 0} where
             omega (arith, both, none, one);
       } in
       let all = coming_all works items lists [] events s.merged start in
-      (all.0, each_equal work (numbered zero items) (due events (length items)) (coming_due works items all.1.0 events all.1.1 all.1.2))
+      (all.0, none_refused (length items) 0 [] events all.0 s.near, each_equal work (numbered zero items) (due events (length items)) (coming_due works items all.1.0 events all.1.1 all.1.2))

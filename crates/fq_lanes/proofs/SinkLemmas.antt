@@ -5,13 +5,13 @@ use Rattle.std.specs.Result.{MatchResult}
 use Rattle.std.proofs.Math.ListN.{length-set}
 use Rattle.std.proofs.lemmas.Bool.{lt-ltb}
 use Rattle.std.proofs.lemmas.List.{append-nil}
-use Rattle.std.specs.Ordering.{nat_cmp}
-use Rattle.std.specs.BTreeMap.{get, btree_map_len}
 use Rattle.fq_lanes.specs.Due.{due, is_closed_at, offer_at, offer_count, handed_count}
-use Rattle.fq_lanes.specs.Refusals.{refusal, offer_refusal, close_refusal, IsRefusal, event_refusal, file_of, AcceptedAfter, Accepted}
+use Rattle.fq_lanes.specs.Refusals.{refusal, refusal_at, offer_refusal_at, close_refusal, event_refusal, event_refusal_at, file_of, AcceptedAfter, Accepted}
 use Rattle.fq_lanes.specs.FileState.{FileFollows}
+use Rattle.fq_lanes.specs.Slots.{found_in, held_in}
 use Rattle.fq_lanes.specs.Sink.{Fresh, Staged, SinkFacts}
 use Rattle.fq_lanes.proofs.FileLemmas.{keeps_other}
+use Rattle.fq_lanes.proofs.SlotLemmas.{no_window}
 use Rattle.fq_lanes.proofs.StagingLemmas.{staged_get, staged_set, staged_next, staged_pass, taken_set, fresh_staged, fresh_taken, due_next, due_stuck, due_ended, handed_is}
 use Rattle.fq_lanes.specs.declared.events.Why.{Why}
 use Rattle.fq_lanes.specs.declared.events.Why.TheVariants.{Stranger}
@@ -28,7 +28,7 @@ module _ {T : Type 0} where
   accepted_more files before (d ∷ es) e h k = (h.0, accepted_more files (before ++ d ∷ []) es e h.1 (subst (λ l. refusal files l e ≡ None) (sym (append_assoc before (d ∷ []) es)) k))
 
   file_other : (es : List (Event T)) (e : Event T) (f h : ℕ) (y : FileState T) → file_of e ≡ f → (h ≡ f → ⊥) → FileFollows y es h → FileFollows y (es ++ e ∷ []) h
-  file_other es e f h y is ne k = keeps_other (get nat_cmp y.held) (btree_map_len y.held) y.taken y.top y.closed es h e k (λ same. ne (sym same ∙ is))
+  file_other es e f h y is ne k = keeps_other (found_in y.slots.items y.taken) (held_in y.slots.items) y.taken y.top y.closed es h e k (λ same. ne (sym same ∙ is))
 
   -- a file accepts an event
   pub stands_event : (files : List (FileState T)) (at : ℕ) (es : List (Event T)) (t f : ℕ) (x x' : FileState T) (e : Event T) → SinkFacts files at es t → slice_get files f ≡ Some x → f < length files
@@ -78,24 +78,37 @@ module _ {T : Type 0} where
   pub stands_new : (files : List (FileState T)) → Fresh files [] zero → SinkFacts files zero [] zero
   stands_new files h = record { accepted = tt; staged = fresh_staged files [] zero h; total = sym (fresh_taken files [] zero h) }
 
+  pub refusal_at_within : (files : ℕ) (es : List (Event T)) (t : ℕ) (e : Event T) → file_of e < files → refusal_at files es t e ≡ event_refusal_at files es t e
+  refusal_at_within files es t e lt = ap (λ b. cond b (event_refusal_at files es t e) (Some Stranger)) (lt-ltb (file_of e) files lt)
+
+  -- how many items of a file were handed out
+  pub taken_is : (files : List (FileState T)) (at : ℕ) (es : List (Event T)) (t f : ℕ) (x : FileState T) → SinkFacts files at es t → slice_get files f ≡ Some x
+      → handed_count f t (due es (length files)) ≡ x.taken
+  taken_is files at es t f x s got = ap (λ n. handed_count f n (due es (length files))) s.total ∙ handed_is at files es zero f f x s.staged got (omega arith)
+
   -- the sink's answer, by that of a file
   pub offer_answer : (files : List (FileState T)) (at : ℕ) (es : List (Event T)) (t f s : ℕ) (x x' : FileState T) (item : T) (r : Result (Unit {0}) (Why × T)) → SinkFacts files at es t → slice_get files f ≡ Some x → f < length files
       → x'.taken ≡ x.taken → x'.closed ≡ x.closed
-      → MatchResult r (λ _. (offer_refusal es f s ≡ None) × FileFollows x' (es ++ Offer f s item ∷ []) f) (λ e. IsRefusal (offer_refusal es f s) e.0 × (e.1 ≡ item) × FileFollows x' es f)
-      → MatchResult r (λ _. (refusal (length files) es (Offer f s item) ≡ None) × SinkFacts (set files f x') at (es ++ Offer f s item ∷ []) t)
-      (λ e. IsRefusal (refusal (length files) es (Offer f s item)) e.0 × (e.1 ≡ item) × SinkFacts (set files f x') at es t)
-  offer_answer files at es t f s x x' item (Ok _) h got lt same kept m = stands_event files at es t f x x' (Offer f s item) h got lt refl m.0 m.1 same (λ n e. kept ∙ e)
+      → MatchResult r (λ _. (offer_refusal_at es f s x.taken ≡ None) × FileFollows x' (es ++ Offer f s item ∷ []) f) (λ e. (offer_refusal_at es f s x.taken ≡ Some e.0) × (e.1 ≡ item) × FileFollows x' es f)
+      → MatchResult r (λ _. (refusal_at (length files) es t (Offer f s item) ≡ None) × SinkFacts (set files f x') at (es ++ Offer f s item ∷ []) t)
+      (λ e. (refusal_at (length files) es t (Offer f s item) ≡ Some e.0) × (e.1 ≡ item) × SinkFacts (set files f x') at es t)
+  offer_answer files at es t f s x x' item (Ok _) h got lt same kept m =
+      let taken = taken_is files at es t f x h got in (
+        refusal_at_within (length files) es t (Offer f s item) lt ∙ ap (offer_refusal_at es f s) taken ∙ m.0,
+        (stands_event files at es t f x x' (Offer f s item) h got lt refl (no_window es f s x.taken m.0) m.1 same (λ n e. kept ∙ e)).1,
+      )
   offer_answer files at es t f s x x' item (Err e) h got lt same kept m =
-      (subst (λ r. IsRefusal r e.0) (sym (refusal_within (length files) es (Offer f s item) lt)) m.0, m.1, stands_refused files at es t f x x' h got m.2 same (λ n e. kept ∙ e))
+      let taken = taken_is files at es t f x h got in
+      (refusal_at_within (length files) es t (Offer f s item) lt ∙ ap (offer_refusal_at es f s) taken ∙ m.0, m.1, stands_refused files at es t f x x' h got m.2 same (λ n e. kept ∙ e))
 
   pub close_answer : (files : List (FileState T)) (at : ℕ) (es : List (Event T)) (t f n : ℕ) (x x' : FileState T) (r : Result (Unit {0}) Why) → SinkFacts files at es t → slice_get files f ≡ Some x → f < length files
       → x'.taken ≡ x.taken → ((m : ℕ) → x.closed ≡ Some m → x'.closed ≡ Some m)
       → MatchResult r (λ _. (close_refusal es f n ≡ None) × FileFollows x' (es ++ Close f n ∷ []) f) (λ e. (close_refusal es f n ≡ Some e) × FileFollows x' es f)
-      → MatchResult r (λ _. (refusal (length files) es (Close f n) ≡ None) × SinkFacts (set files f x') at (es ++ Close f n ∷ []) t)
-      (λ e. (refusal (length files) es (Close f n) ≡ Some e) × SinkFacts (set files f x') at es t)
+      → MatchResult r (λ _. (refusal_at (length files) es t (Close f n) ≡ None) × SinkFacts (set files f x') at (es ++ Close f n ∷ []) t)
+      (λ e. (refusal_at (length files) es t (Close f n) ≡ Some e) × SinkFacts (set files f x') at es t)
   close_answer files at es t f n x x' (Ok _) h got lt same kept m = stands_event files at es t f x x' (Close f n) h got lt refl m.0 m.1 same kept
   close_answer files at es t f n x x' (Err e) h got lt same kept m =
-      (refusal_within (length files) es (Close f n) lt ∙ m.0, stands_refused files at es t f x x' h got m.1 same kept)
+      (refusal_at_within (length files) es t (Close f n) lt ∙ m.0, stands_refused files at es t f x x' h got m.1 same kept)
 
   pub file_at : (files : List (FileState T)) (at : ℕ) (es : List (Event T)) (t f : ℕ) (x : FileState T) → SinkFacts files at es t → slice_get files f ≡ Some x → FileFollows x es f
   file_at files at es t f x s got = staged_get at files es zero f f x s.staged got (omega arith)
@@ -122,7 +135,7 @@ module _ {T : Type 0} where
   next_ended files at es t n size s le = s.total ∙ due_ended at files es zero s.staged le ∙ ap (λ m. length (due es m)) (sym size)
 
   pub held_is : (files : List (FileState T)) (at : ℕ) (es : List (Event T)) (t f : ℕ) (x : FileState T) → SinkFacts files at es t → slice_get files f ≡ Some x
-      → btree_map_len x.held + handed_count f t (due es (length files)) ≡ offer_count es f
+      → held_in x.slots.items + handed_count f t (due es (length files)) ≡ offer_count es f
   held_is files at es t f x s got =
       let k = staged_get at files es zero f f x s.staged got (omega arith) in
       let taken = ap (λ n. handed_count f n (due es (length files))) s.total ∙ handed_is at files es zero f f x s.staged got (omega arith) in

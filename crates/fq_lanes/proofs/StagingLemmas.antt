@@ -1,12 +1,11 @@
 -- A sink's files, one after another.
 use Rattle.std.proofs.Common.{◌≡◌, ◌==◌, ◌&&◌, ◌≤◌, ◌<◌, ℕ, zero, suc, ◌+◌, List, [], ◌∷◌, ◌++◌, length, set, length-append, refl, sym, subst, ap, ◌∙◌, arith, Option, Some, None, Bool, true, false, cond}
 use Rattle.std.specs.List.{slice_get, list_all}
-use Rattle.std.specs.Ordering.{nat_cmp}
-use Rattle.std.specs.BTreeMap.{get, btree_map_len}
 use Rattle.std.proofs.lemmas.Bool.{eq-eqb}
 use Rattle.std.proofs.lemmas.List.{append-nil}
 use Rattle.fq_lanes.specs.Due.{offer_at, close_at, offer_count, ready, is_closed_at, is_complete, due_from, handed_count, all_finished}
 use Rattle.fq_lanes.specs.FileState.{FileFollows}
+use Rattle.fq_lanes.specs.Slots.{found_in, held_in}
 use Rattle.fq_lanes.specs.Sink.{taken_by, waiting_of, is_finished_file, Fresh, Staged}
 use Rattle.fq_lanes.proofs.PrefixLemmas.{closed_with}
 use Rattle.fq_lanes.proofs.ReadyLemmas.{taken_within, taken_all, complete_is, drained, next_item, handed_ready, handed_other, handed_front, handed_both, get_front, get_behind}
@@ -98,9 +97,9 @@ module _ {T : Type 0} where
   taken_set (y ∷ xs) zero x x' e = let same : y ≡ x = cc in let t : y.taken ≡ x.taken = ap (λ z. z.taken) same in omega (arith, t)
   taken_set (y ∷ xs) (suc g) x x' e = let rest = taken_set xs g x x' e in omega (arith, rest)
 
-  pub held_set : (xs : List (FileState T)) (g : ℕ) (x x' : FileState T) → slice_get xs g ≡ Some x → waiting_of (set xs g x') + btree_map_len x.held ≡ waiting_of xs + btree_map_len x'.held
+  pub held_set : (xs : List (FileState T)) (g : ℕ) (x x' : FileState T) → slice_get xs g ≡ Some x → waiting_of (set xs g x') + held_in x.slots.items ≡ waiting_of xs + held_in x'.slots.items
   held_set [] g x x' e = let bad : ⊥ = cc in absurd bad
-  held_set (y ∷ xs) zero x x' e = let same : y ≡ x = cc in let t : btree_map_len y.held ≡ btree_map_len x.held = ap (λ z. btree_map_len z.held) same in omega (arith, t)
+  held_set (y ∷ xs) zero x x' e = let same : y ≡ x = cc in let t : held_in y.slots.items ≡ held_in x.slots.items = ap (λ z. held_in z.slots.items) same in omega (arith, t)
   held_set (y ∷ xs) (suc g) x x' e = let rest = held_set xs g x x' e in omega (arith, rest)
 
   -- a file that was handed out whole is passed
@@ -111,7 +110,7 @@ module _ {T : Type 0} where
   staged_pass (suc at) (y ∷ xs) es f x h e d = (h.0, h.1, staged_pass at xs es (suc f) x h.2 e d)
 
   file_drained : (x : FileState T) (es : List (Event T)) (f : ℕ) → FileFollows x es f → is_closed_at x.closed x.taken ≡ true → (is_complete es f ≡ true) × (length (ready es f) ≡ x.taken)
-  file_drained x es f k e = drained (get nat_cmp x.held) (btree_map_len x.held) x.taken x.top x.closed es f k e
+  file_drained x es f k e = drained (found_in x.slots.items x.taken) (held_in x.slots.items) x.taken x.top x.closed es f k e
 
   whole_rest : (b : Bool) (xs ys : List (ℕ × ℕ × T)) → b ≡ true → xs ++ cond b ys [] ≡ xs ++ ys
   whole_rest b xs ys e = ap (λ c. xs ++ cond c ys []) e
@@ -127,7 +126,7 @@ module _ {T : Type 0} where
       let holds : FileFollows x es f = subst (λ w. FileFollows w es f) (sym same) h.0 in
       ap (slice_get (due_from es f (length (z ∷ xs)))) (sym total)
       ∙ get_front (ready es f) (cond (is_complete es f) (due_from es (suc f) (length xs)) []) x.taken (f, x.taken, y)
-      (next_item (get nat_cmp x.held) (btree_map_len x.held) x.taken x.top x.closed es f y holds
+      (next_item (found_in x.slots.items x.taken) (held_in x.slots.items) x.taken x.top x.closed es f y holds
       (subst (λ n. offer_at es n x.taken ≡ Some y) here o) (subst (λ n. x.taken < offer_count es n) here lt))
       ∙ ap (λ n. Some (n, x.taken, y)) (sym here)
   due_next (suc at) (z ∷ xs) es f k x y h e is o lt =
@@ -146,8 +145,8 @@ module _ {T : Type 0} where
       let t : x.taken ≡ z.taken = ap (λ w. w.taken) same in
       let holds : FileFollows x es f = subst (λ w. FileFollows w es f) (sym same) h.0 in
       let o' : offer_at es f x.taken ≡ None = subst (λ n. offer_at es n x.taken ≡ None) here o in
-      let len = taken_all (get nat_cmp x.held) (btree_map_len x.held) x.taken x.top x.closed es f holds o' in
-      let open' : is_complete es f ≡ false = complete_is (get nat_cmp x.held) (btree_map_len x.held) x.taken x.top x.closed es f holds o' ∙ c in
+      let len = taken_all (found_in x.slots.items x.taken) (held_in x.slots.items) x.taken x.top x.closed es f holds o' in
+      let open' : is_complete es f ≡ false = complete_is (found_in x.slots.items x.taken) (held_in x.slots.items) x.taken x.top x.closed es f holds o' ∙ c in
       let all : due_from es f (length (z ∷ xs)) ≡ ready es f = ap (λ b. ready es f ++ cond b (due_from es (suc f) (length xs)) []) open' ∙ append-nil (ready es f) in
       let sizes : length (due_from es f (length (z ∷ xs))) ≡ length (ready es f) = ap length all in
       omega (arith, none, t, len, sizes)
@@ -170,7 +169,7 @@ module _ {T : Type 0} where
       omega (arith, d.1, rest, sizes)
 
   file_taken_within : (x : FileState T) (es : List (Event T)) (f : ℕ) → FileFollows x es f → x.taken ≤ length (ready es f)
-  file_taken_within x es f k = taken_within (get nat_cmp x.held) (btree_map_len x.held) x.taken x.top x.closed es f k
+  file_taken_within x es f k = taken_within (found_in x.slots.items x.taken) (held_in x.slots.items) x.taken x.top x.closed es f k
 
   -- no item of a lower file is among those due from f on
   handed_joined : (g t : ℕ) (xs ys : List (ℕ × ℕ × T)) → ((u : ℕ) → handed_count g u xs ≡ 0) → ((u : ℕ) → handed_count g u ys ≡ 0) → handed_count g t (xs ++ ys) ≡ 0
@@ -182,12 +181,12 @@ module _ {T : Type 0} where
       let z : handed_count g zero xs ≡ 0 = refl in
       omega (arith, first, rest, z)
 
-  handed_cond : (g t : ℕ) (b : Bool) (ys : List (ℕ × ℕ × T)) → ((u : ℕ) → handed_count g u ys ≡ 0) → handed_count g t (cond b ys []) ≡ 0
+  pub handed_cond : (g t : ℕ) (b : Bool) (ys : List (ℕ × ℕ × T)) → ((u : ℕ) → handed_count g u ys ≡ 0) → handed_count g t (cond b ys []) ≡ 0
   handed_cond g t true ys h = h t
   handed_cond g zero false ys h = refl
   handed_cond g (suc t) false ys h = refl
 
-  handed_later : (es : List (Event T)) (f files g t : ℕ) → g < f → handed_count g t (due_from es f files) ≡ 0
+  pub handed_later : (es : List (Event T)) (f files g t : ℕ) → g < f → handed_count g t (due_from es f files) ≡ 0
   handed_later es f zero g zero lt = refl
   handed_later es f zero g (suc t) lt = refl
   handed_later es f (suc files) g t lt =

@@ -61,6 +61,7 @@ module _ {F X S O : Type 0} where
         handed = subst (λ l. HandsOn takes hub.tail [] l hub) (sym none) handed;
         files = files;
         waits = tt;
+        near = tt;
       })
 
   -- nothing was taken

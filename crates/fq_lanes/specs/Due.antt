@@ -66,6 +66,10 @@ module _ {T : Type 0} where
   handed_count f (suc t) [] = 0
   handed_count f (suc t) (q ∷ qs) = (if q.0 == f then 1 else 0) + handed_count f t qs
 
+  -- how many of all items that may be handed out are f's
+  abbrev pub due_count : List (Event T) → ℕ → ℕ → ℕ
+  due_count es files f = handed_count f (length (due es files)) (due es files)
+
   -- what was found is still found
   abbrev pub Extends : List (Event T) → List (Event T) → Type 0
   Extends old new =

@@ -1,4 +1,4 @@
--- What a file's counts and its map say of the events that were accepted.
+-- What a file's counts and its slots say of the events that were accepted.
 use Rattle.std.specs.Prelude.{◌≡◌, ◌<◌, ◌≤◌, ◌+◌, ℕ, List, Option, Some, true, nat_lt}
 use Rattle.std.specs.Option.{is_some}
 use Rattle.fq_lanes.specs.Due.{offer_at, close_at, offer_count}

@@ -2,7 +2,7 @@
 use Rattle.std.specs.Prelude.{◌≡◌, ℕ, List, None, length}
 use mathlib.Core.List.{IsPrefix}
 use Rattle.fq_lanes.specs.Due.{due}
-use Rattle.fq_lanes.specs.Refusals.{refusal}
+use Rattle.fq_lanes.specs.Refusals.{refusal_at}
 use Rattle.fq_lanes.specs.Sink.{HasAccepted, file_count}
 use Rattle.fq_lanes.specs.Numbering.{numbers}
 use Rattle.fq_lanes.specs.Taking.{Took, TookUntilRefused}
@@ -28,4 +28,4 @@ module _ {S O : Type 0} where
 
   -- the sink accepts this event
   abbrev pub MayTell : Hub S O → Event O → Type 0
-  MayTell hub event = (events : List (Event O)) × (taken : ℕ) × HasAccepted hub.sink events taken × (refusal (file_count hub.sink) events event ≡ None)
+  MayTell hub event = (events : List (Event O)) × (taken : ℕ) × HasAccepted hub.sink events taken × (refusal_at (file_count hub.sink) events taken event ≡ None)

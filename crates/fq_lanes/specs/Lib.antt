@@ -1,6 +1,8 @@
 pub mod Due
 pub mod Refusals
 pub mod FileFacts
+pub mod Slots
+pub mod Window
 pub mod FileState
 pub mod Sink
 pub mod Numbering

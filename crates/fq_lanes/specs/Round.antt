@@ -10,6 +10,7 @@ use Rattle.fq_lanes.specs.Lists.{Each}
 use Rattle.fq_lanes.specs.Numbering.{item_at, numbered, numbers, AllNumbered}
 use Rattle.fq_lanes.specs.Sink.{file_count}
 use Rattle.fq_lanes.specs.Taking.{TookUntilRefused}
+use Rattle.fq_lanes.specs.Window.{AreNear}
 use Rattle.fq_lanes.specs.declared.events.Event.{Event}
 use Rattle.fq_lanes.specs.declared.hub.Hub.{Hub}
 use Rattle.fq_lanes.specs.declared.inlet.Inlet.{Inlet}
@@ -53,6 +54,7 @@ module _ {F X S O : Type 0} where
     pub handed : HandedOn takes first events hub
     pub files : file_count hub.sink ≡ length feeds
     pub waits : AreItems items jobs
+    pub near : AreNear events (file_count hub.sink) (job_numbers jobs)
 
   -- the tail took a prefix of the offers, by file, then serial, and refused at most one call
   abbrev pub Halted : (F → List X → Type 0) → (S → ℕ → ℕ → O → S → Type 0) → (S → S → Type 0) → List F → S → List (List X) → List (Event O) → S → Type 0

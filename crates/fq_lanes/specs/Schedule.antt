@@ -1,8 +1,10 @@
 -- The orders in which workers may be done: each item goes to one worker, each worker offers the work on its items in an
--- order of its own, and these offers reach the sink merged in any way, with one close for each file somewhere among them.
-use Rattle.std.specs.Prelude.{◌≡◌, ℕ, zero, suc, List, [], ◌∷◌, ◌++◌, map, length, set, Some, IsPermutation}
+-- order of its own, and these offers reach the sink merged in any way in which each is within its file's window, with one
+-- close for each file somewhere among them.
+use Rattle.std.specs.Prelude.{◌≡◌, ◌<◌, ◌+◌, ℕ, zero, suc, List, [], ◌∷◌, ◌++◌, map, length, set, Some, IsPermutation}
 use Rattle.std.specs.List.{slice_get, flat_map}
 use Rattle.fq_lanes.specs.Numbering.{numbered}
+use Rattle.fq_lanes.specs.Window.{InWindow}
 use Rattle.fq_lanes.specs.declared.events.Event.{Event}
 use Rattle.fq_lanes.specs.declared.events.Event.TheVariants.{Offer, Close}
 
@@ -35,3 +37,4 @@ module _ {X O : Type 0} where
   pub record IsSchedule (work : ℕ → X → O) (items : List (List X)) (workers : List (List (ℕ × ℕ × X))) (events : List (Event O)) : Type 0 where
     pub dealt : IsPermutation (numbered zero items) (flat_map (λ w. w) workers)
     pub merged : IsMerge (map (offers_for work) workers ++ closes_from zero items) events
+    pub near : InWindow (length items) [] events

@@ -1,9 +1,9 @@
 -- What a sink's files say of the events that were accepted and of how many items were handed out.
 use Rattle.std.specs.Prelude.{◌≡◌, ◌+◌, ℕ, zero, suc, List, [], ◌∷◌, Bool, true, length}
-use Rattle.std.specs.BTreeMap.{btree_map_len}
 use Rattle.fq_lanes.specs.Due.{is_closed_at}
 use Rattle.fq_lanes.specs.Refusals.{Accepted}
 use Rattle.fq_lanes.specs.FileState.{FileFollows}
+use Rattle.fq_lanes.specs.Slots.{held_in}
 use Rattle.fq_lanes.specs.declared.events.Event.{Event}
 use Rattle.fq_lanes.specs.declared.file_state.FileState.{FileState}
 use Rattle.fq_lanes.specs.declared.sinks.Sink.{Sink}
@@ -21,11 +21,11 @@ module _ {T : Type 0} where
   -- how many items are held
   abbrev pub waiting_of : List (FileState T) → ℕ
   waiting_of [] = 0
-  waiting_of (x ∷ xs) = btree_map_len x.held + waiting_of xs
+  waiting_of (x ∷ xs) = held_in x.slots.items + waiting_of xs
 
   -- closed, with each item offered
   abbrev pub is_finished_file : FileState T → Bool
-  is_finished_file x = is_closed_at x.closed (x.taken + btree_map_len x.held)
+  is_finished_file x = is_closed_at x.closed (x.taken + held_in x.slots.items)
 
   -- nothing of these files, from number f on, was handed out
   abbrev pub Fresh : List (FileState T) → List (Event T) → ℕ → Type 0

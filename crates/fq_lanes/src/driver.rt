@@ -1,47 +1,40 @@
 //! A list of events on a fresh sink.
-ghost use Rattle.std.specs.Prelude.{◌≡◌, ◌≤◌, ◌<◌, ◌+◌, ℕ, suc, List, [], ◌∷◌, ◌++◌, length, MatchResult, MatchOption, IfOk, Some, None};
+ghost use Rattle.std.specs.Prelude.{◌≡◌, ◌≤◌, ◌<◌, ◌+◌, ℕ, suc, List, [], ◌∷◌, ◌++◌, length, MatchResult, MatchOption, IfOk, OnErr, ◌⊎◌};
 ghost use Rattle.std.specs.Option.{option_to_list};
 ghost use mathlib.Core.List.{IsPrefix};
 ghost use Rattle.fq_lanes.specs.Due.{due};
-ghost use Rattle.fq_lanes.specs.Refusals.{refusal, after, refused_one, accepted_of, refused_of, Accepted};
+ghost use Rattle.fq_lanes.specs.Refusals.{refusal_at, after, refused_one, accepted_of, refused_of};
 ghost use Rattle.fq_lanes.specs.Sink.{HasAccepted, file_count};
 ghost use Rattle.fq_lanes.specs.declared.events.Event.{Event};
 
-use crate::events::{Event, Refused, Why};
+use crate::events::{Event, Refused};
 use crate::faults::Memory;
 use crate::sinks::Sink;
 use std::alloc::Global;
 
 /// Tells the sink of an event, and answers the event where it was refused.
-fn tell<T: Drop>(
-    sink: &mut Sink<T>,
-    number: usize,
-    event: Event<T>,
-) -> Result<Option<Refused<T>>, Memory>
+fn tell<T: Drop>(sink: &mut Sink<T>, number: usize, event: Event<T>) -> Option<Refused<T>>
     ensures files { file_count sink.new ≡ file_count sink.old }
     ensures holds { (es : List (Event T)) (t : ℕ) → HasAccepted sink.old es t →
-        let reason = refusal (file_count sink.old) es event in
-        IfOk result (λ r. HasAccepted sink.new (after reason es event) t × (option_to_list r ≡ refused_one reason number event)) }
+        let reason = refusal_at (file_count sink.old) es t event in
+        HasAccepted sink.new (after reason es event) t × (option_to_list result ≡ refused_one reason number event) }
 {
     match event {
         Event::Offer(file, serial, item) => match sink.offer(file, serial, item) {
-            Ok(()) => Ok(None),
-            Err((why, item)) => match why {
-                Why::Memory => Err(Memory),
-                _ => Ok(Some(Refused {
-                    event: number,
-                    why,
-                    item: Some(item),
-                })),
-            },
+            Ok(()) => None,
+            Err((why, item)) => Some(Refused {
+                event: number,
+                why,
+                item: Some(item),
+            }),
         },
         Event::Close(file, items) => match sink.close(file, items) {
-            Ok(()) => Ok(None),
-            Err(why) => Ok(Some(Refused {
+            Ok(()) => None,
+            Err(why) => Some(Refused {
                 event: number,
                 why,
                 item: None,
-            })),
+            }),
         },
     }
 }
@@ -74,7 +67,8 @@ fn note<T: Drop>(refused: &mut Vec<Refused<T>>, refusal: Option<Refused<T>>) -> 
 
 /// Runs a list of events on a fresh sink of so many files, and takes what is due after each event.
 /// Answers the items taken, in order, and the events refused, in order.
-/// `Memory` where a growth was refused, also one that an offer met: the lists are then dropped.
+/// `Memory` where the sink could not be made or one of these two lists could not grow, so never without a file or an event;
+/// no event is refused for it. Both lists are then dropped.
 pub fn drive<T: Drop>(
     alloc: Global,
     files: u16,
@@ -82,12 +76,13 @@ pub fn drive<T: Drop>(
 ) -> Result<(Vec<(u16, u32, T)>, Vec<Refused<T>>), Memory>
     ensures taken { IfOk result (λ r. r.0.items ≡ due (accepted_of files [] events.items) files) }
     ensures refused { IfOk result (λ r. r.1.items ≡ refused_of files 0 [] events.items) }
+    ensures memory { OnErr result ((0 < files) ⊎ (0 < length events.items)) }
 {
     let mut sink = Sink::new(alloc, files)?;
     let mut taken = Vec::new(alloc);
     let mut refused = Vec::new(alloc);
     for (number, event) in events.into_iter().enumerate() {
-        let refusal = tell(&mut sink, number, event)?;
+        let refusal = tell(&mut sink, number, event);
         note(&mut refused, refusal)?;
         drain(&mut sink, &mut taken)?;
     }

@@ -19,8 +19,8 @@ pub enum Why {
     Closed,
     /// The item of this file and serial was accepted before.
     Double,
-    /// A growth was refused.
-    Memory,
+    /// The serial is at least [`SLOTS`](crate::SLOTS) past the number of that file's items that were handed out.
+    Far,
     /// A close below a serial that was accepted before.
     Short,
 }

@@ -1,7 +1,6 @@
 //! The hub: a sink, the tail behind it, and the trace of what went through.
 ghost use Rattle.std.specs.Prelude.{◌≡◌, ℕ, List, [], ◌∷◌, ◌++◌, MatchResult, IfOk, None};
 
-use crate::events::Why;
 use crate::faults::Memory;
 use crate::sinks::Sink;
 use crate::tails::Tail;
@@ -15,7 +14,7 @@ pub(crate) struct Hub<S, O> {
 }
 
 impl<O: Drop, S: Tail<Out = O>> Hub<S, O> {
-    ghost use Rattle.fq_lanes.specs.Refusals.{refusal};
+    ghost use Rattle.fq_lanes.specs.Refusals.{refusal_now};
     ghost use Rattle.fq_lanes.specs.Sink.{file_count, waiting_in};
     ghost use Rattle.fq_lanes.specs.Hub.{HandsOn, HandedOn, HasStopped, MayTell};
     ghost use Rattle.fq_lanes.specs.declared.events.Event.{Event};
@@ -42,17 +41,14 @@ impl<O: Drop, S: Tail<Out = O>> Hub<S, O> {
         requires { MayTell self.old (Offer file serial out) }
         ensures files { file_count self.new.sink ≡ file_count self.old.sink }
         ensures handed { (first : S) (events : List (Event O)) → HandedOn S.takes first events self.old →
-            refusal (file_count self.old.sink) events (Offer file serial out) ≡ None →
+            refusal_now (file_count self.old.sink) events (Offer file serial out) ≡ None →
             let now = events ++ Offer file serial out ∷ [] in
             MatchResult result (λ _. HandedOn S.takes first now self.new)
             (λ _. HasStopped S.takes S.refuses first now (file_count self.old.sink) self.new.tail) }
     {
         match self.sink.offer(file, serial, out) {
             Ok(()) => self.hand_on(),
-            Err((why, _)) => match why {
-                Why::Memory => Err(Memory),
-                _ => unreachable!(),
-            },
+            Err(_) => unreachable!(),
         }
     }
 
@@ -61,7 +57,7 @@ impl<O: Drop, S: Tail<Out = O>> Hub<S, O> {
         requires { MayTell self.old (Close file items) }
         ensures files { file_count self.new.sink ≡ file_count self.old.sink }
         ensures handed { (first : S) (events : List (Event O)) → HandedOn S.takes first events self.old →
-            refusal (file_count self.old.sink) events (Close file items) ≡ None →
+            refusal_now (file_count self.old.sink) events (Close file items) ≡ None →
             let now = events ++ Close file items ∷ [] in
             MatchResult result (λ _. HandedOn S.takes first now self.new)
             (λ _. HasStopped S.takes S.refuses first now (file_count self.old.sink) self.new.tail) }

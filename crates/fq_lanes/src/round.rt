@@ -6,6 +6,7 @@ ghost use Rattle.fq_lanes.specs.Hub.{HandedOn, HasStopped};
 ghost use Rattle.fq_lanes.specs.Inlet.{left_in};
 ghost use Rattle.fq_lanes.specs.Ledger.{times, Books, OffersWorked};
 ghost use Rattle.fq_lanes.specs.Round.{InRound, ReadsOn, BreaksOff, AreItems, job_numbers};
+ghost use Rattle.fq_lanes.specs.Window.{AreNear};
 ghost use Rattle.fq_lanes.specs.Sink.{file_count};
 ghost use Rattle.fq_lanes.specs.declared.events.Event.{Event};
 ghost use Rattle.fq_lanes.specs.declared.inlet.Inlet.{Inlet};
@@ -20,7 +21,8 @@ use crate::workers::Work;
 use std::alloc::Global;
 use std::thread::Threads;
 
-/// One feed's turn in a round: its next item is one job more, or its file is closed.
+/// One feed's turn in a round: its next item is one job more, or its file is closed. It is passed over where the sink
+/// has no slot for its next item yet.
 fn take_turn<F: Feed, S: Tail>(
     inlets: &mut Vec<Inlet<F>>,
     hub: &mut Hub<S, S::Out>,
@@ -41,11 +43,15 @@ where
         (BreaksOff F.gives F.is_open F.may_fail S.takes S.refuses feeds first items events inlets.new.items hub.new) }
     ensures fewer { OnOk result (left_in F.most inlets.new.items + length jobs.new.items ≤ left_in F.most inlets.old.items + length jobs.old.items) }
     ensures jobs { OnOk result ((length jobs.old.items ≤ length jobs.new.items) × (length jobs.new.items ≤ length jobs.old.items + 1)) }
-    ensures ended { OnOk result (length jobs.new.items ≡ length jobs.old.items → (inlet : Inlet F) → slice_get inlets.new.items file ≡ Some inlet → inlet.ended ≡ true) }
+    ensures ended { OnOk result (length jobs.new.items ≡ 0 → ((i : ℕ) (inlet : Inlet F) → i < file → slice_get inlets.old.items i ≡ Some inlet → inlet.ended ≡ true) →
+        (inlet : Inlet F) → slice_get inlets.new.items file ≡ Some inlet → inlet.ended ≡ true) }
     ensures others { (i : ℕ) → (i ≡ file → ⊥) → slice_get inlets.new.items i ≡ slice_get inlets.old.items i }
 {
     let inlet = &mut inlets[file as usize];
     if inlet.ended {
+        return Ok(());
+    }
+    if hub.sink.is_far(file, inlet.items) {
         return Ok(());
     }
     match inlet.next() {
@@ -88,7 +94,7 @@ where
         (BreaksOff F.gives F.is_open F.may_fail S.takes S.refuses feeds first items events inlets.new.items hub.new) }
     ensures fewer { OnOk result (left_in F.most inlets.new.items + length jobs.new.items ≤ left_in F.most inlets.old.items + length jobs.old.items) }
     ensures jobs { OnOk result ((length jobs.old.items ≤ length jobs.new.items) × (length jobs.new.items ≤ workers)) }
-    ensures ended { OnOk result (length jobs.new.items ≡ length jobs.old.items → (i : ℕ) (inlet : Inlet F) → slice_get inlets.new.items i ≡ Some inlet → inlet.ended ≡ true) }
+    ensures ended { OnOk result (length jobs.new.items ≡ 0 → (i : ℕ) (inlet : Inlet F) → slice_get inlets.new.items i ≡ Some inlet → inlet.ended ≡ true) }
 {
     for file in 0..inlets.len() {
         if jobs.len() >= workers {
@@ -99,8 +105,8 @@ where
     Ok(())
 }
 
-/// The jobs of the next round: round and round the feeds, one item from each that hasn't ended, until there are as many
-/// as workers or every feed has ended.
+/// The jobs of the next round: round and round the feeds, one item from each that hasn't ended and that the sink has a
+/// slot for, until there are as many as workers or no feed may give one. The lowest feed that hasn't ended always may.
 pub(crate) fn collect_round<F: Feed, S: Tail>(
     alloc: Global,
     inlets: &mut Vec<Inlet<F>>,
@@ -146,11 +152,11 @@ where
     W::Out: Drop + Send,
     requires { (first : S) × (items : List (List W.Item)) × (events : List (Event W.Out)) × HandedOn S.takes first events hub.old
         × Books items (λ f s. times f s (job_numbers jobs.items)) events × OffersWorked (W.gives work.now) items events
-        × AreItems items jobs.items × (file_count hub.old.sink ≡ length items) }
+        × AreItems items jobs.items × (file_count hub.old.sink ≡ length items) × AreNear events (file_count hub.old.sink) (job_numbers jobs.items) }
     ensures files { file_count hub.new.sink ≡ file_count hub.old.sink }
     ensures offers { (first : S) (items : List (List W.Item)) (events : List (Event W.Out)) → HandedOn S.takes first events hub.old
         → Books items (λ f s. times f s (job_numbers jobs.items)) events → OffersWorked (W.gives work.now) items events
-        → AreItems items jobs.items → file_count hub.old.sink ≡ length items
+        → AreItems items jobs.items → file_count hub.old.sink ≡ length items → AreNear events (file_count hub.old.sink) (job_numbers jobs.items)
         → (events' : List (Event W.Out)) × (waiting : ℕ → ℕ → ℕ) × Books items waiting events' × OffersWorked (W.gives work.now) items events'
         × ((f : ℕ) → close_at events' f ≡ close_at events f)
         × MatchResult result (λ _. HandedOn S.takes first events' hub.new × ((f s : ℕ) → waiting f s ≡ 0))

@@ -107,8 +107,9 @@ where
 /// and hands the tail back.
 ///
 /// In a round the hub goes round the feeds in file order, one item from each that hasn't ended, until it has as many
-/// items as workers or every feed has ended. The items are worked by as many threads as can be made. So a round is as
-/// slow as its slowest item, and memory holds a round's items and the answers that wait for an earlier one.
+/// items as workers or no feed may give one. A feed may not where its next serial is at least [`SLOTS`](crate::SLOTS) past the number of its
+/// items that the tail was handed. The items are worked by as many threads as can be made. So a round is as slow as its
+/// slowest item, and memory holds a round's items and at most `SLOTS` answers of each file that wait for an earlier one.
 ///
 /// `feeds[f]` is file f. With no fault the tail has taken the work on each feed's items, each once, by file, then serial.
 /// After a fault the tail has taken a prefix of that. Once a fault is known nothing more is offered; the feeds that have not ended

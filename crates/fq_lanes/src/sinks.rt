@@ -1,15 +1,15 @@
 //! The reorder sink.
-ghost use Rattle.std.specs.Prelude.{◌≡◌, ◌≤◌, ◌<◌, ◌+◌, ℕ, suc, List, [], ◌∷◌, ◌++◌, length, MatchResult, MatchOption, IfOk, IsTrue, ◌↔◌, Some, None, vec_len, false};
+ghost use Rattle.std.specs.Prelude.{◌≡◌, ◌≤◌, ◌<◌, ◌+◌, ℕ, suc, List, [], ◌∷◌, ◌++◌, length, MatchResult, MatchOption, IfOk, OnErr, IsTrue, ◌↔◌, Some, None, vec_len, false, nat_le};
 ghost use Rattle.std.specs.List.{slice_get, list_all};
 ghost use Rattle.std.specs.Option.{IfSome};
 
 use crate::events::Why;
 use crate::faults::Memory;
-use crate::file_state::FileState;
+use crate::file_state::{FileState, SLOTS};
 use std::alloc::Global;
 
-/// Takes the items of several files in any order, and hands them out by file, then serial: file 0's serials from 0
-/// on, then file 1's once file 0 is closed and complete, and so on.
+/// Takes the items of several files in any order, each less than [`SLOTS`] past those of its file that were handed out, and
+/// hands them out by file, then serial: file 0's serials from 0 on, then file 1's once file 0 is closed and complete, and so on.
 ///
 /// What it did so far is told by the list of events that it accepted and by how many items it handed out: `new`
 /// starts with none, and each call says how it goes on.
@@ -23,19 +23,22 @@ pub struct Sink<T> {
 
 impl<T: Drop> Sink<T> {
     ghost use Rattle.fq_lanes.specs.Due.{due, handed_count, offer_count, is_closed_at, all_finished};
-    ghost use Rattle.fq_lanes.specs.Refusals.{refusal, IsRefusal};
+    ghost use Rattle.fq_lanes.specs.Refusals.{refusal_at};
     ghost use Rattle.fq_lanes.specs.Sink.{HasAccepted, file_count, is_finished_file, waiting_in};
     ghost use Rattle.fq_lanes.specs.declared.events.Event.{Event};
     ghost use Rattle.fq_lanes.specs.declared.file_state.FileState.{FileState};
     ghost use Rattle.fq_lanes.specs.declared.events.Event.TheVariants.{Offer, Close};
 
-    /// A sink of files 0 to `files` - 1, of which nothing was accepted.
+    /// A sink of files 0 to `files` - 1, of which nothing was accepted, with `SLOTS` slots for each. The other calls take no
+    /// memory. `Memory` where the slots could not be made; a sink of no file takes none.
     pub fn new(alloc: Global, files: u16) -> Result<Self, Memory>
-        ensures { IfOk result (λ s. (file_count s ≡ files) × HasAccepted s [] 0) }
+        ensures made { IfOk result (λ s. (file_count s ≡ files) × HasAccepted s [] 0) }
+        ensures memory { OnErr result (0 < files) }
     {
         let mut made = Vec::new(alloc);
         for _ in 0..files {
-            if made.push(FileState::new(alloc)).is_err() {
+            let file = FileState::new(alloc)?;
+            if made.push(file).is_err() {
                 return Err(Memory);
             }
         }
@@ -43,15 +46,16 @@ impl<T: Drop> Sink<T> {
     }
 
     /// Accepts an item, or hands it back with the first that holds: `Stranger` (no such file), `Closed` (the serial
-    /// is at or past the file's close), `Double` (an item of this file and serial was accepted), `Memory`.
-    /// A refused offer changes nothing. Costs a look-up among the items of that file that wait.
+    /// is at or past the file's close), `Double` (an item of this file and serial was accepted), `Far` (the serial is at
+    /// least `SLOTS` past the number of that file's items that were handed out).
+    /// A refused offer changes nothing. Takes no memory.
     pub fn offer(&mut self, file: u16, serial: u32, item: T) -> Result<(), (Why, T)>
         ensures files { file_count self.new ≡ file_count self.old }
         ensures accepts { (events : List (Event T)) (taken : ℕ) → HasAccepted self.old events taken →
-            let event = Offer file serial item in let reason = refusal (file_count self.old) events event in
+            let event = Offer file serial item in let reason = refusal_at (file_count self.old) events taken event in
             MatchResult result
             (λ _. (reason ≡ None) × HasAccepted self.new (events ++ event ∷ []) taken)
-            (λ e. IsRefusal reason e.0 × (e.1 ≡ item) × HasAccepted self.new events taken) }
+            (λ e. (reason ≡ Some e.0) × (e.1 ≡ item) × HasAccepted self.new events taken) }
     {
         if file as usize >= self.files.len() {
             return Err((Why::Stranger, item));
@@ -60,13 +64,23 @@ impl<T: Drop> Sink<T> {
         entry.offer(serial, item)
     }
 
+    /// Whether an offer of this file and serial is too early, since the serial is at least `SLOTS` past the number of that
+    /// file's items that were handed out. Takes no memory.
+    pub(crate) fn is_far(&self, file: u16, serial: u32) -> bool
+        requires { file < file_count self.now }
+        ensures { (events : List (Event T)) (taken : ℕ) → HasAccepted self.now events taken →
+            result ≡ nat_le (handed_count file taken (due events (file_count self.now)) + SLOTS) serial }
+    {
+        self.files[file as usize].is_far(serial)
+    }
+
     /// Says that a file has `items` items, or answers the first that holds: `Stranger` (no such file), `Closed`
     /// (closed before), `Short` (an item of this file with a serial of `items` or more was accepted).
     /// A refused close changes nothing. Takes no memory.
     pub fn close(&mut self, file: u16, items: u32) -> Result<(), Why>
         ensures files { file_count self.new ≡ file_count self.old }
         ensures accepts { (events : List (Event T)) (taken : ℕ) → HasAccepted self.old events taken →
-            let event = Close file items in let reason = refusal (file_count self.old) events event in
+            let event = Close file items in let reason = refusal_at (file_count self.old) events taken event in
             MatchResult result
             (λ _. (reason ≡ None) × HasAccepted self.new (events ++ event ∷ []) taken)
             (λ why. (reason ≡ Some why) × HasAccepted self.new events taken) }
@@ -126,10 +140,11 @@ impl<T: Drop> Sink<T> {
         self.files.iter().all(|file| file.is_finished())
     }
 
-    /// How many items of this file were accepted and not handed out. Takes no memory.
+    /// How many items of this file were accepted and not handed out: at most `SLOTS`. Takes no memory.
     pub fn held(&self, file: u16) -> u64
         requires { file < file_count self.now }
-        ensures { (events : List (Event T)) (taken : ℕ) → HasAccepted self.now events taken →
+        ensures few { result ≤ SLOTS }
+        ensures count { (events : List (Event T)) (taken : ℕ) → HasAccepted self.now events taken →
             result + handed_count file taken (due events (file_count self.now)) ≡ offer_count events file }
     {
         self.files[file as usize].held()

@@ -192,6 +192,33 @@ fn a_long_feed_keeps_its_order(rt: HostRuntime) -> Result<(), Fail> {
 }
 
 #[test]
+fn a_second_feed_waits_for_the_first(rt: HostRuntime) -> Result<(), Fail> {
+    for workers in [1, 2, 16] {
+        let calls = Cell::new(0);
+        let feeds = vec![in rt.alloc();
+            make_steps(&calls, 0, 1, 40),
+            make_steps(&calls, 40, 1, 40),
+        ]?;
+        let (tail, outcome) = run_rounds(&rt, rt.alloc(), feeds, &DOUBLES, room(&rt, 80), workers);
+        let report = outcome.ok().ok_or("a fault")?;
+        assert_eq!(rt; report.trace.len(), 80);
+        assert_eq!(rt;
+            tail.taken
+                .iter()
+                .map(|e| e.2)
+                .collect::<Vec<u64>>(rt.alloc())?
+                .as_slice(),
+            (0..80u64)
+                .map(|n| n * 2)
+                .collect::<Vec<u64>>(rt.alloc())?
+                .as_slice()
+        );
+        assert_eq!(rt; calls.get(), 82);
+    }
+    Ok(())
+}
+
+#[test]
 fn names_the_feed_that_failed(rt: HostRuntime) -> Result<(), Fail> {
     for workers in [1, 2, 16] {
         let calls = Cell::new(0);

@@ -1,8 +1,29 @@
 //! Events on a sink.
 use crate::driver::drive;
-use crate::events::{Event, Why};
+use crate::events::{Event, Refused, Why};
 use crate::sinks::Sink;
+use std::alloc::Global;
+use std::process::Abort;
 use std::test::Fail;
+
+/// Runs the events on a sink of so many files, and compares what was taken and refused.
+fn drives<R: Abort>(
+    rt: &R,
+    alloc: Global,
+    files: u16,
+    events: Vec<Event<char>>,
+    wanted_taken: &[(u16, u32, char)],
+    wanted_refused: &[(usize, Why, Option<char>)],
+) -> Result<(), Fail> {
+    let (taken, refused) = drive(alloc, files, events)?;
+    let refused = refused
+        .iter()
+        .map(|refusal: &Refused<char>| (refusal.event, refusal.why, refusal.item))
+        .collect::<Vec<(usize, Why, Option<char>)>>(alloc)?;
+    assert_eq!(rt; taken.as_slice(), wanted_taken);
+    assert_eq!(rt; refused.as_slice(), wanted_refused);
+    Ok(())
+}
 
 #[test]
 fn puts_two_items_in_order_and_refuses_three_events(rt: HostRuntime) -> Result<(), Fail> {
@@ -14,22 +35,18 @@ fn puts_two_items_in_order_and_refuses_three_events(rt: HostRuntime) -> Result<(
         Event::Offer(0, 2, 'd'),
         Event::Offer(3, 0, 'e'),
     ]?;
-    let (taken, refused) = drive(rt.alloc(), 1, events)?;
-    assert_eq!(rt; taken.as_slice(), [(0, 0, 'a'), (0, 1, 'b')].as_slice());
-    assert_eq!(rt; refused.len(), 3);
-    assert_eq!(rt;
-        (refused[0].event, refused[0].why, refused[0].item),
-        (2, Why::Double, Some('c'))
-    );
-    assert_eq!(rt;
-        (refused[1].event, refused[1].why, refused[1].item),
-        (4, Why::Closed, Some('d'))
-    );
-    assert_eq!(rt;
-        (refused[2].event, refused[2].why, refused[2].item),
-        (5, Why::Stranger, Some('e'))
-    );
-    Ok(())
+    drives(
+        &rt,
+        rt.alloc(),
+        1,
+        events,
+        &[(0, 0, 'a'), (0, 1, 'b')],
+        &[
+            (2, Why::Double, Some('c')),
+            (4, Why::Closed, Some('d')),
+            (5, Why::Stranger, Some('e')),
+        ],
+    )
 }
 
 #[test]
@@ -42,21 +59,123 @@ fn refuses_closes(rt: HostRuntime) -> Result<(), Fail> {
         Event::Close(3, 0),
         Event::Offer(0, 0, 'a'),
     ]?;
-    let (taken, refused) = drive(rt.alloc(), 1, events)?;
-    assert_eq!(rt; taken.as_slice(), [(0, 0, 'a'), (0, 1, 'b')].as_slice());
-    assert_eq!(rt; refused.len(), 3);
-    assert_eq!(rt;
-        (refused[0].event, refused[0].why, refused[0].item),
-        (1, Why::Short, None)
-    );
-    assert_eq!(rt;
-        (refused[1].event, refused[1].why, refused[1].item),
-        (3, Why::Closed, None)
-    );
-    assert_eq!(rt;
-        (refused[2].event, refused[2].why, refused[2].item),
-        (4, Why::Stranger, None)
-    );
+    drives(
+        &rt,
+        rt.alloc(),
+        1,
+        events,
+        &[(0, 0, 'a'), (0, 1, 'b')],
+        &[
+            (1, Why::Short, None),
+            (3, Why::Closed, None),
+            (4, Why::Stranger, None),
+        ],
+    )
+}
+
+#[test]
+fn refuses_the_ninth_serial_until_an_item_is_handed_out(rt: HostRuntime) -> Result<(), Fail> {
+    let events = vec![in rt.alloc();
+        Event::Offer(0, 8, 'a'),
+        Event::Offer(0, 0, 'b'),
+        Event::Offer(0, 8, 'c'),
+    ]?;
+    drives(
+        &rt,
+        rt.alloc(),
+        1,
+        events,
+        &[(0, 0, 'b')],
+        &[(0, Why::Far, Some('a'))],
+    )
+}
+
+#[test]
+fn refuses_past_the_close_before_far(rt: HostRuntime) -> Result<(), Fail> {
+    let events = vec![in rt.alloc(); Event::Close(0, 3), Event::Offer(0, 9, 'a')]?;
+    drives(
+        &rt,
+        rt.alloc(),
+        1,
+        events,
+        &[],
+        &[(1, Why::Closed, Some('a'))],
+    )
+}
+
+#[test]
+fn refuses_without_files(rt: HostRuntime) -> Result<(), Fail> {
+    let events = vec![in rt.alloc(); Event::Offer(0, 0, 'a')]?;
+    drives(
+        &rt,
+        rt.alloc(),
+        0,
+        events,
+        &[],
+        &[(0, Why::Stranger, Some('a'))],
+    )
+}
+
+#[test]
+fn refuses_at_the_largest_numbers(rt: HostRuntime) -> Result<(), Fail> {
+    let events = vec![in rt.alloc();
+        Event::Close(1, 0),
+        Event::Close(1, 0),
+        Event::Offer(1, 0, 'a'),
+        Event::Offer(0, u32::MAX, 'b'),
+        Event::Close(0, u32::MAX),
+    ]?;
+    drives(
+        &rt,
+        rt.alloc(),
+        2,
+        events,
+        &[],
+        &[
+            (1, Why::Closed, None),
+            (2, Why::Closed, Some('a')),
+            (3, Why::Far, Some('b')),
+        ],
+    )
+}
+
+#[test]
+fn refuses_at_the_last_slot(rt: HostRuntime) -> Result<(), Fail> {
+    let events = vec![in rt.alloc();
+        Event::Offer(0, 7, 'a'),
+        Event::Offer(0, 7, 'b'),
+        Event::Close(0, 7),
+        Event::Offer(0, 8, 'c'),
+    ]?;
+    drives(
+        &rt,
+        rt.alloc(),
+        1,
+        events,
+        &[],
+        &[
+            (1, Why::Double, Some('b')),
+            (2, Why::Short, None),
+            (3, Why::Far, Some('c')),
+        ],
+    )
+}
+
+#[test]
+fn holds_eight_items_of_a_file(rt: HostRuntime) -> Result<(), Fail> {
+    let mut sink: Sink<u32> = Sink::new(rt.alloc(), 1)?;
+    for serial in 1..8u32 {
+        assert_eq!(rt; sink.offer(0, serial, serial), Ok(()));
+    }
+    assert_eq!(rt; sink.offer(0, 8, 8), Err((Why::Far, 8)));
+    assert_eq!(rt; sink.offer(0, 0, 0), Ok(()));
+    assert_eq!(rt; sink.held(0), 8);
+    for serial in 0..8u32 {
+        assert_eq!(rt; sink.next(), Some((0, serial, serial)));
+    }
+    assert_eq!(rt; sink.next(), None);
+    assert_eq!(rt; sink.offer(0, 15, 15), Ok(()));
+    assert_eq!(rt; sink.offer(0, 16, 16), Err((Why::Far, 16)));
     Ok(())
 }
 

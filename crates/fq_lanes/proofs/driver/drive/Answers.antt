@@ -5,7 +5,7 @@ use Rattle.std.proofs.lemmas.Iterator.Adapters.{YieldsList-from_vec}
 use Rattle.std.proofs.lemmas.Iterator.Consumers.{YieldsList-turn, YieldsList-end, YieldsList-from_enumerate}
 use Rattle.std.proofs.lemmas.List.FromFn.{get_or-enumerate_from, length-enumerate_from}
 use Rattle.fq_lanes.specs.Due.{due}
-use Rattle.fq_lanes.specs.Refusals.{refusal, after, refused_one, accepted_of, refused_of, Accepted}
+use Rattle.fq_lanes.specs.Refusals.{refusal_now, refusal_at, after, refused_one, accepted_of, refused_of, Accepted}
 use Rattle.fq_lanes.specs.Sink.{SinkFacts, file_count}
 use Rattle.fq_lanes.specs.declared.events.Event.{Event}
 use Rattle.fq_lanes.proofs.DueLemmas.{due_after, events_push, events_length, events_same, accepted_of_push, refused_of_push}
@@ -23,29 +23,32 @@ loop-number-preserved g c =
     let at : c.in-Some.number ≡ 0 + length c.loop-number.yielded = ap (λ p. p.0) turn.1 ∙ ap (λ p. p.0) place in
     omega (arith, size, at) in
     let before : List (Event g.row.T.Denot) = accepted_of c.args.files [] es in
-    let now : List (Event g.row.T.Denot) = after (refusal c.args.files before c.in-Some.event) before c.in-Some.event in
+    let now : List (Event g.row.T.Denot) = after (refusal_now c.args.files before c.in-Some.event) before c.in-Some.event in
     let push : map {A = ℕ × Event g.row.T.Denot} {B = Event g.row.T.Denot} (λ p. p.1) (c.loop-number.yielded ++ (c.in-Some.number, c.in-Some.event) ∷ []) ≡ es ++ c.in-Some.event ∷ [] =
     events_push c.loop-number.yielded c.in-Some.number c.in-Some.event in
     let files : file_count c.loop-number.sink ≡ c.args.files = c.loop-number.invariant.0 in
-    let told_files : file_count c.tell.new.sink ≡ c.args.files = c.in_ok-refusal.ensures.files ∙ files in
-    let step = subst (λ n. SinkFacts c.tell.new.sink.files.items c.tell.new.sink.at (after (refusal n before c.in-Some.event) before c.in-Some.event) (length c.loop-number.taken.items)
-    × (option_to_list c.in_ok-refusal.refusal ≡ refused_one (refusal n before c.in-Some.event) c.in-Some.number c.in-Some.event)) files
-    (c.in_ok-refusal.ensures.holds before (length c.loop-number.taken.items) c.loop-number.invariant.1) in
+    let told_files : file_count c.tell-refusal.new.sink ≡ c.args.files = c.tell-refusal.ensures.files ∙ files in
+    let size : length c.loop-number.taken.items ≡ length (due before c.args.files) = ap length c.loop-number.invariant.2 in
+    let step = subst (λ t. SinkFacts c.tell-refusal.new.sink.files.items c.tell-refusal.new.sink.at (after (refusal_at c.args.files before t c.in-Some.event) before c.in-Some.event) (length c.loop-number.taken.items)
+    × (option_to_list c.tell-refusal.result ≡ refused_one (refusal_at c.args.files before t c.in-Some.event) c.in-Some.number c.in-Some.event)) size
+    (subst (λ n. SinkFacts c.tell-refusal.new.sink.files.items c.tell-refusal.new.sink.at (after (refusal_at n before (length c.loop-number.taken.items) c.in-Some.event) before c.in-Some.event) (length c.loop-number.taken.items)
+    × (option_to_list c.tell-refusal.result ≡ refused_one (refusal_at n before (length c.loop-number.taken.items) c.in-Some.event) c.in-Some.number c.in-Some.event)) files
+    (c.tell-refusal.ensures.holds before (length c.loop-number.taken.items) c.loop-number.invariant.1)) in
     let begins : IsPrefix (due before c.args.files) (due now c.args.files) =
-    due_after c.args.files (refusal c.args.files before c.in-Some.event) before c.in-Some.event (subst (λ n. Accepted n now) told_files step.0.accepted) in
-    let front : IsPrefix c.loop-number.taken.items (due now (file_count c.tell.new.sink)) =
+    due_after c.args.files (refusal_now c.args.files before c.in-Some.event) before c.in-Some.event (subst (λ n. Accepted n now) told_files step.0.accepted) in
+    let front : IsPrefix c.loop-number.taken.items (due now (file_count c.tell-refusal.new.sink)) =
     subst (λ n. IsPrefix c.loop-number.taken.items (due now n)) (sym told_files) (subst (λ l. IsPrefix l (due now c.args.files)) (sym c.loop-number.invariant.2) begins) in
     let out = c.in_ok-drain.ensures.holds now step.0 front in
     let is : accepted_of c.args.files [] (map {A = ℕ × Event g.row.T.Denot} {B = Event g.row.T.Denot} (λ p. p.1) (c.loop-number.yielded ++ (c.in-Some.number, c.in-Some.event) ∷ [])) ≡ now =
     ap (λ l. accepted_of c.args.files [] l) push ∙ accepted_of_push c.args.files [] es c.in-Some.event in
     let noted : refused_of c.args.files 0 [] (map {A = ℕ × Event g.row.T.Denot} {B = Event g.row.T.Denot} (λ p. p.1) (c.loop-number.yielded ++ (c.in-Some.number, c.in-Some.event) ∷ []))
-    ≡ refused_of c.args.files 0 [] es ++ refused_one (refusal c.args.files before c.in-Some.event) c.in-Some.number c.in-Some.event =
+    ≡ refused_of c.args.files 0 [] es ++ refused_one (refusal_now c.args.files before c.in-Some.event) c.in-Some.number c.in-Some.event =
     ap (λ l. refused_of c.args.files 0 [] l) push ∙ refused_of_push c.args.files 0 [] es c.in-Some.event
-    ∙ ap (λ n. refused_of c.args.files 0 [] es ++ refused_one (refusal c.args.files before c.in-Some.event) n c.in-Some.event) number in (
+    ∙ ap (λ n. refused_of c.args.files 0 [] es ++ refused_one (refusal_now c.args.files before c.in-Some.event) n c.in-Some.event) number in (
       c.in_ok-drain.ensures.files ∙ told_files,
       subst (λ l. SinkFacts c.drain.new.sink.files.items c.drain.new.sink.at l (length c.drain.new.taken.items)) (sym is) out.0,
       out.1 ∙ ap (λ n. due now n) told_files ∙ ap (λ l. due l c.args.files) (sym is),
-      c.in_ok-note.ensures ∙ ap (λ l. l ++ option_to_list c.in_ok-refusal.refusal) c.loop-number.invariant.3 ∙ ap (λ l. refused_of c.args.files 0 [] es ++ l) step.1 ∙ sym noted,
+      c.in_ok-note.ensures ∙ ap (λ l. l ++ option_to_list c.tell-refusal.result) c.loop-number.invariant.3 ∙ ap (λ l. refused_of c.args.files 0 [] es ++ l) step.1 ∙ sym noted,
     )
 
 pub returns-clause-taken : goal.returns-clause-taken

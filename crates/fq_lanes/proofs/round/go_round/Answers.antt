@@ -25,12 +25,12 @@ loop-file-preserved g c = record {
   more = omega (arith, c.loop-file.invariant.more, c.in_ok-take_turn.ensures.jobs.0);
   within = omega (arith, c.in_ok-take_turn.ensures.jobs.1);
   ended = λ same i inlet below e.
-      let kept : length c.loop-file.jobs.items ≡ length c.args.jobs.now.items = omega (arith, same, c.loop-file.invariant.more, c.in_ok-take_turn.ensures.jobs.0) in
+      let kept : length c.loop-file.jobs.items ≡ 0 = omega (arith, same, c.in_ok-take_turn.ensures.jobs.0) in
       elim (cases_lt i c.loop-file.file) [
         | inl lt ↦ c.loop-file.invariant.ended kept i inlet lt (sym (c.take_turn.ensures.others i (λ is. omega (arith, is, lt))) ∙ e)
         | inr le ↦
             let here : i ≡ c.loop-file.file = omega (arith, le, below) in
-            c.in_ok-take_turn.ensures.ended (omega (arith, same, kept)) inlet (ap (slice_get c.take_turn.new.inlets.items) (sym here) ∙ e)
+            c.in_ok-take_turn.ensures.ended same (λ k n lt at. c.loop-file.invariant.ended kept k n (omega (arith, lt)) at) inlet (ap (slice_get c.take_turn.new.inlets.items) (sym here) ∙ e)
       ];
 }
 

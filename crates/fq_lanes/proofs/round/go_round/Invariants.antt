@@ -17,5 +17,5 @@ invariant-loop-file g l = record {
   fewer : left_in g.F.Feed.most l.inlets.items + length l.jobs.items ≤ left_in g.F.Feed.most l.initial.inlets.items + length l.initial.jobs.items;
   more : length l.initial.jobs.items ≤ length l.jobs.items;
   within : length l.jobs.items ≤ l.workers;
-  ended : length l.jobs.items ≡ length l.initial.jobs.items → (i : ℕ) (inlet : Inlet g.row.F.Denot) → i < l.file → slice_get l.inlets.items i ≡ Some inlet → inlet.ended ≡ true;
+  ended : length l.jobs.items ≡ 0 → (i : ℕ) (inlet : Inlet g.row.F.Denot) → i < l.file → slice_get l.inlets.items i ≡ Some inlet → inlet.ended ≡ true;
 }

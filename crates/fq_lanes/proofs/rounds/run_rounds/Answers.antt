@@ -28,46 +28,46 @@ returns-in_default-clause-fault g c =
 pub run_open-outcome-requires-clause-round : goal.run_open-outcome-requires-clause-round
 run_open-outcome-requires-clause-round g c _ _ =
     let hub : Hub g.row.S.Denot g.row.W-Out.Denot = record { sink = c.in-Ok-new.sink; tail = c.args.tail; trace = c.new-2.result } in
-    let files : file_count c.in-Ok-new.sink ≡ length c.args.feeds.items = c.in-Ok-new.ensures.0 ∙ (search rules) in (
+    let files : file_count c.in-Ok-new.sink ≡ length c.args.feeds.items = c.in-Ok-new.ensures.made.0 ∙ (search rules) in (
       c.args.feeds.items,
       c.args.tail,
       map (λ _. []) c.args.feeds.items,
       [],
-      begins g.F.Feed.gives g.F.Feed.is_open g.F.Feed.may_fail g.F.Feed.most g.S.Tail.takes c.args.feeds.items c.in-Ok.inlets.items hub g.met.F.Feed.few c.requires.open c.in-Ok.ensures c.in-Ok-new.ensures.1 files c.new-2.ensures.items,
+      begins g.F.Feed.gives g.F.Feed.is_open g.F.Feed.may_fail g.F.Feed.most g.S.Tail.takes c.args.feeds.items c.in-Ok.inlets.items hub g.met.F.Feed.few c.requires.open c.in-Ok.ensures c.in-Ok-new.ensures.made.1 files c.new-2.ensures.items,
       no_offers (g.W.Work.gives c.args.work.now) (map (λ _. []) c.args.feeds.items),
     )
 
 pub returns-in-Ok-outcome-clause-done : goal.returns-in-Ok-outcome-clause-done
 returns-in-Ok-outcome-clause-done g c =
     let hub : Hub g.row.S.Denot g.row.W-Out.Denot = record { sink = c.in-Ok-new.sink; tail = c.args.tail; trace = c.new-2.result } in
-    let files : file_count c.in-Ok-new.sink ≡ length c.args.feeds.items = c.in-Ok-new.ensures.0 ∙ (search rules) in
+    let files : file_count c.in-Ok-new.sink ≡ length c.args.feeds.items = c.in-Ok-new.ensures.made.0 ∙ (search rules) in
     c.in-Ok-outcome.ensures.runs c.args.feeds.items c.args.tail (map (λ _. []) c.args.feeds.items) []
-    (begins g.F.Feed.gives g.F.Feed.is_open g.F.Feed.may_fail g.F.Feed.most g.S.Tail.takes c.args.feeds.items c.in-Ok.inlets.items hub g.met.F.Feed.few c.requires.open c.in-Ok.ensures c.in-Ok-new.ensures.1 files c.new-2.ensures.items)
+    (begins g.F.Feed.gives g.F.Feed.is_open g.F.Feed.may_fail g.F.Feed.most g.S.Tail.takes c.args.feeds.items c.in-Ok.inlets.items hub g.met.F.Feed.few c.requires.open c.in-Ok.ensures c.in-Ok-new.ensures.made.1 files c.new-2.ensures.items)
     (no_offers (g.W.Work.gives c.args.work.now) (map (λ _. []) c.args.feeds.items))
 
 pub drain_inlets-requires-in-Err-outcome-clause-open : goal.drain_inlets-requires-in-Err-outcome-clause-open
 drain_inlets-requires-in-Err-outcome-clause-open g c =
     let hub : Hub g.row.S.Denot g.row.W-Out.Denot = record { sink = c.in-Ok-new.sink; tail = c.args.tail; trace = c.new-2.result } in
-    let files : file_count c.in-Ok-new.sink ≡ length c.args.feeds.items = c.in-Ok-new.ensures.0 ∙ (search rules) in
+    let files : file_count c.in-Ok-new.sink ≡ length c.args.feeds.items = c.in-Ok-new.ensures.made.0 ∙ (search rules) in
     let ran = c.in-Err-outcome.ensures.runs c.args.feeds.items c.args.tail (map (λ _. []) c.args.feeds.items) []
-    (begins g.F.Feed.gives g.F.Feed.is_open g.F.Feed.may_fail g.F.Feed.most g.S.Tail.takes c.args.feeds.items c.in-Ok.inlets.items hub g.met.F.Feed.few c.requires.open c.in-Ok.ensures c.in-Ok-new.ensures.1 files c.new-2.ensures.items)
+    (begins g.F.Feed.gives g.F.Feed.is_open g.F.Feed.may_fail g.F.Feed.most g.S.Tail.takes c.args.feeds.items c.in-Ok.inlets.items hub g.met.F.Feed.few c.requires.open c.in-Ok.ensures c.in-Ok-new.ensures.made.1 files c.new-2.ensures.items)
     (no_offers (g.W.Work.gives c.args.work.now) (map (λ _. []) c.args.feeds.items)) in
     drains_open g.F.Feed.is_open g.F.Feed.may_fail c.args.feeds.items c.run_open-outcome.new.inlets.items ran.1.0
 
 pub returns-clause-stopped : goal.returns-clause-stopped
 returns-clause-stopped g c =
     let hub : Hub g.row.S.Denot g.row.W-Out.Denot = record { sink = c.in-Ok-new.sink; tail = c.args.tail; trace = c.new-2.result } in
-    let files : file_count c.in-Ok-new.sink ≡ length c.args.feeds.items = c.in-Ok-new.ensures.0 ∙ (search rules) in
+    let files : file_count c.in-Ok-new.sink ≡ length c.args.feeds.items = c.in-Ok-new.ensures.made.0 ∙ (search rules) in
     let ran = c.in-Err-outcome.ensures.runs c.args.feeds.items c.args.tail (map (λ _. []) c.args.feeds.items) []
-    (begins g.F.Feed.gives g.F.Feed.is_open g.F.Feed.may_fail g.F.Feed.most g.S.Tail.takes c.args.feeds.items c.in-Ok.inlets.items hub g.met.F.Feed.few c.requires.open c.in-Ok.ensures c.in-Ok-new.ensures.1 files c.new-2.ensures.items)
+    (begins g.F.Feed.gives g.F.Feed.is_open g.F.Feed.may_fail g.F.Feed.most g.S.Tail.takes c.args.feeds.items c.in-Ok.inlets.items hub g.met.F.Feed.few c.requires.open c.in-Ok.ensures c.in-Ok-new.ensures.made.1 files c.new-2.ensures.items)
     (no_offers (g.W.Work.gives c.args.work.now) (map (λ _. []) c.args.feeds.items)) in
     ran.0
 
 pub returns-clause-fault : goal.returns-clause-fault
 returns-clause-fault g c =
     let hub : Hub g.row.S.Denot g.row.W-Out.Denot = record { sink = c.in-Ok-new.sink; tail = c.args.tail; trace = c.new-2.result } in
-    let files : file_count c.in-Ok-new.sink ≡ length c.args.feeds.items = c.in-Ok-new.ensures.0 ∙ (search rules) in
+    let files : file_count c.in-Ok-new.sink ≡ length c.args.feeds.items = c.in-Ok-new.ensures.made.0 ∙ (search rules) in
     let ran = c.in-Err-outcome.ensures.runs c.args.feeds.items c.args.tail (map (λ _. []) c.args.feeds.items) []
-    (begins g.F.Feed.gives g.F.Feed.is_open g.F.Feed.may_fail g.F.Feed.most g.S.Tail.takes c.args.feeds.items c.in-Ok.inlets.items hub g.met.F.Feed.few c.requires.open c.in-Ok.ensures c.in-Ok-new.ensures.1 files c.new-2.ensures.items)
+    (begins g.F.Feed.gives g.F.Feed.is_open g.F.Feed.may_fail g.F.Feed.most g.S.Tail.takes c.args.feeds.items c.in-Ok.inlets.items hub g.met.F.Feed.few c.requires.open c.in-Ok.ensures c.in-Ok-new.ensures.made.1 files c.new-2.ensures.items)
     (no_offers (g.W.Work.gives c.args.work.now) (map (λ _. []) c.args.feeds.items)) in
     c.drain_inlets-in-Err-outcome.ensures c.args.feeds.items ran.1.0 ran.1.1

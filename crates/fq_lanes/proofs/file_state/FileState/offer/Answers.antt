@@ -1,18 +1,29 @@
-use Rattle.std.proofs.Common.{◌≡◌, Some, None, nat_cmp, sym, ◌∙◌, ◌≤◌, ◌<◌, ◌+◌, arith, ◌⊎◌, subst}
-use Rattle.std.specs.BTreeMap.{btree_map_len, get}
+use Rattle.std.proofs.Common.{◌≡◌, Some, None, ◌%◌, refl, ap, sym, ◌∙◌, ◌≤◌, ◌<◌, ◌+◌, arith, ◌⊎◌, subst, set, length}
+use Rattle.std.specs.List.{slice_get}
+use Rattle.std.proofs.lemmas.Option.{slice_get_read}
+use Rattle.fq_lanes.specs.Slots.{found_in, held_in}
 use Rattle.fq_lanes.proofs.EventLemmas.{none_of}
-use Rattle.fq_lanes.proofs.FileLemmas.{keeps_offer, put_at, one_more, top_max}
+use Rattle.fq_lanes.proofs.FileLemmas.{keeps_offer, top_max}
+use Rattle.fq_lanes.proofs.SlotLemmas.{put_slot, free_slot, within_window, held_put, slot_below, not_far}
 use Rattle.fq_lanes.proofs.file_state.FileState.offer.Goals as goal
 use Rattle.fq_lanes.proofs.file_state.FileState.offer.Goals.{in_default-via-in-None-1, in_default-via-in-Some+else-items-serial}
+use Rattle.fq_lanes.specs.declared.file_state.TheConstants.{SLOTS}
 
-pub returns-in-Ok-clause-follows : goal.returns-in-Ok-clause-follows
-returns-in-Ok-clause-follows g c es f k =
-    let free : get nat_cmp c.args.self.now.held c.args.serial ≡ None = none_of (get nat_cmp c.args.self.now.held c.args.serial) (sym c.contains_key.ensures ∙ c.if-contains_key.false) in
-    keeps_offer (get nat_cmp c.args.self.now.held) (get nat_cmp c.insert.new.self) (btree_map_len c.args.self.now.held) (btree_map_len c.insert.new.self)
+pub returns-2-clause-follows : goal.returns-2-clause-follows
+returns-2-clause-follows g c es f k =
+    let below = slot_below c.args.serial in
+    let eight : length c.args.self.now.slots.items ≡ SLOTS = c.args.self.now.whole in
+    let near : c.args.serial < c.args.self.now.taken + SLOTS = not_far c.args.self.now.taken c.args.serial (sym c.is_far.ensures ∙ c.if-is_far.false) in
+    let empty : c.index.result.now ≡ None = none_of c.index.result.now (sym c.is_some.ensures ∙ c.if-is_some.false) in
+    let slot : slice_get c.args.self.now.slots.items (c.args.serial % SLOTS) ≡ Some None =
+    slice_get_read c.args.self.now.slots.items (length c.args.self.now.slots.items) (c.args.serial % SLOTS) c.index.result.now refl (omega (arith, below, eight)) c.index.ensures ∙ ap Some empty in
+    let out = keeps_offer (found_in c.args.self.now.slots.items c.args.self.now.taken) (found_in (set c.args.self.now.slots.items (c.args.serial % SLOTS) (Some c.args.item)) c.args.self.now.taken)
+    (held_in c.args.self.now.slots.items) (held_in (set c.args.self.now.slots.items (c.args.serial % SLOTS) (Some c.args.item)))
     c.args.self.now.taken c.args.self.now.top c.max-self.result c.args.self.now.closed es f c.args.serial c.args.item k
     (λ n e le. elim c.in_default.branch [ in_default-via-in-None-1 w ↦ grind arith | in_default-via-in-Some+else-items-serial w ↦ grind arith ])
     (omega arith)
-    free
-    (λ r _. c.in-Ok.ensures.updates.0 r ∙ put_at c.args.serial r (Some c.args.item) (get nat_cmp c.args.self.now.held r))
-    (one_more c.in-Ok.field-0 (btree_map_len c.args.self.now.held) (btree_map_len c.insert.new.self) (c.in-Ok.ensures.old ∙ free) c.in-Ok.ensures.len)
-    (subst (λ top. ((top ≡ c.args.self.now.top) × (c.args.serial < c.args.self.now.top)) ⊎ ((top ≡ c.args.serial + 1) × (c.args.self.now.top ≤ c.args.serial))) (sym c.max-self.ensures) (top_max c.args.self.now.top c.args.serial))
+    (free_slot c.args.self.now.slots.items c.args.self.now.taken c.args.serial near slot)
+    (λ r le. put_slot c.args.self.now.slots.items c.args.self.now.taken c.args.serial r c.args.item eight (omega arith) near le)
+    (held_put c.args.self.now.slots.items (c.args.serial % SLOTS) c.args.item slot)
+    (subst (λ top. ((top ≡ c.args.self.now.top) × (c.args.serial < c.args.self.now.top)) ⊎ ((top ≡ c.args.serial + 1) × (c.args.self.now.top ≤ c.args.serial))) (sym c.max-self.ensures) (top_max c.args.self.now.top c.args.serial)) in
+    (within_window es f c.args.serial c.args.self.now.taken out.0 near, out.1)
