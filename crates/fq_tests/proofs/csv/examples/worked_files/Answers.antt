@@ -1,7 +1,7 @@
 use Rattle.std.proofs.Common.{refl}
 use lib.Utf8.{encode}
 use Rattle.fq_csv.proofs.OnLiterals.{files_on_literals}
-use Rattle.fq_csv.proofs.examples.worked_files.Goals as goal
+use Rattle.fq_tests.proofs.csv.examples.worked_files.Goals as goal
 
 pub returns-clause-numbers : goal.returns-clause-numbers
 unfolding files_on_literals

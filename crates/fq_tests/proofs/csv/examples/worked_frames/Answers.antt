@@ -1,6 +1,6 @@
 use Rattle.std.proofs.Common.{refl}
 use Rattle.fq_csv.proofs.OnLiterals.{files_on_literals}
-use Rattle.fq_csv.proofs.examples.worked_frames.Goals as goal
+use Rattle.fq_tests.proofs.csv.examples.worked_frames.Goals as goal
 
 pub returns-clause-null_alone : goal.returns-clause-null_alone
 unfolding files_on_literals
