@@ -10,4 +10,8 @@ mod columns;
 #[cfg(test)]
 mod csv;
 #[cfg(test)]
+mod expressions;
+#[cfg(test)]
 mod fixtures;
+#[cfg(test)]
+mod operators;

@@ -1,5 +1,5 @@
 use Rattle.std.proofs.Common.{refl}
-use Rattle.fq_expr.proofs.examples.worked_examples.Goals as goal
+use Rattle.fq_tests.proofs.expressions.examples.worked_examples.Goals as goal
 
 pub returns-clause-logic : goal.returns-clause-logic
 returns-clause-logic c = refl

@@ -4,7 +4,7 @@ use Rattle.fq_column.specs.Frame.{Fields, Name}
 use Rattle.fq_ops.specs.Join.{AreKeys, join_schema}
 use Rattle.fq_ops.specs.Table.{Table}
 use Rattle.fq_ops.proofs.RefusalLemmas.{judged-ok}
-use Rattle.fq_ops.proofs.tests.joins.join.Goals as goal
+use Rattle.fq_tests.proofs.operators.joins.join.Goals as goal
 
 carried : (l r : Fields) (on : List Name) (left right : Fields) (t : Table) → IsOk (join_schema l r on) → l ≡ left → r ≡ right → t.fields ≡ right → t.on ≡ on → IsOk (join_schema left t.fields t.on)
 carried l r on left right t ok e f g h =
@@ -22,6 +22,6 @@ build-requires c =
 pub probe-requires : goal.probe-requires
 probe-requires c =
     let on = map string_bytes c.args.on.now in
-    let ok = judged-ok (join_schema c.schema-in-loop-left.result.now c.schema-in-loop-left-2.result.now on) _ c.in_ok-schema.ensures in
-    carried _ _ on c.left-item.result.fields c.args.right.now.fields c.in_ok-table.table ok c.schema-in-loop-left.ensures c.schema-in-loop-left-2.ensures
+    let ok = judged-ok (join_schema c.schema.result.now c.schema-2.result.now on) _ c.in_ok-names.ensures in
+    carried _ _ on c.args.left.now.fields c.args.right.now.fields c.in_ok-table.table ok c.schema.ensures c.schema-2.ensures
     (ap (λ (t : Table). t.fields) c.in_ok-table.ensures) (ap (λ (t : Table). t.on) c.in_ok-table.ensures)
