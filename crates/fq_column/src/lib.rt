@@ -24,8 +24,3 @@ pub use faults::{BatchFault, Memory, StepFault};
 pub use laws::{cell_laws, stream_laws};
 pub use schemas::Schema;
 pub use texts::Text;
-
-#[cfg(test)]
-mod examples;
-#[cfg(test)]
-mod tests;

@@ -21,8 +21,3 @@ pub use laws::scan_laws;
 pub use printing::{WriteFault, print_frame, write_frame};
 pub use scanners::{MAX_BATCH_SIZE, MAX_ROWS, Scanner};
 pub use scans::Scan;
-
-#[cfg(test)]
-mod examples;
-#[cfg(test)]
-mod tests;

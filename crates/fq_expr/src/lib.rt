@@ -34,8 +34,3 @@ pub use expressions::{Binary, Expr, Unary};
 pub use fronts::{Front, Piece, RowFault};
 pub use laws::steps_of_joined_streams;
 pub use steps::RowStep;
-
-#[cfg(test)]
-mod examples;
-#[cfg(test)]
-mod tests;

@@ -24,8 +24,3 @@ pub use groups::{GroupFault, Grouper};
 pub use joins::{How, JoinTable, Probed, join_laws};
 pub use rolls::Rolling;
 pub use schemas::{group_schema, join_schema, roll_schema};
-
-#[cfg(test)]
-mod examples;
-#[cfg(test)]
-mod tests;

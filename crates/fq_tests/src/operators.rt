@@ -1,0 +1,5 @@
+//! Joins, groupings and rolling sums.
+mod examples;
+mod groups;
+mod joins;
+mod rolls;
