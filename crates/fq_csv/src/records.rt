@@ -6,6 +6,7 @@ ghost use Rattle.fq_csv.specs.File.{Record};
 ghost use Rattle.fq_csv.specs.Records.{IsFailure};
 
 use crate::faults::ScanFault;
+use crate::retrying::Retrying;
 use csv::{ByteRecord, ErrorKind, Reader, ReaderBuilder};
 use fq_column::Memory;
 use std::alloc::Global;
@@ -15,11 +16,11 @@ use std::marker::Model;
 // Room for the bytes of a usual record.
 const RECORD_BYTES: usize = 256;
 
-/// The records of a file, one at a time, in one buffer.
+/// The records of a file, one at a time, in one buffer. A read that is interrupted is tried again.
 #[derive(Drop)]
 pub(crate) struct Records<R: Read> {
     file: u16,
-    reader: Reader<R>,
+    reader: Reader<Retrying<R>>,
     current: ByteRecord,
 }
 
@@ -31,7 +32,7 @@ impl<R: Read> Model for Records<R> {
 
     ghost Value = { Unread };
 
-    ghost view = { λ a. record { file = a.file; current = fields_of a.current; upcoming = upcoming_of R.remaining a.reader } };
+    ghost view = { λ a. record { file = a.file; current = fields_of a.current; upcoming = upcoming_of (λ r. R.remaining r.reader) a.reader } };
 
     ghost invariant = { λ a. has_failed a.reader ≡ false → IsSetUp a.reader };
 }
@@ -52,7 +53,7 @@ impl<R: Read> Records<R> {
         let reader = ReaderBuilder::new()
             .has_headers(false)
             .flexible(true)
-            .from_reader(alloc, reader);
+            .from_reader(alloc, Retrying { reader });
         let current = ByteRecord::with_capacity(alloc, RECORD_BYTES, width)?;
         Ok(Records {
             file,
