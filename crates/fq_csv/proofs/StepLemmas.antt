@@ -90,7 +90,7 @@ cut stage.Rows size rows u v fields limit at new n g e =
       sym e ∙ g.1 ∙ ap Some (sym (ap (without size) same ∙ ap (λ k. without k (then_stream (done rows) rest)) (sym n) ∙ ap (λ rs. let w : Stream ScanFault = record { rows = rs; fault = rest.fault } in w) (drop-first rows rest.rows))),
     )
 cut (stage.Closed fault) size rows u v fields limit at new n g e =
-    let few : length rows ≤ size = omega (arith, n) in (
+    let few : length rows ≤ size = omega (arith, n.0) in (
       sym (ap (λ (w : Stream ScanFault). take size w.rows) g ∙ take_all size rows few),
       ap Some (sym (ap (without size) g ∙ ap (λ rs. let w : Stream ScanFault = record { rows = rs; fault = fault } in w) (drop_all size rows few))),
     )

@@ -12,7 +12,7 @@ use Rattle.fq_column.specs.Lists.{zip_with, all_or_missing}
 use Rattle.fq_column.specs.Stream.{Stream, done, faulted, one_by_one, then_stream}
 use Rattle.fq_csv.specs.Field.{cell_of}
 use Rattle.fq_csv.specs.File.{Record, row_of, rows_after}
-use Rattle.fq_csv.specs.Records.{Unread}
+use Rattle.fq_csv.specs.Records.{IsOfText, Unread}
 use Rattle.fq_csv.specs.Rows.{Holds, ReadsRows, kinds_in, row_by_kinds, with_row}
 use Rattle.fq_csv.specs.declared.faults.ScanFault.{ScanFault}
 use Rattle.fq_csv.specs.declared.faults.ScanFault.TheVariants.{BadCell, TooLong, Width}
@@ -119,12 +119,12 @@ module _ (span : Span) (kinds : List Kind) (old : Unread) where
   -- the file ends after the rows so far
   closes : (now new : Unread) (taken : ℕ) (columns : List Cells) (fault : Option ScanFault) → HasRead span kinds old now taken columns → span.from + taken ≤ span.limit → taken < span.size
       → ((fields : Fields) (after : List Record) → kinds_of fields ≡ kinds → now.upcoming ≡ Some after → rows_after old.file fields span.limit (span.from + taken) after ≡ record { rows = []; fault = fault })
-      → ReadsRows span kinds old new (stage.Closed fault) columns
-  closes now new taken columns fault h room more end = record {
+      → IsOfText fault → ReadsRows span kinds old new (stage.Closed fault) columns
+  closes now new taken columns fault h room more end text = record {
     rows = h.rows;
     held = h.held;
     in_limit = omega (arith, room, h.count);
-    count = omega (arith, more, h.count);
+    count = (omega (arith, more, h.count), text);
     goes_on = λ fields before e u.
         let r = h.rest fields before e u in
         r.2 ∙ ap (then_stream (done h.rows)) (end fields r.0 e r.1) ∙ then-end h.rows fault;
@@ -133,32 +133,32 @@ module _ (span : Span) (kinds : List Kind) (old : Unread) where
   pub closes-done : (now new : Unread) (taken : ℕ) (columns : List Cells) → HasRead span kinds old now taken columns → span.from + taken ≤ span.limit → taken < span.size
       → ((before : List Record) → now.upcoming ≡ Some before → before ≡ []) → ReadsRows span kinds old new (stage.Closed None) columns
   closes-done now new taken columns h room more none =
-      closes now new taken columns None h room more (λ fields after e u. ap (λ rs. rows_after old.file fields span.limit (span.from + taken) rs) (none after u))
+      closes now new taken columns None h room more (λ fields after e u. ap (λ rs. rows_after old.file fields span.limit (span.from + taken) rs) (none after u)) tt
 
   -- it ends by the fault of the record that was read
   faults : (now new : Unread) (taken : ℕ) (columns : List Cells) (fault : ScanFault) → HasRead span kinds old now taken columns → span.from + taken ≤ span.limit → taken < span.size → Takes now new
-      → ((fields : Fields) → kinds_of fields ≡ kinds → row_of old.file fields span.limit (span.from + taken + 1) new.current ≡ Err fault) → ReadsRows span kinds old new (stage.Closed (Some fault)) columns
-  faults now new taken columns fault h room more takes bad =
+      → ((fields : Fields) → kinds_of fields ≡ kinds → row_of old.file fields span.limit (span.from + taken + 1) new.current ≡ Err fault) → IsOfText (Some fault) → ReadsRows span kinds old new (stage.Closed (Some fault)) columns
+  faults now new taken columns fault h room more takes bad text =
       closes now new taken columns (Some fault) h room more (λ fields after e u.
       let t = takes after u in
-      ap (λ rs. rows_after old.file fields span.limit (span.from + taken) rs) t.1 ∙ after-fault old.file fields span.limit (span.from + taken) new.current t.0 fault (bad fields e))
+      ap (λ rs. rows_after old.file fields span.limit (span.from + taken) rs) t.1 ∙ after-fault old.file fields span.limit (span.from + taken) new.current t.0 fault (bad fields e)) text
 
   pub closes-long : (now new : Unread) (taken : ℕ) (columns : List Cells) → HasRead span kinds old now taken columns → span.from + taken ≡ span.limit → taken < span.size → Takes now new
       → ReadsRows span kinds old new (stage.Closed (Some (TooLong old.file))) columns
   closes-long now new taken columns h room more takes =
-      faults now new taken columns (TooLong old.file) h (omega (arith, room)) more takes (λ fields e. row-long old.file fields span.limit (span.from + taken + 1) new.current (omega (arith, room)))
+      faults now new taken columns (TooLong old.file) h (omega (arith, room)) more takes (λ fields e. row-long old.file fields span.limit (span.from + taken + 1) new.current (omega (arith, room))) tt
 
   pub closes-width : (now new : Unread) (taken : ℕ) (columns : List Cells) → HasRead span kinds old now taken columns → span.from + taken < span.limit → taken < span.size → Takes now new
       → length new.current ≢ length columns → ReadsRows span kinds old new (stage.Closed (Some (Width old.file (span.from + taken + 1)))) columns
   closes-width now new taken columns h room more takes w =
       faults now new taken columns (Width old.file (span.from + taken + 1)) h (omega (arith, room)) more takes
-      (λ fields e. row-width old.file fields span.limit (span.from + taken + 1) new.current (omega (arith, room)) (λ s. w (s ∙ sym (length-columns kinds columns h.rows fields h.held e))))
+      (λ fields e. row-width old.file fields span.limit (span.from + taken + 1) new.current (omega (arith, room)) (λ s. w (s ∙ sym (length-columns kinds columns h.rows fields h.held e)))) tt
 
   pub closes-bad : (now new : Unread) (taken : ℕ) (columns : List Cells) (i : ℕ) → HasRead span kinds old now taken columns → span.from + taken < span.limit → taken < span.size → Takes now new
       → length new.current ≡ length columns → row_by_kinds (kinds_in columns) new.current ≡ Err i → ReadsRows span kinds old new (stage.Closed (Some (BadCell old.file (span.from + taken + 1) i))) columns
   closes-bad now new taken columns i h room more takes w b =
       faults now new taken columns (BadCell old.file (span.from + taken + 1) i) h (omega (arith, room)) more takes
-      (λ fields e. row-bad old.file fields span.limit (span.from + taken + 1) new.current i (omega (arith, room)) (w ∙ length-columns kinds columns h.rows fields h.held e) (ap (λ ks. row_by_kinds ks new.current) (e ∙ sym h.held.same_kinds) ∙ b))
+      (λ fields e. row-bad old.file fields span.limit (span.from + taken + 1) new.current i (omega (arith, room)) (w ∙ length-columns kinds columns h.rows fields h.held e) (ap (λ ks. row_by_kinds ks new.current) (e ∙ sym h.held.same_kinds) ∙ b)) tt
 
   -- as many rows as are wanted
   pub goes-on : (now : Unread) (taken : ℕ) (columns : List Cells) → HasRead span kinds old now taken columns → span.from + taken ≤ span.limit → taken ≡ span.size

@@ -8,7 +8,7 @@ use Rattle.fq_column.specs.Lists.{zip_with, all_or_missing}
 use Rattle.fq_column.specs.Stream.{Stream, then_stream, done}
 use Rattle.fq_csv.specs.Field.{cell_of}
 use Rattle.fq_csv.specs.File.{Record, rows_after}
-use Rattle.fq_csv.specs.Records.{Unread}
+use Rattle.fq_csv.specs.Records.{IsOfText, Unread}
 use Rattle.fq_csv.specs.declared.faults.ScanFault.{ScanFault}
 use Rattle.fq_csv.specs.declared.spans.Span.{Span}
 use Rattle.fq_csv.specs.declared.stages.Stage.{Stage}
@@ -39,11 +39,11 @@ pub record Holds (kinds : List Kind) (columns : List Cells) (rows : List Row) : 
 abbrev pub first_cells : ℕ → Cells → Cells
 first_cells n column = record { kind = column.kind; cells = take n column.cells }
 
--- the rows ended before there were `size` of them, or there are as many
+-- the text ended the rows before there were `size` of them, or there are as many
 abbrev pub EndsAt : Stage → ℕ → ℕ → Type 0
 EndsAt stage.Header size count = ⊥
 EndsAt stage.Rows size count = count ≡ size
-EndsAt (stage.Closed fault) size count = count < size
+EndsAt (stage.Closed fault) size count = (count < size) × IsOfText fault
 EndsAt (stage.Failed fault) size count = ⊥
 
 -- the rows are the first of the stream before, which goes on with the stream after them; or they are all of it, with its end

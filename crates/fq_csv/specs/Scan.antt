@@ -1,7 +1,8 @@
 -- What a scanner has still to hand out, and what one call of it hands out.
-use Rattle.std.specs.Prelude.{◌≡◌, ◌+◌, ◌<◌, ◌≤◌, ◌⊎◌, ℕ, length, take, Option, Some, None, IsSome}
+use Rattle.std.specs.Prelude.{◌≡◌, ◌+◌, ◌<◌, ◌≤◌, ◌⊎◌, ℕ, Bool, true, length, take, Option, Some, None}
 use Rattle.fq_column.specs.Frame.{Fields, Frame}
 use Rattle.fq_column.specs.Stream.{Stream}
+use Rattle.fq_csv.specs.Records.{IsOfText}
 use Rattle.fq_csv.specs.Stage.{ended, without}
 use Rattle.fq_csv.specs.declared.faults.ScanFault.{ScanFault}
 use Rattle.fq_csv.specs.declared.faults.ScanFault.TheVariants.{Read, Memory}
@@ -9,7 +10,8 @@ use Rattle.fq_csv.specs.declared.scans.Scan.{Scan}
 use Rattle.fq_csv.specs.declared.scans.Scan.TheVariants.{Batch, End}
 
 -- the file and its schema, the size of a batch, how many batches went before, how many rows may still come,
--- the stream still to come, where the reader tells its bytes and has not failed, and the end, once it is known
+-- the stream still to come, where the reader tells its bytes and has not failed, the end, once it is known, and whether a read
+-- was the last, since the reader failed in it or had no memory for its record
 pub record Scanning : Type 0 where
   pub file : ℕ
   pub fields : Fields
@@ -18,6 +20,7 @@ pub record Scanning : Type 0 where
   pub room : ℕ
   pub upcoming : Option (Stream ScanFault)
   pub ending : Option (Option ScanFault)
+  pub stopped : Bool
 
 -- the file, its schema and the size of a batch are the same
 pub record IsSameScan (old new : Scanning) : Type 0 where
@@ -25,24 +28,27 @@ pub record IsSameScan (old new : Scanning) : Type 0 where
   pub schema : new.fields ≡ old.fields
   pub size : new.batch_size ≡ old.batch_size
 
--- the form of a batch, whatever the reader gives: it has the next serial and some rows, which count, and it is full unless the rows end after it
+-- the form of a batch, whatever the reader gives: it has the next serial and some rows, which count, and it is full unless the text ends the rows after it
 pub record IsNextBatch (old : Scanning) (file serial : ℕ) (batch : Frame) (new : Scanning) : Type 0 where
   pub number : file ≡ old.file
   pub in_order : serial ≡ old.serial
   pub schema : batch.fields ≡ old.fields
   pub some : 0 < length batch.rows
   pub fits : length batch.rows ≤ old.batch_size
-  pub full : length batch.rows < old.batch_size → IsSome new.ending
+  pub full : length batch.rows < old.batch_size → (fault : Option ScanFault) × (new.ending ≡ Some fault) × IsOfText fault
   pub not_ended : old.ending ≡ None
   pub same : IsSameScan old new
   pub counted : new.serial ≡ old.serial + 1
   pub in_room : new.room + length batch.rows ≡ old.room
+  pub stopped : new.stopped ≡ old.stopped
 
--- the form of an end: it has the number of batches, and is known from now on
+-- the form of an end: it has the number of batches, and is known from now on; where it was not yet, it is one of the text's, or
+-- the reader failed and has stopped, or memory was refused
 pub record IsLastWord (old : Scanning) (file batches : ℕ) (fault : Option ScanFault) (new : Scanning) : Type 0 where
   pub number : file ≡ old.file
   pub counted : batches ≡ old.serial
   pub known : new.ending ≡ Some fault
+  pub cause : old.ending ≡ None → IsOfText fault ⊎ (((fault ≡ Some (Read old.file)) × (new.stopped ≡ true)) ⊎ (fault ≡ Some Memory))
   pub same : IsSameScan old new
   pub serial : new.serial ≡ old.serial
   pub room : new.room ≡ old.room

@@ -3,7 +3,7 @@ use Rattle.std.specs.Prelude.{◌≡◌, ◌<◌, ◌≤◌, ◌+◌, ℕ, List,
 use Rattle.fq_column.specs.Frame.{Fields, Frame, Row}
 use Rattle.fq_column.specs.Stream.{Stream}
 use Rattle.fq_csv.specs.File.{Record, rows_after, rows_under_header}
-use Rattle.fq_csv.specs.Records.{IsFailure, Unread}
+use Rattle.fq_csv.specs.Records.{IsOfText, StopsBy, Unread}
 use Rattle.fq_csv.specs.Rows.{EndsAt, GoesOn}
 use Rattle.fq_csv.specs.declared.faults.ScanFault.{ScanFault}
 use Rattle.fq_csv.specs.declared.spans.Span.{Span}
@@ -36,8 +36,8 @@ ending_of (stage.Failed fault) = Some (Some fault)
 abbrev pub Opens : Fields → Unread → Unread → Stage → Type 0
 Opens fields old new stage.Header = ⊥
 Opens fields old new stage.Rows = (limit : ℕ) (before : List Record) → old.upcoming ≡ Some before → option_map (rows_after old.file fields limit 0) new.upcoming ≡ Some (rows_under_header old.file fields limit before)
-Opens fields old new (stage.Closed fault) = (limit : ℕ) (before : List Record) → old.upcoming ≡ Some before → rows_under_header old.file fields limit before ≡ ended fault
-Opens fields old new (stage.Failed fault) = IsFailure old.file fault
+Opens fields old new (stage.Closed fault) = IsOfText fault × ((limit : ℕ) (before : List Record) → old.upcoming ≡ Some before → rows_under_header old.file fields limit before ≡ ended fault)
+Opens fields old new (stage.Failed fault) = StopsBy old.file new.stopped fault
 
 -- rows were read, and the file goes on after them
 pub record TakesRows (span : Span) (fields : Fields) (old new : Unread) (stage : Stage) (rows : List Row) : Type 0 where
@@ -54,14 +54,14 @@ pub record GivesRows (span : Span) (fields : Fields) (old new : Unread) (before 
   pub stream : (u : Stream ScanFault) → left_at fields span.limit before old span.from ≡ Some u
       → (rows ≡ take span.size u.rows) × (left_at fields span.limit after new (span.from + length rows) ≡ Some (without span.size u))
 
--- no row is left, and the stream ends so, or the reader failed, or memory was refused
-abbrev pub GivesEnd : Span → Fields → Unread → Stage → Stage → Type 0
-GivesEnd span fields old before stage.Header = ⊥
-GivesEnd span fields old before stage.Rows = ⊥
-GivesEnd span fields old before (stage.Closed fault) = (u : Stream ScanFault) → left_at fields span.limit before old span.from ≡ Some u → u ≡ ended fault
-GivesEnd span fields old before (stage.Failed fault) = ending_of before ≡ None → IsFailure old.file fault
+-- no row is left, and the text and the stream end so, or the reader failed and has stopped, or memory was refused
+abbrev pub GivesEnd : Span → Fields → Unread → Unread → Stage → Stage → Type 0
+GivesEnd span fields old new before stage.Header = ⊥
+GivesEnd span fields old new before stage.Rows = ⊥
+GivesEnd span fields old new before (stage.Closed fault) = (ending_of before ≡ None → IsOfText fault) × ((u : Stream ScanFault) → left_at fields span.limit before old span.from ≡ Some u → u ≡ ended fault)
+GivesEnd span fields old new before (stage.Failed fault) = ending_of before ≡ None → StopsBy old.file new.stopped fault
 
 -- a step from one stage to the next gives a batch, or none where the rows are over
 abbrev pub IsStep : Span → Fields → Unread → Unread → Stage → Stage → Option Frame → Type 0
-IsStep span fields old new before after None = GivesEnd span fields old before after
-IsStep span fields old new before after (Some batch) = (batch.fields ≡ fields) × GivesRows span fields old new before after batch.rows
+IsStep span fields old new before after None = GivesEnd span fields old new before after
+IsStep span fields old new before after (Some batch) = (batch.fields ≡ fields) × (new.stopped ≡ old.stopped) × GivesRows span fields old new before after batch.rows

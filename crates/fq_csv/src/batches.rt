@@ -1,8 +1,8 @@
 // The next rows of a file as a batch.
-ghost use Rattle.std.specs.Prelude.{◌≡◌, ◌≤◌, ◌<◌, [], length, Option, Some, None, IfOk, IfErr, IsNone};
+ghost use Rattle.std.specs.Prelude.{◌≡◌, ◌≤◌, ◌<◌, [], length, Option, Some, None, IfOk, IfErr, IsNone, OnOk};
 ghost use Rattle.fq_column.specs.Batch.{batch_fault, frame_of};
 ghost use Rattle.fq_column.specs.Frame.{kinds_of};
-ghost use Rattle.fq_csv.specs.Records.{IsFailure};
+ghost use Rattle.fq_csv.specs.Records.{StopsBy};
 ghost use Rattle.fq_csv.specs.Rows.{Holds};
 ghost use Rattle.fq_csv.specs.Stage.{IsStep, TakesRows, ending_of};
 ghost use Rattle.fq_csv.specs.declared.faults.ScanFault.{ScanFault};
@@ -38,7 +38,7 @@ pub(crate) fn next_step<R: Read>(
     requires { stage ≡ Stage.Header → span.from ≡ 0 }
     ensures file { records.new.file ≡ records.old.file }
     ensures step { IsStep span schema.now records.old records.new stage result.stage result.batch }
-    ensures over { (fault : Option ScanFault) → ending_of stage ≡ Some fault → (result.stage ≡ stage) × IsNone result.batch }
+    ensures over { (fault : Option ScanFault) → ending_of stage ≡ Some fault → (result.stage ≡ stage) × IsNone result.batch × (records.new ≡ records.old) }
 {
     let stage = match stage {
         Stage::Header => read_header(records, schema),
@@ -86,7 +86,8 @@ fn read_batch<R: Read>(
     span: Span,
 ) -> Result<Piece, ScanFault>
     ensures file { records.new.file ≡ records.old.file }
-    ensures failed { IfErr result (IsFailure records.old.file) }
+    ensures goes_on { OnOk result (records.new.stopped ≡ records.old.stopped) }
+    ensures failed { IfErr result (StopsBy records.old.file records.new.stopped) }
     ensures rows { IfOk result (λ piece. (piece.batch.fields ≡ schema.now) × TakesRows span schema.now records.old records.new piece.stage piece.batch.rows) }
 {
     let mut columns = empty_columns(alloc, schema, room_for(span))?;

@@ -15,6 +15,7 @@ use std::io::Read;
 /// Reads a file's first record, which is to be the schema's names.
 pub(crate) fn read_header<R: Read>(records: &mut Records<R>, schema: &Schema) -> Stage
     ensures file { records.new.file ≡ records.old.file }
+    ensures goes_on { result ≡ Stage.Rows → records.new.stopped ≡ records.old.stopped }
     ensures opens { Opens schema.now records.old records.new result }
 {
     let found = match records.advance() {

@@ -9,6 +9,7 @@ mod headers;
 mod laws;
 mod printing;
 mod records;
+mod retrying;
 mod rows;
 mod scanners;
 mod scans;

@@ -1,9 +1,9 @@
 // Rows of a file, added to columns.
-ghost use Rattle.std.specs.Prelude.{◌≡◌, ◌≤◌, ◌<◌, All, [], length, map, Ok, Err, IfOk, IfErr, IfNone, IfSome};
+ghost use Rattle.std.specs.Prelude.{◌≡◌, ◌≤◌, ◌<◌, All, [], length, map, Ok, Err, IfOk, IfErr, IfNone, IfSome, OnOk};
 ghost use Rattle.csv.specs.Records.{fields_of};
 ghost use Rattle.fq_column.specs.Column.{Cells};
 ghost use Rattle.fq_column.specs.Frame.{Row};
-ghost use Rattle.fq_csv.specs.Records.{IsFailure};
+ghost use Rattle.fq_csv.specs.Records.{StopsBy};
 ghost use Rattle.fq_csv.specs.Rows.{Holds, ReadsRows, first_cells, kinds_in, row_by_kinds, with_row};
 
 use crate::faults::ScanFault;
@@ -24,7 +24,8 @@ pub(crate) fn read_rows<R: Read>(
     requires few { length columns.old ≤ 64 }
     requires empty { Holds (kinds_in columns.old) columns.old [] }
     ensures file { records.new.file ≡ records.old.file }
-    ensures failed { IfErr result (IsFailure records.old.file) }
+    ensures goes_on { OnOk result (records.new.stopped ≡ records.old.stopped) }
+    ensures failed { IfErr result (StopsBy records.old.file records.new.stopped) }
     ensures rows { IfOk result (λ stage. ReadsRows span (kinds_in columns.old) records.old records.new stage columns.new) }
 {
     let file = records.file();

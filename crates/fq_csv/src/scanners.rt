@@ -1,5 +1,5 @@
 // Scanners: the rows of a file, handed out in batches.
-ghost use Rattle.std.specs.Prelude.{◌≡◌, ◌≤◌, Option, Some, None, IfOk, option_map};
+ghost use Rattle.std.specs.Prelude.{◌≡◌, ◌≤◌, Option, Some, None, false, IfOk, option_map};
 ghost use Rattle.fq_column.specs.Stream.{Stream};
 ghost use Rattle.fq_csv.specs.File.{file_stream};
 ghost use Rattle.fq_csv.specs.Scan.{HandsOut, HasForm};
@@ -49,6 +49,7 @@ impl<R: Read> Model for Scanner<R> {
       room = a.span.limit - a.span.from;
       upcoming = left_at a.schema a.span.limit a.stage a.records a.span.from;
       ending = ending_of a.stage;
+      stopped = a.records.stopped;
     } };
 
     ghost invariant = { λ a. (a.serial ≤ a.span.from) × (a.stage ≡ Header → a.span.from ≡ 0) };
@@ -80,6 +81,7 @@ impl<R: Read> Scanner<R> {
           room = limit;
           upcoming = option_map (file_stream file schema limit) (R.remaining reader);
           ending = None;
+          stopped = false;
         }) }
     {
         let records = Records::new(alloc, reader, file, schema.len())?;

@@ -95,7 +95,7 @@ length-parts (group_by keys aggs ∷ steps) = omega arith
 length-parts (rolling_sum column window m name ∷ steps) = omega arith
 
 -- as many steps as before
-length-split : (steps : List PlannedStep) (leading : List RowStep) (rest : List PlannedStep) → IsSplit steps leading rest → length leading + length rest ≡ length (map plan_step_of steps)
+pub length-split : (steps : List PlannedStep) (leading : List RowStep) (rest : List PlannedStep) → IsSplit steps leading rest → length leading + length rest ≡ length (map plan_step_of steps)
 length-split steps leading rest h = omega (
   arith,
   length-parts (map plan_step_of steps),

@@ -1,5 +1,5 @@
 -- The check of a plan: the schemas that its steps leave, or the first refusal and its place. Sources are judged in order, then steps in order.
-use Rattle.std.specs.Prelude.{ℕ, ◌+◌, List, [], ◌∷◌, Option, Some, None, Result, Ok, Err}
+use Rattle.std.specs.Prelude.{ℕ, ◌+◌, ◌<◌, List, [], ◌∷◌, Option, Some, None, Result, Ok, Err}
 use Rattle.std.specs.Result.{result_map_both}
 use Rattle.fq_column.specs.declared.faults.StepFault.{StepFault}
 use Rattle.fq_column.specs.declared.faults.StepFault.TheVariants.{NoSuchSource}
@@ -17,6 +17,11 @@ use Rattle.fq_plan.specs.declared.faults.Place.TheVariants as place
 
 abbrev pub refused_at : Place → StepFault → CheckFault
 refused_at where_it_is code = record { place = where_it_is; code = code }
+
+-- a place of a plan with so many sources and steps
+abbrev pub IsPlaceOf : ℕ → ℕ → Place → Type 0
+IsPlaceOf sources steps (place.Source n) = n < sources
+IsPlaceOf sources steps (place.Step n) = n < steps
 
 -- the first source, numbered from n, whose columns make no schema
 abbrev pub source_refusal : ℕ → List Source → Option CheckFault

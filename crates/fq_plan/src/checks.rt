@@ -1,7 +1,7 @@
 // Checked plans.
-ghost use Rattle.std.specs.Prelude.{◌≡◌, ◌⊎◌, IsErrAnd, IsOk, IfOk, IfErr, Ok, Err};
+ghost use Rattle.std.specs.Prelude.{◌≡◌, ◌⊎◌, IsErrAnd, IsOk, IfOk, IfErr, Ok, Err, length};
 ghost use Rattle.fq_column.specs.declared.faults.StepFault.{StepFault as Code};
-ghost use Rattle.fq_plan.specs.Judged.{checked, judged, refused_at};
+ghost use Rattle.fq_plan.specs.Judged.{checked, judged, refused_at, IsPlaceOf};
 ghost use Rattle.fq_plan.specs.Plan.{files_wanted};
 
 use crate::faults::{CheckFault, Place};
@@ -54,7 +54,7 @@ impl Plan {
     /// `group_schema`. A rolling sum: as `roll_schema`. `Memory` where a growth is refused, with the place at which the
     /// check stood.
     pub fn check(self, alloc: Global) -> Result<Checked, CheckFault>
-        ensures { (result ≡ checked self) ⊎ IsErrAnd result (λ e. e.code ≡ Code.Memory) }
+        ensures { (result ≡ checked self) ⊎ IsErrAnd result (λ e. (e.code ≡ Code.Memory) × IsPlaceOf (length self.sources) (length self.steps) e.place) }
     {
         let mut place = Place::Source(0);
         match check_plan(alloc, self, &mut place) {
@@ -66,6 +66,8 @@ impl Plan {
 
 // The plan, where it is not refused; a refusal leaves the place at which the check stood.
 fn check_plan(alloc: Global, plan: Plan, place: &mut Place) -> Result<Checked, StepFault>
+    requires { IsPlaceOf (length plan.sources) (length plan.steps) place.old }
+    ensures place { IsPlaceOf (length plan.sources) (length plan.steps) place.new }
     ensures ok { IfOk result (λ c. checked plan ≡ Ok c) }
     ensures refused { IfErr result (λ code. (checked plan ≡ Err (refused_at place.new code)) ⊎ (code ≡ Code.Memory)) }
 {

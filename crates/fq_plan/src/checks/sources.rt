@@ -1,9 +1,9 @@
 // The check of a plan's sources.
-ghost use Rattle.std.specs.Prelude.{◌≡◌, ◌⊎◌, ◌≤◌, None, Some, map, string_bytes, vec_len, IfOk, IfErr, sum_by, length};
+ghost use Rattle.std.specs.Prelude.{◌≡◌, ◌⊎◌, ◌≤◌, ℕ, None, Some, map, string_bytes, vec_len, IfOk, IfErr, sum_by, length};
 ghost use Rattle.fq_column.specs.Frame.{names_of};
 ghost use Rattle.fq_column.specs.Refusal.{first_refusal};
 ghost use Rattle.fq_column.specs.Schema.{schema_checks};
-ghost use Rattle.fq_plan.specs.Judged.{refused_at, source_refusal};
+ghost use Rattle.fq_plan.specs.Judged.{refused_at, source_refusal, IsPlaceOf};
 ghost use Rattle.fq_plan.specs.Stages.{checked_source_data};
 ghost use Rattle.fq_plan.specs.View.{source_data};
 
@@ -20,6 +20,7 @@ pub fn check_sources(
     place: &mut Place,
 ) -> Result<Vec<CheckedSource>, StepFault>
     requires { vec_len sources ≤ 8 }
+    ensures place { (steps : ℕ) → IsPlaceOf (length sources.items) steps place.old → IsPlaceOf (length sources.items) steps place.new }
     ensures sources { IfOk result (λ checked. map checked_source_data checked.items ≡ map source_data sources.items) }
     ensures passed { IfOk result (λ checked. source_refusal 0 (map source_data sources.items) ≡ None) }
     ensures refused { IfErr result (λ code. (source_refusal 0 (map source_data sources.items) ≡ Some (refused_at place.new code)) ⊎ (code ≡ StepFault.Memory)) }

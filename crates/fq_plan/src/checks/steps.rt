@@ -3,7 +3,7 @@ ghost use Rattle.std.specs.Prelude.{◌≡◌, ◌⊎◌, ◌+◌, ◌≤◌, �
 ghost use Rattle.fq_column.specs.Frame.{Fields};
 ghost use Rattle.fq_expr.specs.Kinds.{steps_schema};
 ghost use Rattle.fq_expr.specs.Meaning.{step_of};
-ghost use Rattle.fq_plan.specs.Judged.{judged_step, judged_steps, refused_at};
+ghost use Rattle.fq_plan.specs.Judged.{judged_step, judged_steps, refused_at, IsPlaceOf};
 ghost use Rattle.fq_plan.specs.Plan.{PlanStep, front_of, item_at, rest_of, row_wise};
 ghost use Rattle.fq_plan.specs.Stages.{checked_fields, operator_steps, stage_steps, Leads, Turns};
 ghost use Rattle.fq_plan.specs.View.{plan_step_of};
@@ -46,6 +46,7 @@ pub fn check_leading(
     place: &mut Place,
 ) -> Result<Schema, StepFault>
     requires { length steps.now ≤ 64 }
+    ensures place { (sources total : ℕ) → length steps.now ≤ total → IsPlaceOf sources total place.old → IsPlaceOf sources total place.new }
     ensures ok { IfOk result (λ after. steps_schema main.now (map step_of steps.now) ≡ Ok after) }
     ensures refused { IfErr result (λ code. ((joins : List Fields) (rest : List PlanStep) →
         judged_steps joins 0 main.now (map row_wise (map step_of steps.now) ++ rest) ≡ Err (refused_at place.new code)) ⊎ (code ≡ StepFault.Memory)) }
@@ -69,6 +70,7 @@ pub fn check_stages(
     place: &mut Place,
 ) -> Result<Vec<Stage>, StepFault>
     requires { first + vec_len steps ≤ 64 }
+    ensures place { (sources total : ℕ) → first + length steps.items ≤ total → IsPlaceOf sources total place.old → IsPlaceOf sources total place.new }
     ensures steps { IfOk result (λ stages. stage_steps stages.items ≡ map plan_step_of steps.items) }
     ensures leads { IfOk result (λ stages. (after : Fields) × Leads (checked_fields joins.now) first schema stages.items after) }
     ensures refused { IfErr result (λ code. (judged_steps (checked_fields joins.now) first schema (map plan_step_of steps.items) ≡ Err (refused_at place.new code)) ⊎ (code ≡ StepFault.Memory)) }

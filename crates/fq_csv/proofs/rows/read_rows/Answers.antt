@@ -6,6 +6,7 @@ use Rattle.fq_csv.proofs.rows.read_rows.Goals as goal
 pub loop-taken-init : goal.loop-taken-init
 loop-taken-init g c = record {
   file = refl;
+  goes_on = refl;
   in_limit = omega (arith, c.args.span.in_limit);
   read = HasRead-start c.args.span (kinds_in c.args.columns.now) c.args.records.now c.args.columns.now c.requires.empty;
 }
@@ -55,6 +56,7 @@ loop-taken-preserved g c =
     let more = row.2 in
     record {
       file = c.in_ok-advance.ensures.file ∙ inv.file;
+      goes_on = c.in_ok-advance.ensures.goes_on ∙ inv.goes_on;
       in_limit = omega (arith, below);
       read = rw more (HasRead-more c.args.span (kinds_in c.args.columns.now) c.args.records.now c.loop-taken.records c.advance.new.self c.loop-taken.taken c.loop-taken.columns row.0 inv.read below
           (c.in_ok-advance.ensures.more c.if-not-branch.false) size (ap (row_by_kinds (kinds_in c.loop-taken.columns)) (sym c.current-record.ensures) ∙ row.1) row.3);

@@ -1,4 +1,4 @@
-use Rattle.std.proofs.Common.{◌≡◌, ◌++◌, Ok, List, map, length, ap, sym, ◌∙◌, subst, inl, inr, arith}
+use Rattle.std.proofs.Common.{◌≡◌, ◌+◌, ℕ, ◌++◌, Ok, List, map, length, ap, sym, ◌∙◌, subst, inl, inr, arith}
 use Rattle.std.specs.Prelude.{sum_by}
 use Rattle.std.proofs.lemmas.List.{length-map}
 use Rattle.std.proofs.lemmas.Result.{err_from_is_err_and}
@@ -7,13 +7,15 @@ use Rattle.fq_expr.specs.Front.{NumberedSteps}
 use Rattle.fq_expr.specs.Kinds.{steps_schema}
 use Rattle.fq_expr.specs.Meaning.{step_of}
 use Rattle.fq_expr.specs.declared.steps.RowStep.{RowStep}
-use Rattle.fq_plan.specs.Judged.{checked, judged_steps, source_refusal}
+use Rattle.fq_plan.specs.Judged.{IsPlaceOf, checked, judged_steps, source_refusal}
 use Rattle.fq_plan.specs.Plan.{Source, PlanStep, Query, IsWithinLimits, row_wise}
 use Rattle.fq_plan.specs.Stages.{checked_fields, checked_source_data, query_of, stage_steps, IsChecked, Leads}
 use Rattle.fq_plan.specs.View.{plan_step_of, source_data}
 use Rattle.fq_plan.proofs.PreparedLemmas.{checked-is, leading-refuses, prepared, stages-refuse, steps-are}
-use Rattle.fq_plan.proofs.SplitLemmas.{few-split}
+use Rattle.fq_plan.specs.declared.faults.Place.{Place}
+use Rattle.fq_plan.proofs.SplitLemmas.{few-split, length-split}
 use Rattle.fq_plan.proofs.checks.check_plan.Goals as goal
+use Rattle.fq_plan.proofs.checks.check_plan.Goals.{In_ok-sources, In_ok-leading, In_ok-schema, In_ok-stages}
 
 pub check_leading-requires : goal.check_leading-requires
 check_leading-requires c =
@@ -125,3 +127,58 @@ returns-clause-ok c =
     ∙ ap checked (ap of_steps (sym (steps-are steps (map step_of c.in_ok-leading.leading.items) c.in_ok-leading.ensures.leading (stage_steps stages) (c.in_ok-stages.ensures.steps ∙ c.in_ok-leading.ensures.rest))))
     ∙ passes c
     ∙ ap (λ front. Ok (query_of sources front stages)) (sym (front-is c))
+
+-- ---- the place at which the check stands
+
+-- the sources move it among themselves
+among : (s n t : ℕ) (old new : Place) → s ≡ n → ((steps : ℕ) → IsPlaceOf n steps old → IsPlaceOf n steps new) → IsPlaceOf s t old → IsPlaceOf s t new
+among s n t old new e moves h = subst (λ m. IsPlaceOf m t new) (sym e) (moves t (subst (λ m. IsPlaceOf m t old) e h))
+
+after-sources : (c : In_ok-sources) → IsPlaceOf (length c.args.plan.sources) (length c.args.plan.steps) c.check_sources.new.place
+after-sources c =
+    among (length c.args.plan.sources) (length c.plan.inside.sources.items) (length c.args.plan.steps) c.args.place.now c.check_sources.new.place
+    (ap (λ (q : Query). length q.sources) (sym c.plan.view_is) ∙ length-map c.plan.inside.sources.items source_data) c.in_ok-sources.ensures.place c.requires
+
+-- as many steps as the leading ones and the rest
+all-steps : (c : In_ok-leading) → length c.in_ok-leading.leading.items + length c.in_ok-leading.rest.items ≡ length c.args.plan.steps
+all-steps c =
+    length-split c.plan.inside.steps.items c.in_ok-leading.leading.items c.in_ok-leading.rest.items (record { front = c.in_ok-leading.ensures.leading; after = c.in_ok-leading.ensures.rest })
+    ∙ ap (λ (q : Query). length q.steps) c.plan.view_is
+
+after-leading : (c : In_ok-schema) → IsPlaceOf (length c.args.plan.sources) (length c.args.plan.steps) c.check_leading.new.place
+after-leading c =
+    let d = goal.at.In_ok-schema c in
+    c.in_ok-schema.ensures.place _ _ (omega (arith, ap length c.as_slice.ensures.value, all-steps d.In_ok-leading)) (after-sources d.In_ok-sources)
+
+-- and so after the stages
+after-stages : (c : In_ok-stages) → IsPlaceOf (length c.args.plan.sources) (length c.args.plan.steps) c.check_stages.new.place
+after-stages c =
+    let d = goal.at.In_ok-stages c in
+    c.in_ok-stages.ensures.place _ _ (omega (arith, c.len.ensures, c.in_ok-leading.leading.ok.0, all-steps d.In_ok-leading)) (after-leading d.In_ok-schema)
+
+pub returns-in_err-sources-clause-place : goal.returns-in_err-sources-clause-place
+returns-in_err-sources-clause-place c =
+    among (length c.args.plan.sources) (length c.plan.inside.sources.items) (length c.args.plan.steps) c.args.place.now c.check_sources.new.place
+    (ap (λ (q : Query). length q.sources) (sym c.plan.view_is) ∙ length-map c.plan.inside.sources.items source_data) c.in_err-sources.ensures.place c.requires
+
+pub returns-in_err-leading-clause-place : goal.returns-in_err-leading-clause-place
+returns-in_err-leading-clause-place c = after-sources (goal.at.returns-in_err-leading-clause-place c).In_ok-sources
+
+pub returns-in_err-front_schema-clause-place : goal.returns-in_err-front_schema-clause-place
+returns-in_err-front_schema-clause-place c = after-sources (goal.at.returns-in_err-front_schema-clause-place c).In_ok-sources
+
+pub returns-in_err-schema-clause-place : goal.returns-in_err-schema-clause-place
+returns-in_err-schema-clause-place c =
+    let d = goal.at.returns-in_err-schema-clause-place c in
+    c.in_err-schema.ensures.place _ _ (omega (arith, ap length c.as_slice.ensures.value, all-steps d.In_ok-leading)) (after-sources d.In_ok-sources)
+
+pub returns-in_err-stages-clause-place : goal.returns-in_err-stages-clause-place
+returns-in_err-stages-clause-place c =
+    let d = goal.at.returns-in_err-stages-clause-place c in
+    c.in_err-stages.ensures.place _ _ (omega (arith, c.len.ensures, c.in_ok-leading.leading.ok.0, all-steps d.In_ok-leading)) (after-leading d.In_ok-schema)
+
+pub returns-in_err-front-clause-place : goal.returns-in_err-front-clause-place
+returns-in_err-front-clause-place c = after-stages (goal.at.returns-in_err-front-clause-place c).In_ok-stages
+
+pub returns-clause-place : goal.returns-clause-place
+returns-clause-place c = after-stages (goal.at.returns-clause-place c).In_ok-stages

@@ -1,10 +1,11 @@
-use Rattle.std.proofs.Common.{◌≡◌, ◌++◌, ◌∷◌, [], Some, map, length, ap, sym, ◌∙◌, inl, inr, arith, append_assoc}
+use Rattle.std.proofs.Common.{◌≡◌, ◌<◌, ℕ, List, ◌++◌, ◌∷◌, [], Some, map, length, ap, sym, ◌∙◌, inl, inr, arith, append_assoc, length-append}
 use Rattle.std.proofs.lemmas.List.{length-map, map-append}
 use Rattle.std.proofs.lemmas.Result.{err_from_is_err_and}
 use Rattle.fq_plan.specs.Judged.{refused_at, source_refusal}
 use Rattle.fq_plan.specs.Stages.{checked_source_data}
 use Rattle.fq_plan.specs.View.{source_data}
 use Rattle.fq_plan.specs.declared.faults.Place.TheVariants as place
+use Rattle.fq_plan.specs.declared.plans.Source.{Source as PlanSource}
 use Rattle.fq_plan.proofs.CheckLemmas.{source-refused, sources-passed}
 use Rattle.fq_plan.proofs.checks.sources.check_sources.Goals as goal
 
@@ -30,6 +31,36 @@ returns-in_err-check_source-clause-refused c =
       | inr memory ↦ inr memory
     ])
 
+-- the number of a source that is yet to come
+below : (all before rest : List PlanSource) (s : PlanSource) (n : ℕ) → all ≡ before ++ (s ∷ rest) → n ≡ length before → n < length all
+below all before rest s n e h = omega (arith, ap length e, length-append before (s ∷ rest), h)
+
+pub returns-in_err-check_source-clause-place : goal.returns-in_err-check_source-clause-place
+returns-in_err-check_source-clause-place c steps h =
+    below c.args.sources.items c.loop-source.yielded c.next.new.self.rest.items c.in-Some.source c.len-in-loop-source.result
+    (c.loop-source.invariant.left ∙ ap (λ rest. c.loop-source.yielded ++ rest) c.in-Some.ensures.steps.0)
+    (omega (
+      arith,
+      c.len-in-loop-source.ensures,
+      c.loop-source.checked.ok.0,
+      length-map c.loop-source.checked.items checked_source_data,
+      length-map c.loop-source.yielded source_data,
+      ap length c.loop-source.invariant.same,
+    ))
+
+pub returns-in_err-push-clause-place : goal.returns-in_err-push-clause-place
+returns-in_err-push-clause-place c steps h =
+    below c.args.sources.items c.loop-source.yielded c.next.new.self.rest.items c.in-Some.source c.len-in-loop-source.result
+    (c.loop-source.invariant.left ∙ ap (λ rest. c.loop-source.yielded ++ rest) c.in-Some.ensures.steps.0)
+    (omega (
+      arith,
+      c.len-in-loop-source.ensures,
+      c.loop-source.checked.ok.0,
+      length-map c.loop-source.checked.items checked_source_data,
+      length-map c.loop-source.yielded source_data,
+      ap length c.loop-source.invariant.same,
+    ))
+
 pub loop-source-preserved : goal.loop-source-preserved
 loop-source-preserved c =
     let source = c.in-Some.source in record {
@@ -40,4 +71,15 @@ loop-source-preserved c =
           ∙ sym (map-append source_data c.loop-source.yielded (source ∷ []));
       passed = ap (source_refusal 0) (map-append source_data c.loop-source.yielded (source ∷ []))
           ∙ sources-passed (map source_data c.loop-source.yielded) (source_data source) c.loop-source.invariant.passed c.in_ok-check_source.ensures.passed;
+      place = λ steps h.
+          below c.args.sources.items c.loop-source.yielded c.next.new.self.rest.items source c.len-in-loop-source.result
+          (c.loop-source.invariant.left ∙ ap (λ rest. c.loop-source.yielded ++ rest) c.in-Some.ensures.steps.0)
+          (omega (
+            arith,
+            c.len-in-loop-source.ensures,
+            c.loop-source.checked.ok.0,
+            length-map c.loop-source.checked.items checked_source_data,
+            length-map c.loop-source.yielded source_data,
+            ap length c.loop-source.invariant.same,
+          ));
     }

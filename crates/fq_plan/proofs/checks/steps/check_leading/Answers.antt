@@ -28,7 +28,7 @@ returns-in_err-schema-2-clause-refused c =
       | inl e ↦ inl (λ joins rest.
           ap (λ ss. judged_steps joins 0 c.args.main.now (ss ++ rest)) parts
           ∙ ap (judged_steps joins 0 c.args.main.now) (append_assoc (map row_wise before) (row_wise (step_of step) ∷ after) rest)
-          ∙ rows-refused joins 0 c.args.main.now before (step_of step) (after ++ rest) c.loop-i.schema code c.loop-i.invariant e
+          ∙ rows-refused joins 0 c.args.main.now before (step_of step) (after ++ rest) c.loop-i.schema code c.loop-i.invariant.schema e
           ∙ ap (λ n. Err (refused_at (place.Step n) code)) (omega (arith, number)))
       | inr memory ↦ inr memory
     ])
@@ -38,7 +38,10 @@ loop-i-preserved c =
     let i = c.loop-i.i in
     let steps = c.args.steps.now in
     let step = c.index-steps-i.result in
-    ap (λ ss. steps_schema c.args.main.now (map step_of ss)) (ap (λ n. take n steps) (let q : i + 1 ≡ suc i = omega arith in q) ∙ take-further steps i step (omega arith) c.index-steps-i.is)
-    ∙ ap (steps_schema c.args.main.now) (map-append step_of (take i steps) (step ∷ []))
-    ∙ schema-further c.args.main.now (map step_of (take i steps)) (step_of step) c.loop-i.schema c.in_ok-schema-2.schema c.loop-i.invariant
-    (judged-ok (step_schema c.loop-i.schema (step_of step)) c.in_ok-schema-2.schema c.in_ok-schema-2.ensures)
+    record {
+      schema = ap (λ ss. steps_schema c.args.main.now (map step_of ss)) (ap (λ n. take n steps) (let q : i + 1 ≡ suc i = omega arith in q) ∙ take-further steps i step (omega arith) c.index-steps-i.is)
+          ∙ ap (steps_schema c.args.main.now) (map-append step_of (take i steps) (step ∷ []))
+          ∙ schema-further c.args.main.now (map step_of (take i steps)) (step_of step) c.loop-i.schema c.in_ok-schema-2.schema c.loop-i.invariant.schema
+          (judged-ok (step_schema c.loop-i.schema (step_of step)) c.in_ok-schema-2.schema c.in_ok-schema-2.ensures);
+      place = λ sources total few h. omega (arith, few);
+    }

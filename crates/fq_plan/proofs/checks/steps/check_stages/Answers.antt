@@ -1,10 +1,11 @@
-use Rattle.std.proofs.Common.{◌≡◌, refl, List, ◌++◌, ◌∷◌, [], ◌+◌, Err, map, length, ap, sym, ◌∙◌, subst, inl, inr, arith, append_assoc, length-append}
+use Rattle.std.proofs.Common.{◌≡◌, ◌<◌, ◌≤◌, ℕ, refl, List, ◌++◌, ◌∷◌, [], ◌+◌, Err, map, length, ap, sym, ◌∙◌, subst, inl, inr, arith, append_assoc, length-append}
 use Rattle.std.proofs.lemmas.List.{length-map, map-append}
 use Rattle.std.proofs.lemmas.Result.{err_from_is_err_and}
 use Rattle.fq_plan.specs.Judged.{judged_steps, refused_at}
 use Rattle.fq_plan.specs.Stages.{checked_fields, stage_steps, Leads}
 use Rattle.fq_plan.specs.View.{plan_step_of}
 use Rattle.fq_plan.specs.declared.faults.Place.TheVariants as place
+use Rattle.fq_plan.specs.declared.plans.Step.{Step as PlannedStep}
 use Rattle.fq_plan.specs.declared.stages.Stage.{Stage}
 use Rattle.fq_plan.proofs.CheckLemmas.{leads-further, stage_steps-snoc, stages-refused}
 use Rattle.fq_plan.proofs.checks.steps.check_stages.Goals as goal
@@ -36,6 +37,20 @@ returns-in_err-operator-clause-refused c =
       | inr memory ↦ inr memory
     ])
 
+-- the number of a step that is yet to come
+below : (first : ℕ) (all before rest : List PlannedStep) (s : PlannedStep) (n total : ℕ) → all ≡ before ++ (s ∷ rest) → n ≡ length before → first + length all ≤ total → first + n < total
+below first all before rest s n total e h few = omega (arith, ap length e, length-append before (s ∷ rest), h, few)
+
+pub returns-in_err-operator-clause-place : goal.returns-in_err-operator-clause-place
+returns-in_err-operator-clause-place c sources total few h =
+    below c.args.first c.args.steps.items c.loop-step.yielded c.next.new.self.rest.items c.in-Some.step c.len-in-loop-step.result total
+    (c.loop-step.invariant.left ∙ ap (λ rest. c.loop-step.yielded ++ rest) c.in-Some.ensures.steps.0) (omega (arith, c.loop-step.invariant.count, c.len-in-loop-step.ensures)) few
+
+pub returns-in_err-push-clause-place : goal.returns-in_err-push-clause-place
+returns-in_err-push-clause-place c sources total few h =
+    below c.args.first c.args.steps.items c.loop-step.yielded c.next.new.self.rest.items c.in-Some.step c.len-in-loop-step.result total
+    (c.loop-step.invariant.left ∙ ap (λ rest. c.loop-step.yielded ++ rest) c.in-Some.ensures.steps.0) (omega (arith, c.loop-step.invariant.count, c.len-in-loop-step.ensures)) few
+
 pub loop-step-preserved : goal.loop-step-preserved
 loop-step-preserved c =
     let joins = checked_fields c.args.joins.now in
@@ -59,4 +74,7 @@ loop-step-preserved c =
           ∙ sym (map-append plan_step_of c.loop-step.yielded (step ∷ []));
       leads = subst (λ (ss : List Stage). Leads joins c.args.first c.args.schema ss c.in_ok-operator.after) (sym c.in_ok-push.ensures.items)
           (leads-further joins c.args.first c.args.schema stages c.loop-step.schema stage number c.in_ok-operator.after c.loop-step.invariant.leads same refl c.in_ok-operator.ensures.turns);
+      place = λ sources total few h.
+          below c.args.first c.args.steps.items c.loop-step.yielded c.next.new.self.rest.items step c.len-in-loop-step.result total
+          (c.loop-step.invariant.left ∙ ap (λ rest. c.loop-step.yielded ++ rest) c.in-Some.ensures.steps.0) (omega (arith, c.loop-step.invariant.count, c.len-in-loop-step.ensures)) few;
     }
