@@ -22,3 +22,11 @@ pub mod FaultLemmas
 pub mod StartLemmas
 pub mod ScheduleLemmas
 pub mod SetLemmas
+pub mod WorkerThreadLemmas
+pub mod FeedThreadLemmas
+pub mod ThreadLemmas
+pub mod LaneLemmas
+pub mod TurnLemmas
+pub mod StepLemmas
+pub mod JoinLemmas
+pub mod BeginLemmas

@@ -33,7 +33,7 @@ end_some true n k e = refl
 end_some false n k e = let bad : ⊥ = cc in absurd bad
 
 module _ {O : Type 0} where
-  numbers_prefix : (es fs : List (ℕ × ℕ × O)) → IsPrefix es fs → IsPrefix (numbers es) (numbers fs)
+  pub numbers_prefix : (es fs : List (ℕ × ℕ × O)) → IsPrefix es fs → IsPrefix (numbers es) (numbers fs)
   numbers_prefix es fs (t, e) = (numbers t, sym (map-append (λ q. (q.0, q.1)) es t) ∙ ap numbers e)
 
 module _ {F : Type 0} where

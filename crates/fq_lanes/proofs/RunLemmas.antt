@@ -38,7 +38,7 @@ module _ {X O : Type 0} where
   offers_on works items items' events events' reads h f s o e =
       let was = h f s o (sym (reads.offers f s) ∙ e) in (was.0, reads.stays f s was.0 was.1, was.2)
 
-  numbers_work : (works : ℕ → X → O → Type 0) (all : List (List X)) (f s : ℕ) (x : X) (o : O) → item_at all f s ≡ Some x → (y : X) × (item_at all f s ≡ Some y) × works f y o → works f x o
+  pub numbers_work : (works : ℕ → X → O → Type 0) (all : List (List X)) (f s : ℕ) (x : X) (o : O) → item_at all f s ≡ Some x → (y : X) × (item_at all f s ≡ Some y) × works f y o → works f x o
   numbers_work works all f s x o at (y, here, w) = let same : y ≡ x = cc in subst (λ z. works f z o) same w
 
 module _ {F X S O : Type 0} where

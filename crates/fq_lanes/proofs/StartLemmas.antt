@@ -16,7 +16,7 @@ use Rattle.fq_lanes.proofs.InletLemmas.{gave_none, some_lists}
 use Rattle.fq_lanes.specs.declared.hub.Hub.{Hub}
 use Rattle.fq_lanes.specs.declared.inlet.Inlet.{Inlet}
 
-none_due : (O : Type 0) (files : ℕ) → due {T = O} [] files ≡ []
+pub none_due : (O : Type 0) (files : ℕ) → due {T = O} [] files ≡ []
 none_due O zero = refl
 none_due O (suc files) = refl
 

@@ -16,3 +16,10 @@ pub mod Faults
 pub mod Round
 pub mod Schedule
 pub mod Examples
+pub mod Lane
+pub mod FeedThread
+pub mod WorkerThread
+pub mod HubView
+pub mod FeedLane
+pub mod WorkerLanes
+pub mod Turns

@@ -1,3 +1,5 @@
 //! What no contract says: that the calls succeed, over lists worked by hand, and what is drained.
-mod rounds;
+mod engines;
+mod fakes;
+mod lanes;
 mod sink;

@@ -1,0 +1,63 @@
+-- Lemmas on threads started by recursion.
+use Rattle.std.proofs.Common.{◌≡◌, List, [], ◌∷◌, ◌++◌, map, ap, sym, refl, false, ◌∙◌, append_assoc}
+use Rattle.std.proofs.lemmas.List.{map-append}
+use Rattle.fq_lanes.specs.WorkerLanes.{worker_view, AreNewWorkers}
+use Rattle.fq_lanes.specs.FeedLane.{feed_view, AreNewFeeds}
+use Rattle.fq_lanes.specs.HubView.{FeedView, WorkerView}
+use Rattle.fq_lanes.specs.declared.worker_lanes.WorkerLanes.{WorkerLanes}
+use Rattle.fq_lanes.specs.declared.feed_lane.FeedLane.{FeedLane}
+
+module _ {A B : Type 0} where
+  -- the last lane's list moves from the lanes that are left to the lists that are done
+  pub list_moves : (f : A → B) (all rest : List A) (last : A) (done : List B)
+      → all ≡ rest ++ last ∷ [] → map f all ++ done ≡ map f rest ++ f last ∷ done
+  list_moves f all rest last done e =
+      ap (λ xs. map f xs ++ done) e ∙ ap (λ xs. xs ++ done) (map-append f rest (last ∷ [])) ∙ append_assoc (map f rest) (f last ∷ []) done
+
+module _ {A : Type 0} where
+  abbrev head_of : A → List A → A
+  head_of d [] = d
+  head_of d (x ∷ xs) = x
+
+  abbrev tail_of : List A → List A
+  tail_of [] = []
+  tail_of (x ∷ xs) = xs
+
+  -- the last of a list, and what stands before it
+  pub snoc_both : (xs ys : List A) (x y : A) → xs ++ x ∷ [] ≡ ys ++ y ∷ [] → (xs ≡ ys) × (x ≡ y)
+  snoc_both [] [] x y e = (refl, ap (head_of x) e)
+  snoc_both [] (b ∷ []) x y e = let bad : ⊥ = cc in absurd bad
+  snoc_both [] (b ∷ c ∷ ys) x y e = let bad : ⊥ = cc in absurd bad
+  snoc_both (a ∷ []) [] x y e = let bad : ⊥ = cc in absurd bad
+  snoc_both (a ∷ c ∷ xs) [] x y e = let bad : ⊥ = cc in absurd bad
+  snoc_both (a ∷ xs) (b ∷ ys) x y e =
+      let rest = snoc_both xs ys x y (ap tail_of e) in
+      (ap (λ z. z ∷ xs) (ap (head_of x) e) ∙ ap (λ zs. b ∷ zs) rest.0, rest.1)
+
+module _ {A B : Type 0} where
+  -- where the lists that f makes are the same, and the last ones are taken off
+  pub names_split : (f : A → B) (all before popped now : List A) (last first : A)
+      → map f all ≡ map f before → all ≡ popped ++ last ∷ [] → before ≡ now ++ first ∷ [] → (map f popped ≡ map f now) × (f last ≡ f first)
+  names_split f all before popped now last first e p q =
+      snoc_both (map f popped) (map f now) (f last) (f first)
+      (sym (map-append f popped (last ∷ [])) ∙ ap (map f) (sym p) ∙ e ∙ ap (map f) q ∙ map-append f now (first ∷ []))
+
+module _ {X O : Type 0} where
+  pub new_workers_push : (ds : List (WorkerLanes X O)) (d : WorkerLanes X O) → AreNewWorkers ds → (worker_view d).jobs ≡ [] → (worker_view d).answers ≡ [] → (worker_view d).outstanding ≡ [] → AreNewWorkers (ds ++ d ∷ [])
+  new_workers_push [] d h js rs os = (
+    ap {B = WorkerView X O} (λ l. record { jobs = l; answers = (worker_view d).answers; outstanding = (worker_view d).outstanding }) js
+        ∙ ap {B = WorkerView X O} (λ l. record { jobs = []; answers = l; outstanding = (worker_view d).outstanding }) rs
+        ∙ ap {B = WorkerView X O} (λ l. record { jobs = []; answers = []; outstanding = l }) os,
+    tt,
+  )
+  new_workers_push (e ∷ ds) d h js rs os = (h.0, new_workers_push ds d h.1 js rs os)
+
+module _ {X : Type 0} where
+  pub new_feeds_push : (ns : List (FeedLane X)) (n : FeedLane X) → AreNewFeeds ns → (feed_view n).told ≡ [] → (feed_view n).items ≡ 0 → (feed_view n).ended ≡ false → AreNewFeeds (ns ++ n ∷ [])
+  new_feeds_push [] n h t i e = (
+    ap {B = FeedView X} (λ l. record { told = l; items = (feed_view n).items; ended = (feed_view n).ended }) t
+        ∙ ap {B = FeedView X} (λ l. record { told = []; items = l; ended = (feed_view n).ended }) i
+        ∙ ap {B = FeedView X} (λ l. record { told = []; items = 0; ended = l }) e,
+    tt,
+  )
+  new_feeds_push (m ∷ ns) n h t i e = (h.0, new_feeds_push ns n h.1 t i e)

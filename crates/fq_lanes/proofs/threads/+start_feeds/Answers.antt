@@ -1,0 +1,63 @@
+use Rattle.std.proofs.Common.{rules, ◌≡◌, [], ◌∷◌, ◌++◌, All, sym, subst, ap, ◌∙◌, length}
+use Rattle.fq_lanes.specs.FeedLane.{feed_name, AreNewFeeds, tolds_of, told_of}
+use Rattle.std.proofs.lemmas.List.Elements.{All-tail}
+use Rattle.std.specs.Vec.Iter.{into_iter_items}
+use Rattle.fq_lanes.specs.Lane.{put_items, put_name, take_name, taken_items, left_items}
+use Rattle.fq_lanes.specs.FeedThread.{Scanned, Began}
+use Rattle.fq_lanes.specs.Lists.{Each}
+use Rattle.std.proofs.lemmas.List.{append-nil, nil_from_length}
+use Rattle.fq_lanes.proofs.ThreadLemmas.{list_moves, names_split, new_feeds_push}
+use Rattle.std.proofs.lemmas.Result.{on_ok_weaker}
+use Rattle.fq_lanes.proofs.threads.+start_feeds.Goals as goal
+
+pub returns-in_default-clause-done : goal.returns-in_default-clause-done
+returns-in_default-clause-done g t c =
+    let short : length (into_iter_items c.args.feeds.now) ≡ 0 = search rules in
+    let none = nil_from_length (into_iter_items c.args.feeds.now) short in
+    on_ok_weaker c.start_workers.result
+    (λ i. (
+      [],
+      subst (λ fs. Each (Began g.F.Feed.gives g.F.Feed.may_fail) fs []) (sym none) tt,
+      (i.0, i.1, subst (λ ts. g.H.Core.done c.args.hub.now ts i.0 c.start_workers.new.hub) (sym (append-nil (tolds_of c.start_workers.new.lanes.items))) i.2),
+    ))
+    c.start_workers.ensures.done
+
+pub start_feeds-outcome-requires-clause-open : goal.start_feeds-outcome-requires-clause-open
+start_feeds-outcome-requires-clause-open g t c κs within =
+    All-tail g.F.Feed.is_open c.in-Some.feed _ (subst (All g.F.Feed.is_open) c.in-Some.ensures.items c.requires.open)
+
+pub returns-in-Some-pop-clause-done : goal.returns-in-Some-pop-clause-done
+returns-in-Some-pop-clause-done g t c =
+    let popped = c.in-Some-pop.ensures.items in
+    let kept = c.join-put.ensures in
+    let taken = told_of c.in-Some-pop.lane in
+    let began : Began g.F.Feed.gives g.F.Feed.may_fail c.in-Some.feed taken =
+    let same : c.in-Ok-spawn_with.child.promise.feed.value ≡ c.in-Some.feed = ap (λ p. p.feed.value) c.in-Ok-spawn_with.ensures.ok ∙ c.of.ensures in
+    (put_items c.join-put.result, subst (λ f. Scanned g.F.Feed.gives g.F.Feed.may_fail f (put_items c.join-put.result)) same kept.1, (left_items c.rejoin.result, c.rejoin.ensures)) in
+    on_ok_weaker c.start_feeds-outcome.result
+    (λ i. (
+      taken ∷ i.0,
+      subst (λ fs. Each (Began g.F.Feed.gives g.F.Feed.may_fail) fs (taken ∷ i.0)) (sym c.in-Some.ensures.items) (began, i.1),
+      (i.2.0, i.2.1, subst (λ ts. g.H.Core.done c.args.hub.now ts i.2.0 c.start_feeds-outcome.new.hub) (list_moves told_of _ _ c.in-Some-pop.lane i.0 popped) i.2.2),
+    ))
+    c.start_feeds-outcome.ensures.done
+
+pub start_feeds-outcome-requires-clause-lanes : goal.start_feeds-outcome-requires-clause-lanes
+start_feeds-outcome-requires-clause-lanes g t c κs within =
+    let pushed : c.push.new.self.items ≡ c.args.lanes.now.items ++ c.new.result ∷ [] = c.in-Ok-push.ensures.items in
+    subst (λ l. AreNewFeeds l) (sym pushed) (new_feeds_push c.args.lanes.now.items c.new.result c.requires.lanes
+    (ap taken_items c.new.ensures.0 ∙ c.in-Ok.ensures.empty.1) c.new.ensures.1 c.new.ensures.2)
+
+pub rejoin-requires : goal.rejoin-requires
+rejoin-requires g t c =
+    let pushed : c.push.new.self.items ≡ c.args.lanes.now.items ++ c.new.result ∷ [] = c.in-Ok-push.ensures.items in
+    let split = names_split feed_name c.start_feeds-outcome.new.lanes.items c.push.new.self.items c.pop.new.self.items c.args.lanes.now.items c.in-Some-pop.lane c.new.result
+    c.start_feeds-outcome.ensures.lanes c.in-Some-pop.ensures.items pushed in
+    let mine : c.in-Ok-spawn_with.child.promise.put.value ≡ c.in-Ok.put = ap (λ p. p.put.value) c.in-Ok-spawn_with.ensures.ok ∙ c.of-2.ensures in
+    c.join-put.ensures.0 ∙ ap put_name mine ∙ c.in-Ok.ensures.pair ∙ sym (split.1 ∙ ap take_name c.new.ensures.0)
+
+pub returns-in-Some-pop-clause-lanes : goal.returns-in-Some-pop-clause-lanes
+returns-in-Some-pop-clause-lanes g t c =
+    let pushed : c.push.new.self.items ≡ c.args.lanes.now.items ++ c.new.result ∷ [] = c.in-Ok-push.ensures.items in
+    (names_split feed_name c.start_feeds-outcome.new.lanes.items c.push.new.self.items c.pop.new.self.items c.args.lanes.now.items c.in-Some-pop.lane c.new.result
+    c.start_feeds-outcome.ensures.lanes c.in-Some-pop.ensures.items pushed).0

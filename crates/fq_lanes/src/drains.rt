@@ -1,0 +1,53 @@
+//! What still comes after a fault is taken and dropped.
+ghost use Rattle.std.specs.Prelude.{◌≡◌, ◌≤◌, List, length};
+ghost use mathlib.Core.List.{IsPrefix};
+ghost use Rattle.fq_lanes.specs.WorkerLanes.{worker_names, worker_views};
+ghost use Rattle.fq_lanes.specs.FeedLane.{feed_names, feed_views};
+ghost use Rattle.fq_lanes.specs.HubView.{Grows, WorkerGrows, told_in};
+ghost use Rattle.fq_lanes.specs.Turns.{BlamesTold};
+ghost use Rattle.fq_lanes.specs.declared.messages.FromFeed.{FromFeed};
+
+use crate::faults::{RunFault, first_fault};
+use crate::feed_lane::FeedLane;
+use crate::worker_lanes::WorkerLanes;
+use std::sync::Wait;
+
+/// Takes and drops until every feed has ended. Answers the fault that goes first, of this one and theirs.
+pub(crate) fn drain_lanes<R: Wait, X: Drop>(
+    rt: &R,
+    lanes: &mut Vec<FeedLane<'_, X>>,
+    fault: RunFault,
+) -> RunFault
+    requires few { length lanes.old.items ≤ 16 }
+    ensures size { length lanes.new.items ≡ length lanes.old.items }
+    ensures names { feed_names lanes.new.items ≡ feed_names lanes.old.items }
+    ensures grows { Grows IsPrefix (told_in (feed_views lanes.old.items)) (told_in (feed_views lanes.new.items)) }
+    ensures blames { BlamesTold (told_in (feed_views lanes.old.items)) fault → BlamesTold (told_in (feed_views lanes.new.items)) result }
+{
+    let mut first = fault;
+    for file in 0..lanes.len() {
+        let other = lanes[file].drain(rt);
+        first = first_fault(first, other, file as u16);
+    }
+    first
+}
+
+/// Takes and drops until no job is outstanding. Answers `Memory` where the work on one of them was refused, and else the
+/// fault that was known.
+pub(crate) fn drain_workers<R: Wait, X, O: Drop>(
+    rt: &R,
+    workers: &mut Vec<WorkerLanes<'_, X, O>>,
+    fault: RunFault,
+) -> RunFault
+    ensures names { worker_names workers.new.items ≡ worker_names workers.old.items }
+    ensures grows { Grows WorkerGrows (worker_views workers.old.items) (worker_views workers.new.items) }
+    ensures blames { (tolds : List (List (FromFeed X))) → BlamesTold tolds fault → BlamesTold tolds result }
+{
+    let mut first = fault;
+    for worker in 0..workers.len() {
+        if workers[worker].drain(rt) {
+            first = RunFault::Memory;
+        }
+    }
+    first
+}

@@ -1,0 +1,58 @@
+//! The thread of a feed.
+ghost use Rattle.std.specs.Prelude.{◌≡◌, [], ◌∷◌, ◌++◌};
+ghost use Rattle.fq_lanes.specs.Lane.{put_items, SamePut};
+ghost use Rattle.fq_lanes.specs.FeedThread.{Scanned};
+
+use crate::feeds::Feed;
+use crate::lanes::Put;
+use crate::messages::FromFeed;
+use crate::waiting::Waiter;
+use std::sync::Wait;
+
+/// Puts an item, and waits while the lane is full.
+pub(crate) fn put_waiting<R: Wait, T>(rt: &R, waiter: Waiter<'_>, put: &mut Put<T>, item: T)
+    ensures lane { SamePut put.old put.new }
+    ensures put { put_items put.new ≡ put_items put.old ++ item ∷ [] }
+{
+    let mut item = item;
+    for _ in rt.forever() {
+        match put.put(item) {
+            Ok(()) => {
+                waiter.wake();
+                return;
+            }
+            Err(back) => item = back,
+        }
+        waiter.wait(rt);
+    }
+    unreachable!()
+}
+
+/// Puts what the feed gives, and its end.
+pub(crate) fn run_feed<R: Wait, F: Feed + Drop>(
+    rt: &R,
+    waiter: Waiter<'_>,
+    feed: F,
+    put: Put<FromFeed<F::Item>>,
+) -> Put<FromFeed<F::Item>>
+    requires { F.is_open feed × (put_items put ≡ []) }
+    ensures lane { SamePut put result }
+    ensures scanned { Scanned F.gives F.may_fail feed (put_items result) }
+{
+    let mut feed = feed;
+    let mut put = put;
+    for _ in rt.forever() {
+        match feed.next() {
+            Ok(Some(item)) => put_waiting(rt, waiter, &mut put, FromFeed::Item(item)),
+            Ok(None) => {
+                put_waiting(rt, waiter, &mut put, FromFeed::End(None));
+                return put;
+            }
+            Err(fault) => {
+                put_waiting(rt, waiter, &mut put, FromFeed::End(Some(fault)));
+                return put;
+            }
+        }
+    }
+    unreachable!()
+}

@@ -1,0 +1,214 @@
+//! The engine by free threads.
+ghost use Rattle.std.specs.Prelude.{◌≡◌, ◌≤◌, ◌+◌, ℕ, List, [], All, IfOk, IfErr, OnOk, OnErr, length};
+ghost use Rattle.std.specs.Vec.Iter.{into_iter_items};
+ghost use Rattle.fq_lanes.specs.WorkerLanes.{worker_names, worker_views, AreNewWorkers};
+ghost use Rattle.fq_lanes.specs.Engine.{Finishes, StopsEarly, BlamesFeed};
+ghost use Rattle.fq_lanes.specs.FeedLane.{feed_names, tolds_of, AreNewFeeds};
+ghost use Rattle.fq_lanes.specs.Lists.{Each};
+ghost use Rattle.fq_lanes.specs.FeedThread.{Began};
+ghost use Rattle.fq_lanes.specs.Sink.{HasAccepted, file_count};
+ghost use Rattle.fq_lanes.specs.HubView.{WorkerView, AllReplied};
+ghost use Rattle.fq_lanes.specs.Turns.{RunDone};
+ghost use Rattle.fq_lanes.specs.declared.messages.FromFeed.{FromFeed};
+
+use crate::drains::{drain_lanes, drain_workers};
+use crate::faults::{Memory, RunFault};
+use crate::feed_lane::FeedLane;
+use crate::feeds::Feed;
+use crate::gates::Gate;
+use crate::hub::Hub;
+use crate::reports::Report;
+use crate::sinks::Sink;
+use crate::tails::Tail;
+use crate::threads::{Core, start_feeds};
+use crate::turns::run_turns;
+use crate::waiting::Parkers;
+use crate::worker_lanes::WorkerLanes;
+use crate::workers::Work;
+use std::alloc::Global;
+use std::sync::Wait;
+use std::thread;
+use std::thread::{Parker, Threads};
+
+/// The hub, and how its turns ended.
+#[derive(Drop)]
+struct Run<'s, S, O> {
+    parker: &'s Parker,
+    hub: Hub<S, O>,
+    outcome: Result<(), RunFault>,
+}
+
+/// The hub's turns, and after a fault all that still comes is taken and dropped.
+fn run_hub<R: Wait, X: Drop, S: Tail>(
+    rt: &R,
+    parker: &Parker,
+    lanes: &mut Vec<FeedLane<'_, X>>,
+    workers: &mut Vec<WorkerLanes<'_, X, S::Out>>,
+    hub: &mut Hub<S, S::Out>,
+) -> Result<(), RunFault>
+where
+    S::Out: Drop,
+    requires few { length lanes.old.items ≤ 16 }
+    requires files { file_count hub.old.sink ≡ length lanes.old.items }
+    requires accepted { HasAccepted hub.old.sink [] 0 }
+    requires trace { hub.old.trace.items ≡ [] }
+    requires lanes { AreNewFeeds lanes.old.items }
+    requires workers { AreNewWorkers workers.old.items }
+    ensures lanes { feed_names lanes.new.items ≡ feed_names lanes.old.items }
+    ensures workers { worker_names workers.new.items ≡ worker_names workers.old.items }
+    ensures done { RunDone S.takes S.refuses hub.old.tail (tolds_of lanes.new.items) (worker_views workers.new.items) hub.new result }
+{
+    match run_turns(rt, parker, lanes, workers, hub) {
+        Ok(()) => Ok(()),
+        Err(fault) => {
+            let of_feeds = drain_lanes(rt, lanes, fault);
+            let of_all = drain_workers(rt, workers, of_feeds);
+            Err(of_all)
+        }
+    }
+}
+
+impl<X: Drop, O: Drop, S: Tail<Out = O>> Core<X, O> for Run<'_, S, O> {
+    ghost can_run = { λ run n. (n ≤ 16) × (file_count run.hub.sink ≡ n) × HasAccepted run.hub.sink [] 0 × (run.hub.trace.items ≡ []) };
+
+    ghost done = { λ old tolds ds new. RunDone S.takes S.refuses old.hub.tail tolds ds new.hub new.outcome };
+
+    fn run<R: Wait>(
+        &mut self,
+        rt: &R,
+        lanes: &mut Vec<FeedLane<'_, X>>,
+        workers: &mut Vec<WorkerLanes<'_, X, O>>,
+    ) {
+        self.outcome = run_hub(rt, self.parker, lanes, workers, &mut self.hub);
+    }
+}
+
+/// Nothing was taken yet, so a run may stop here.
+fn may_stop<F: Feed, W: Work<Item = F::Item>, S: Tail<Out = W::Out>>(
+    feeds: &Vec<F>,
+    work: &W,
+    tail: &S,
+)
+    ensures { StopsEarly F.gives (W.gives work.now) S.takes S.refuses feeds.now.items tail.now tail.now }
+{}
+
+/// Starts all threads, runs the core, and joins them.
+fn run_threads<
+    'e,
+    R: Threads + Wait + Sync,
+    F: Feed + Drop + Send + 'e,
+    W: Work<Item = F::Item> + Sync,
+    G: Gate<W::Out> + Sync,
+    H: Core<F::Item, W::Out> + Drop,
+>(
+    rt: &'e R,
+    alloc: Global,
+    parkers: &'e Parkers,
+    feeds: Vec<F>,
+    work: &'e W,
+    gate: &'e G,
+    workers: u16,
+    hub: H,
+) -> (H, Result<(), Memory>)
+where
+    F::Item: Drop + Send + 'e,
+    W::Out: Drop + Send + 'e,
+    requires few { length feeds.items ≤ 16 }
+    requires parkers { (length parkers.now.feeds.items ≡ length feeds.items) × (length parkers.now.workers.items ≡ workers) }
+    requires open { All F.is_open feeds.items }
+    requires hub { H.can_run hub (length feeds.items) }
+    ensures refused { OnErr result.1 (result.0 ≡ hub) }
+    ensures done { OnOk result.1 ((told : List (List (FromFeed F.Item))) × Each (Began F.gives F.may_fail) feeds.items told
+        × ((ds : List (WorkerView F.Item W.Out)) × AllReplied (W.gives work.now) ds × H.done hub told ds result.0)) }
+{
+    let feeds = feeds.into_iter();
+    thread::scope(
+        thread::scope_env(),
+        rt,
+        move |scope| -> (H, Result<(), Memory>)
+            requires { All F.is_open (into_iter_items feeds) × (length (into_iter_items feeds) ≤ 16) × (length parkers.now.feeds.items ≡ length (into_iter_items feeds)) × (length parkers.now.workers.items ≡ workers) × H.can_run hub (length (into_iter_items feeds)) }
+            ensures refused { OnErr result.1 (result.0 ≡ hub) }
+            ensures done { OnOk result.1 ((told : List (List (FromFeed F.Item))) × Each (Began F.gives F.may_fail) (into_iter_items feeds) told
+                × ((ds : List (WorkerView F.Item W.Out)) × AllReplied (W.gives work.entry.now) ds × H.done hub told ds result.0)) }
+        {
+            let mut feeds = feeds;
+            let mut lanes = Vec::new(alloc);
+            let mut hub = hub;
+            let outcome = start_feeds(
+                scope, rt, alloc, parkers, work, gate, workers, &mut feeds, &mut lanes, &mut hub,
+            );
+            (hub, outcome)
+        },
+    )
+}
+
+/// Runs the work on the items of the feeds in free threads, one for each feed and one for each worker, hands the answers to
+/// the tail by file, then serial, and hands the tail back.
+///
+/// `feeds[f]` is file f. With no fault the tail has taken the work on each feed's items, each once, by file, then serial.
+/// After a fault the tail has taken a prefix of that. Once a fault is known nothing more is offered; what still comes from
+/// the feeds is taken and dropped until they have ended. `RunFault::Memory` goes before `RunFault::Read`, which names the
+/// lowest file whose feed failed. Where a thread is refused, the feeds whose threads had started are drained, and the
+/// answer is `RunFault::Memory`.
+pub fn run_lanes<
+    'e,
+    R: Threads + Wait + Sync,
+    F: Feed + Drop + Send + 'e,
+    W: Work<Item = F::Item> + Sync,
+    G: Gate<W::Out> + Sync,
+    S: Tail<Out = W::Out> + Drop,
+>(
+    rt: &'e R,
+    alloc: Global,
+    feeds: Vec<F>,
+    work: &'e W,
+    gate: &'e G,
+    tail: S,
+    workers: u16,
+) -> (S, Result<Report, RunFault>)
+where
+    F::Item: Drop + Send + 'e,
+    W::Out: Drop + Send + 'e,
+    requires feeds { length feeds.items ≤ 16 }
+    requires open { All F.is_open feeds.items }
+    requires workers { (1 ≤ workers) × (workers ≤ 16) }
+    ensures done { IfOk result.1 (λ report. Finishes F.gives (W.gives work.now) S.takes feeds.items tail report.trace.items result.0) }
+    ensures stopped { OnErr result.1 (StopsEarly F.gives (W.gives work.now) S.takes S.refuses feeds.items tail result.0) }
+    ensures fault { IfErr result.1 (λ fault. BlamesFeed F.may_fail feeds.items fault) }
+{
+    may_stop(&feeds, work, &tail);
+    let files = feeds.len() as u16;
+    let Ok(sink) = Sink::new(alloc, files) else {
+        return (tail, Err(RunFault::Memory));
+    };
+    let Ok(parkers) = Parkers::new(alloc, feeds.len(), workers as usize) else {
+        return (tail, Err(RunFault::Memory));
+    };
+    let run = Run {
+        parker: parkers.hub(),
+        hub: Hub {
+            sink,
+            tail,
+            trace: Vec::new(alloc),
+        },
+        outcome: Ok(()),
+    };
+    let (run, started) = run_threads(rt, alloc, &parkers, feeds, work, gate, workers, run);
+    let Run {
+        parker: _,
+        hub,
+        outcome,
+    } = run;
+    let Hub {
+        sink: _,
+        tail,
+        trace,
+    } = hub;
+    match started {
+        Err(_) => (tail, Err(RunFault::Memory)),
+        Ok(()) => match outcome {
+            Ok(()) => (tail, Ok(Report { trace })),
+            Err(fault) => (tail, Err(fault)),
+        },
+    }
+}

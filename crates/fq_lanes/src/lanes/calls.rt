@@ -1,0 +1,70 @@
+//! The calls on lanes.
+ghost use Rattle.std.specs.Prelude.{◌≡◌, ℕ, ◌+◌, ◌^◌, ◌<◌, ◌≤◌, [], ◌∷◌, ◌++◌, IfOk, OnOk, IfErr, MatchOption};
+ghost use Rattle.fq_lanes.specs.Lane.{put_items, taken_items, left_items, IsLane, SamePut, SameTake};
+
+use super::{Left, Put, Take};
+use crate::faults::Memory;
+use rtrb::{PushError, RingBuffer};
+use std::alloc::Global;
+
+/// A lane with room for `capacity` items.
+pub fn lane<T: Drop>(alloc: Global, capacity: usize) -> Result<(Put<T>, Take<T>), Memory>
+    requires { (1 ≤ capacity) × (capacity ≤ 65536) }
+    ensures pair { IfOk result (λ r. IsLane r.0 r.1) }
+    ensures empty { IfOk result (λ r. (put_items r.0 ≡ []) × (taken_items r.1 ≡ [])) }
+{
+    match RingBuffer::new(alloc, capacity) {
+        Ok((producer, consumer)) => Ok((Put { producer }, Take { consumer })),
+        Err(_) => Err(Memory),
+    }
+}
+
+impl<T> Put<T> {
+    /// Puts an item, or hands it back where the lane is full.
+    pub fn put(&mut self, item: T) -> Result<(), T>
+        ensures lane { SamePut self.old self.new }
+        ensures ok { OnOk result (put_items self.new ≡ put_items self.old ++ item ∷ []) }
+        ensures full { IfErr result (λ back. (back ≡ item) × (put_items self.new ≡ put_items self.old)) }
+    {
+        match self.producer.push(item) {
+            Ok(()) => Ok(()),
+            Err(PushError::Full(back)) => Err(back),
+        }
+    }
+}
+
+impl<T> Take<T> {
+    /// Takes the oldest item, if one is seen.
+    pub fn take(&mut self) -> Option<T>
+        ensures lane { SameTake self.old self.new }
+        ensures taken { MatchOption result (taken_items self.new ≡ taken_items self.old) (λ x. taken_items self.new ≡ taken_items self.old ++ x ∷ []) }
+    {
+        match self.consumer.pop() {
+            Ok(item) => Some(item),
+            Err(_) => None,
+        }
+    }
+}
+
+/// Brings the two ends of a lane together.
+pub fn rejoin<T>(put: Put<T>, take: Take<T>) -> Left<T>
+    requires { IsLane put take }
+    ensures { taken_items take ++ left_items result ≡ put_items put }
+{
+    let Put { producer: mut put } = put;
+    let Take { consumer: mut take } = take;
+    take.slots_beside(&mut put);
+    Left { put, take }
+}
+
+impl<T> Left<T> {
+    /// Hands out the oldest item that was left.
+    pub fn next(&mut self) -> Option<T>
+        ensures { MatchOption result ((left_items self.old ≡ []) × (left_items self.new ≡ [])) (λ x. left_items self.old ≡ x ∷ left_items self.new) }
+    {
+        if self.take.cached_slots() == 0 {
+            return None;
+        }
+        Some(self.take.pop_known())
+    }
+}

@@ -1,0 +1,306 @@
+//! The threads of the feeds, and then those of the workers.
+ghost use Rattle.std.specs.Prelude.{◌≡◌, ◌≤◌, ◌+◌, ℕ, List, [], ◌∷◌, ◌++◌, OnOk, OnErr, All, Result, length};
+ghost use Rattle.std.specs.Vec.Iter.{into_iter_items, into_iter_len};
+ghost use Rattle.std.specs.Thread.{IsSync};
+ghost use Rattle.fq_lanes.specs.WorkerLanes.{worker_names, worker_views, AreNewWorkers};
+ghost use Rattle.fq_lanes.specs.FeedLane.{feed_names, tolds_of, AreNewFeeds};
+ghost use Rattle.fq_lanes.specs.Lane.{put_items, taken_items, SamePut, SameTake};
+ghost use Rattle.fq_lanes.specs.Lists.{Each};
+ghost use Rattle.fq_lanes.specs.FeedThread.{Scanned, Began};
+ghost use Rattle.fq_lanes.specs.HubView.{WorkerView, AllReplied};
+ghost use Rattle.fq_lanes.specs.WorkerThread.{Replied};
+ghost use Rattle.fq_lanes.specs.declared.messages.FromFeed.{FromFeed};
+
+use crate::drains::drain_lanes;
+use crate::faults::{Memory, RunFault};
+use crate::feed_lane::FeedLane;
+use crate::feed_thread::{put_waiting, run_feed};
+use crate::feeds::Feed;
+use crate::gates::Gate;
+use crate::lanes::{Put, Take, lane, rejoin};
+use crate::messages::{FromFeed, ToWorker};
+use crate::waiting::Parkers;
+use crate::worker_lanes::{MOST_OUTSTANDING, WorkerLanes};
+use crate::worker_thread::run_worker;
+use crate::workers::Work;
+use std::alloc::Global;
+use std::snapshot::Snapshot;
+use std::sync::Wait;
+use std::thread::{Promise, Scope, Threads};
+use std::vec::IntoIter;
+
+/// How many items a feed's thread may be ahead of the hub, beside the one in its hand.
+const ITEMS_AHEAD: usize = 2;
+
+/// What runs once all threads have started.
+pub(crate) trait Core<X, O> {
+    /// It can run over so many feeds' lanes.
+    ghost can_run: { Self → ℕ → Type 0 };
+
+    /// What the run did, by what went through its ends of the lanes.
+    ghost done: { Self → List (List (FromFeed X)) → List (WorkerView X O) → Self → Type 0 };
+
+    /// Runs, to the end of all that comes from the lanes.
+    fn run<R: Wait>(
+        &mut self,
+        rt: &R,
+        lanes: &mut Vec<FeedLane<'_, X>>,
+        workers: &mut Vec<WorkerLanes<'_, X, O>>,
+    )
+        requires run { can_run self.old (length lanes.old.items) }
+        requires lanes { AreNewFeeds lanes.old.items }
+        requires workers { AreNewWorkers workers.old.items }
+        ensures lanes { feed_names lanes.new.items ≡ feed_names lanes.old.items }
+        ensures workers { worker_names workers.new.items ≡ worker_names workers.old.items }
+        ensures done { done self.old (tolds_of lanes.new.items) (worker_views workers.new.items) self.new };
+}
+
+/// What a worker's thread promises of its ends.
+#[derive(Drop)]
+struct WorkerPromise<W: Work> {
+    work: Snapshot<W>,
+    jobs: Snapshot<Take<ToWorker<W::Item>>>,
+    answers: Snapshot<Put<Result<W::Out, Memory>>>,
+}
+
+impl<W: Work> Promise<(Take<ToWorker<W::Item>>, Put<Result<W::Out, Memory>>)> for WorkerPromise<W> {
+    ghost kept_by = { λ p r. SameTake p.jobs.value r.0 × SamePut p.answers.value r.1 × Replied (W.gives p.work.value) (taken_items r.0) (put_items r.1) };
+}
+
+/// What a feed's thread promises of its end.
+#[derive(Drop)]
+struct FeedPromise<F: Feed> {
+    feed: Snapshot<F>,
+    put: Snapshot<Put<FromFeed<F::Item>>>,
+}
+
+impl<F: Feed> Promise<Put<FromFeed<F::Item>>> for FeedPromise<F> {
+    ghost kept_by = { λ p r. SamePut p.put.value r × Scanned F.gives F.may_fail p.feed.value (put_items r) };
+}
+
+/// Starts the threads of the workers from a number on, runs the core, and joins them.
+fn start_workers_from<
+    's,
+    E,
+    R: Threads + Wait + Sync,
+    W: Work + Sync,
+    G: Gate<W::Out> + Sync,
+    H: Core<W::Item, W::Out>,
+>(
+    scope: &Scope<'s, E>,
+    rt: &'s R,
+    alloc: Global,
+    parkers: &'s Parkers,
+    work: &'s W,
+    gate: &'s G,
+    from: u16,
+    count: u16,
+    lanes: &mut Vec<FeedLane<'s, W::Item>>,
+    workers: &mut Vec<WorkerLanes<'s, W::Item, W::Out>>,
+    hub: &mut H,
+) -> Result<(), Memory>
+where
+    W::Item: Drop + Send + 's,
+    W::Out: Drop + Send + 's,
+    requires few { length lanes.old.items ≤ 16 }
+    requires parkers { length parkers.now.workers.items ≡ count }
+    requires hub { H.can_run hub.old (length lanes.old.items) }
+    requires lanes { AreNewFeeds lanes.old.items }
+    requires workers { AreNewWorkers workers.old.items }
+    ensures lanes { feed_names lanes.new.items ≡ feed_names lanes.old.items }
+    ensures workers { worker_names workers.new.items ≡ worker_names workers.old.items }
+    ensures refused { OnErr result (hub.new ≡ hub.old) }
+    ensures done { OnOk result ((ds : List (WorkerView W.Item W.Out)) × AllReplied (W.gives work.now) ds × H.done hub.old (tolds_of lanes.new.items) (worker_views workers.new.items ++ ds) hub.new) }
+{
+    if from >= count {
+        hub.run(rt, lanes, workers);
+        return Ok(());
+    }
+    let waiter = parkers.of_worker(from);
+    let Ok((jobs, their_jobs)) = lane(alloc, MOST_OUTSTANDING) else {
+        drain_lanes(rt, lanes, RunFault::Memory);
+        return Err(Memory);
+    };
+    let Ok((their_answers, answers)) = lane(alloc, MOST_OUTSTANDING) else {
+        drain_lanes(rt, lanes, RunFault::Memory);
+        return Err(Memory);
+    };
+    let Ok(()) = workers.push(WorkerLanes::new(alloc, waiter.turned(), jobs, answers)) else {
+        drain_lanes(rt, lanes, RunFault::Memory);
+        return Err(Memory);
+    };
+    let promise = WorkerPromise {
+        work: Snapshot::of(work),
+        jobs: Snapshot::of(&their_jobs),
+        answers: Snapshot::of(&their_answers),
+    };
+    let task = move || -> (Take<ToWorker<W::Item>>, Put<Result<W::Out, Memory>>)
+        requires { (taken_items their_jobs ≡ []) × (put_items their_answers ≡ []) }
+        ensures { SameTake their_jobs result.0 × SamePut their_answers result.1 × Replied (W.gives work.entry.now) (taken_items result.0) (put_items result.1) }
+    { run_worker(rt, waiter, from, work, gate, their_jobs, their_answers) };
+    match scope.spawn_with(promise, task) {
+        Ok(child) => {
+            let outcome = start_workers_from(
+                scope,
+                rt,
+                alloc,
+                parkers,
+                work,
+                gate,
+                from + 1,
+                count,
+                lanes,
+                workers,
+                hub,
+            );
+            let Some(worker) = workers.pop() else {
+                unreachable!()
+            };
+            let WorkerLanes {
+                waiter: hub_waiter,
+                jobs,
+                answers,
+                outstanding: _,
+            } = worker;
+            let mut jobs = jobs;
+            put_waiting(rt, hub_waiter, &mut jobs, ToWorker::Stop);
+            let (their_jobs, their_answers) = child.join(rt);
+            drop(rejoin(jobs, their_jobs));
+            drop(rejoin(their_answers, answers));
+            outcome
+        }
+        Err(refused) => {
+            drop(refused);
+            workers.pop();
+            drain_lanes(rt, lanes, RunFault::Memory);
+            Err(Memory)
+        }
+    }
+}
+
+/// Starts the workers over workers of their own.
+fn start_workers<
+    's,
+    E,
+    R: Threads + Wait + Sync,
+    W: Work + Sync,
+    G: Gate<W::Out> + Sync,
+    H: Core<W::Item, W::Out>,
+>(
+    scope: &Scope<'s, E>,
+    rt: &'s R,
+    alloc: Global,
+    parkers: &'s Parkers,
+    work: &'s W,
+    gate: &'s G,
+    count: u16,
+    lanes: &mut Vec<FeedLane<'s, W::Item>>,
+    hub: &mut H,
+) -> Result<(), Memory>
+where
+    W::Item: Drop + Send + 's,
+    W::Out: Drop + Send + 's,
+    requires few { length lanes.old.items ≤ 16 }
+    requires parkers { length parkers.now.workers.items ≡ count }
+    requires hub { H.can_run hub.old (length lanes.old.items) }
+    requires lanes { AreNewFeeds lanes.old.items }
+    ensures lanes { feed_names lanes.new.items ≡ feed_names lanes.old.items }
+    ensures refused { OnErr result (hub.new ≡ hub.old) }
+    ensures done { OnOk result ((ds : List (WorkerView W.Item W.Out)) × AllReplied (W.gives work.now) ds × H.done hub.old (tolds_of lanes.new.items) ds hub.new) }
+{
+    let mut workers = Vec::new(alloc);
+    start_workers_from(
+        scope,
+        rt,
+        alloc,
+        parkers,
+        work,
+        gate,
+        0,
+        count,
+        lanes,
+        &mut workers,
+        hub,
+    )
+}
+
+/// Starts a thread for each feed that is left, then the workers, runs the core, and joins them.
+pub(crate) fn start_feeds<
+    's,
+    E,
+    R: Threads + Wait + Sync,
+    F: Feed + Drop + Send + 's,
+    W: Work<Item = F::Item> + Sync,
+    G: Gate<W::Out> + Sync,
+    H: Core<F::Item, W::Out>,
+>(
+    scope: &Scope<'s, E>,
+    rt: &'s R,
+    alloc: Global,
+    parkers: &'s Parkers,
+    work: &'s W,
+    gate: &'s G,
+    count: u16,
+    feeds: &mut IntoIter<F>,
+    lanes: &mut Vec<FeedLane<'s, F::Item>>,
+    hub: &mut H,
+) -> Result<(), Memory>
+where
+    F::Item: Drop + Send + 's,
+    W::Out: Drop + Send + 's,
+    requires open { All F.is_open (into_iter_items feeds.old) }
+    requires few { length lanes.old.items + length (into_iter_items feeds.old) ≤ 16 }
+    requires parkers { (length parkers.now.feeds.items ≡ length lanes.old.items + length (into_iter_items feeds.old)) × (length parkers.now.workers.items ≡ count) }
+    requires hub { H.can_run hub.old (length lanes.old.items + length (into_iter_items feeds.old)) }
+    requires lanes { AreNewFeeds lanes.old.items }
+    ensures lanes { feed_names lanes.new.items ≡ feed_names lanes.old.items }
+    ensures refused { OnErr result (hub.new ≡ hub.old) }
+    ensures done { OnOk result ((told : List (List (FromFeed F.Item))) × Each (Began F.gives F.may_fail) (into_iter_items feeds.old) told
+        × ((ds : List (WorkerView F.Item W.Out)) × AllReplied (W.gives work.now) ds × H.done hub.old (tolds_of lanes.new.items ++ told) ds hub.new)) }
+{
+    let Some(feed) = feeds.next() else {
+        return start_workers(scope, rt, alloc, parkers, work, gate, count, lanes, hub);
+    };
+    let waiter = parkers.of_feed(lanes.len());
+    let Ok((put, take)) = lane(alloc, ITEMS_AHEAD) else {
+        drain_lanes(rt, lanes, RunFault::Memory);
+        return Err(Memory);
+    };
+    let Ok(()) = lanes.push(FeedLane::new(waiter.turned(), take)) else {
+        drain_lanes(rt, lanes, RunFault::Memory);
+        return Err(Memory);
+    };
+    let promise = FeedPromise {
+        feed: Snapshot::of(&feed),
+        put: Snapshot::of(&put),
+    };
+    let task = move || -> Put<FromFeed<F::Item>>
+        requires { F.is_open feed × (put_items put ≡ []) }
+        ensures { SamePut put result × Scanned F.gives F.may_fail feed (put_items result) }
+    { run_feed(rt, waiter, feed, put) };
+    match scope.spawn_with(promise, task) {
+        Ok(child) => {
+            let outcome = start_feeds(
+                scope, rt, alloc, parkers, work, gate, count, feeds, lanes, hub,
+            );
+            let put = child.join(rt);
+            let Some(lane) = lanes.pop() else {
+                unreachable!()
+            };
+            let FeedLane {
+                waiter: _,
+                take,
+                items: _,
+                ended: _,
+            } = lane;
+            drop(rejoin(put, take));
+            outcome
+        }
+        Err(refused) => {
+            drop(refused);
+            lanes.pop();
+            drain_lanes(rt, lanes, RunFault::Memory);
+            Err(Memory)
+        }
+    }
+}
