@@ -26,7 +26,6 @@ use Rattle.fq_lanes.specs.declared.events.Event.TheVariants.{Close}
 use Rattle.fq_lanes.specs.declared.hub.Hub.{Hub}
 use Rattle.fq_lanes.specs.declared.inlet.Inlet.{Inlet}
 use Rattle.fq_lanes.specs.declared.job.Job.{Job}
-use Rattle.fq_lanes.specs.declared.file_state.TheConstants.{SLOTS}
 
 end_some : (b : Bool) (n k : ℕ) → cond b (Some n) None ≡ Some k → b ≡ true
 end_some true n k e = refl

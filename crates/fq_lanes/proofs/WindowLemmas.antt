@@ -12,7 +12,6 @@ use Rattle.fq_lanes.specs.declared.events.Why.{Why}
 use Rattle.fq_lanes.specs.declared.events.Why.TheVariants.{Stranger}
 use Rattle.fq_lanes.specs.declared.events.Event.{Event}
 use Rattle.fq_lanes.specs.declared.events.Event.TheVariants.{Offer, Close}
-use Rattle.fq_lanes.specs.declared.file_state.TheConstants.{SLOTS}
 
 none_too : (b : Bool) (o o' : Option Why) → cond b o (Some Stranger) ≡ None → (o ≡ None → o' ≡ None) → cond b o' (Some Stranger) ≡ None
 none_too true o o' e h = h e

@@ -1,7 +1,7 @@
 -- The orders in which workers may be done: each item goes to one worker, each worker offers the work on its items in an
 -- order of its own, and these offers reach the sink merged in any way in which each is within its file's window, with one
 -- close for each file somewhere among them.
-use Rattle.std.specs.Prelude.{◌≡◌, ◌<◌, ◌+◌, ℕ, zero, suc, List, [], ◌∷◌, ◌++◌, map, length, set, Some, IsPermutation}
+use Rattle.std.specs.Prelude.{◌≡◌, ℕ, zero, suc, List, [], ◌∷◌, ◌++◌, map, length, set, Some, IsPermutation}
 use Rattle.std.specs.List.{slice_get, flat_map}
 use Rattle.fq_lanes.specs.Numbering.{numbered}
 use Rattle.fq_lanes.specs.Window.{InWindow}
