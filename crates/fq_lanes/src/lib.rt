@@ -51,8 +51,3 @@ pub use rounds::run_rounds;
 pub use sinks::Sink;
 pub use tails::Tail;
 pub use workers::Work;
-
-#[cfg(test)]
-mod examples;
-#[cfg(test)]
-mod tests;

@@ -6,8 +6,6 @@
 
 mod checks;
 mod evaluation;
-#[cfg(test)]
-mod examples;
 mod faults;
 mod feeds;
 mod finish;
@@ -20,8 +18,6 @@ mod rounds;
 mod runs;
 mod staged;
 mod stages;
-#[cfg(test)]
-mod tests;
 mod workers;
 
 pub use checks::Checked;

@@ -1,6 +1,6 @@
 //! The tests of the library crates' public calls, and the worked examples of their definitions.
 //!
-//! A crate with tests is proved once more with them; here the tests of several libraries are proved once. There is a module for
+//! A crate with tests is proved once more with them; here the tests of all libraries are proved once. There is a module for
 //! each crate under test, and the worked examples of its definitions, proved by computing both sides, stand in `examples`
 //! below it.
 #![tactic(auto)]
@@ -14,4 +14,8 @@ mod expressions;
 #[cfg(test)]
 mod fixtures;
 #[cfg(test)]
+mod lanes;
+#[cfg(test)]
 mod operators;
+#[cfg(test)]
+mod plans;

@@ -1,6 +1,6 @@
 //! Both engines, at each number of workers that matters, over feeds, work and a tail in memory.
 use super::fakes::{DOUBLES, Doubles, ENGINES, Steps, failed, fault_of, make_steps, run};
-use crate::faults::{FeedFault, RunFault};
+use fq_lanes::{FeedFault, RunFault};
 use std::sync::atomic::{AtomicU64, Ordering};
 use std::test::Fail;
 

@@ -1,7 +1,5 @@
 //! Events on a sink.
-use crate::driver::drive;
-use crate::events::{Event, Refused, Why};
-use crate::sinks::Sink;
+use fq_lanes::{Event, Refused, Sink, Why, drive};
 use std::alloc::Global;
 use std::process::Abort;
 use std::test::Fail;

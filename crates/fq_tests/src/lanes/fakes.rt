@@ -1,14 +1,9 @@
 //! Feeds, work and a tail in memory, for either engine.
 ghost use Rattle.std.specs.Prelude.{[], ◌≤◌, length};
 
-use crate::faults::{FeedFault, Memory, RunFault};
-use crate::feeds::Feed;
-use crate::free_threads::run_lanes;
-use crate::gates::NoGate;
-use crate::reports::Report;
-use crate::rounds::run_rounds;
-use crate::tails::Tail;
-use crate::workers::Work;
+use fq_lanes::{
+    Feed, FeedFault, Memory, NoGate, Report, RunFault, Tail, Work, run_lanes, run_rounds,
+};
 use std::alloc::Global;
 use std::sync::Wait;
 use std::sync::atomic::{AtomicU64, Ordering};

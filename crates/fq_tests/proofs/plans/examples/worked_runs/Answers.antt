@@ -1,6 +1,6 @@
 use Rattle.std.proofs.Common.{refl}
 use Rattle.fq_plan.proofs.OnLiterals.{plans_on_literals}
-use Rattle.fq_plan.proofs.examples.worked_runs.Goals as goal
+use Rattle.fq_tests.proofs.plans.examples.worked_runs.Goals as goal
 
 pub returns-clause-starts : goal.returns-clause-starts
 returns-clause-starts c = (refl, refl, refl, refl, refl)

@@ -1,6 +1,6 @@
 use Rattle.std.proofs.Common.{refl}
 use Rattle.fq_plan.proofs.OnLiterals.{plans_on_literals}
-use Rattle.fq_plan.proofs.examples.worked_plans.Goals as goal
+use Rattle.fq_tests.proofs.plans.examples.worked_plans.Goals as goal
 
 pub returns-clause-filtered : goal.returns-clause-filtered
 unfolding plans_on_literals

@@ -1,6 +1,6 @@
 use Rattle.std.proofs.Common.{refl}
 use Rattle.fq_plan.proofs.OnLiterals.{plans_on_literals}
-use Rattle.fq_plan.proofs.examples.worked_refusals.Goals as goal
+use Rattle.fq_tests.proofs.plans.examples.worked_refusals.Goals as goal
 
 pub returns-clause-no_plan : goal.returns-clause-no_plan
 unfolding plans_on_literals

@@ -1,8 +1,9 @@
-use crate::{CheckFault, Place, read_plan};
+//! Plans that the check refuses, and where.
 use fq_column::StepFault::{
     self, DoubleName, NoColumn, NoSuchColumn, NoSuchSource, NotBool, Samples, TooMany, Window,
     WrongKind,
 };
+use fq_plan::{CheckFault, Place, read_plan};
 use std::alloc::Global;
 use std::test::Fail;
 
@@ -11,6 +12,24 @@ const TWO_SOURCES: &str = r#"{"version":1,
     "steps":[{"filter":["gt",{"col":"k"},10]},{"join":{"source":0,"on":["k"],"how":"left"}},
     {"group_by":{"keys":["w"],"aggs":[["n","len"]]}},{"rolling_sum":{"column":"n","window":2,"name":"r"}},
     {"filter":["is_not_null",{"col":"r"}]}]}"#;
+
+// A step of each kind; the last is refused.
+const EVERYTHING: &str = r#"{
+    "steps": [
+        {"join": {"how": "left", "on": ["k"], "source": 0}},
+        {"filter": ["and", ["is_not_null", {"col": "v"}], ["or", true, ["eq", {"col": "k"}, "x"]]]},
+        {"with_columns": [["w", ["fill_null", ["neg", {"col": "v"}], -9223372036854775808]], ["n", {"null": "text"}]]},
+        {"rolling_sum": {"column": "w", "window": 3, "name": "r"}},
+        {"rolling_sum": {"column": "w", "window": 3, "min_samples": 1, "name": "s"}},
+        {"group_by": {"keys": ["k"], "aggs": [["rows", "len"], ["least", "min", "v"], ["texts", "n_unique", "n"]]}},
+        {"select": []}
+    ],
+    "sources": [
+        {"columns": [["k", "text"], ["t", "bool"]], "files": 4},
+        {"files": 12, "columns": [["k", "text"], ["v", "int"]]}
+    ],
+    "version": 1
+}"#;
 
 const ID_V: &str = r#"["id","int"],["v","int"]"#;
 
@@ -201,6 +220,13 @@ fn checked_plans(rt: HostRuntime) -> Result<(), Fail> {
     let over_ten = one_source(alloc, ID_V, r#"{"filter":["gt",{"col":"v"},10]}"#)?;
     assert_eq!(rt; inputs(alloc, over_ten.as_str())?, 1);
     assert_eq!(rt; inputs(alloc, TWO_SOURCES)?, 16);
+    Ok(())
+}
+
+// Each step is read as what it is: the last of seven is the first that is refused.
+#[test]
+fn a_step_of_each_kind(rt: HostRuntime) -> Result<(), Fail> {
+    assert_eq!(rt; refusal(rt.alloc(), EVERYTHING)?, at_step(6, NoColumn));
     Ok(())
 }
 

@@ -1,5 +1,5 @@
 use Rattle.std.proofs.Common.{[], ◌∷◌, refl, lit<}
-use Rattle.fq_lanes.proofs.examples.worked_examples.Goals as goal
+use Rattle.fq_tests.proofs.lanes.examples.worked_examples.Goals as goal
 
 pub returns-clause-drive : goal.returns-clause-drive
 returns-clause-drive c = record { double_due = refl; double_refused = refl; short_due = refl; short_refused = refl; far_due = refl; far_refused = refl; far_end_refused = refl }

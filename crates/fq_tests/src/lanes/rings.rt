@@ -2,9 +2,7 @@
 ghost use Rattle.std.specs.Prelude.{◌≡◌};
 
 use super::fakes::{DOUBLES, make_room, make_steps};
-use crate::free_threads::run_lanes;
-use crate::gates::Gate;
-use crate::lanes::{lane, rejoin};
+use fq_lanes::{Gate, lane, rejoin, run_lanes};
 use std::sync::atomic::{AtomicU64, Ordering};
 use std::test::Fail;
 

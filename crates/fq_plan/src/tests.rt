@@ -1,4 +1,0 @@
-mod checks;
-mod reading;
-mod rounds;
-mod runs;
