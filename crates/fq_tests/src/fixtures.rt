@@ -101,6 +101,25 @@ impl Read for Bytes<'_> {
     }
 }
 
+/// A reader that a signal interrupts before each read of these bytes.
+#[derive(Drop)]
+pub struct Interrupted<'a> {
+    /// What is left to give.
+    pub bytes: &'a [u8],
+    /// Whether the read before was interrupted.
+    pub was_interrupted: bool,
+}
+
+impl Read for Interrupted<'_> {
+    fn read(&mut self, buf: &mut [u8]) -> io::Result<usize> {
+        self.was_interrupted = !self.was_interrupted;
+        if self.was_interrupted {
+            return Err(io::Error::from(ErrorKind::Interrupted));
+        }
+        self.bytes.read(buf)
+    }
+}
+
 /// A writer that fails at once.
 #[derive(Drop)]
 pub struct Broken;

@@ -1,5 +1,5 @@
 //! Plans over files in memory, at several batch sizes and numbers of workers.
-use crate::fixtures::{Broken, Bytes};
+use crate::fixtures::{Broken, Bytes, Interrupted};
 use fq_plan::{Checked, Fault, read_plan};
 use std::alloc::Global;
 use std::sync::Wait;
@@ -557,6 +557,24 @@ fn a_reader_that_fails(rt: HostRuntime) -> Result<(), Fail> {
         assert_eq!(rt; answer.err(), Some(Fault::Read { file: 1 }));
         assert!(rt; text.is_empty());
     }
+    Ok(())
+}
+
+#[test]
+fn a_reader_that_is_interrupted(rt: HostRuntime) -> Result<(), Fail> {
+    let alloc = rt.alloc();
+    let plan = one_source(alloc, ID_V, OVER_TEN, 1)?;
+    let inputs = vec![in alloc;
+        Interrupted {
+            bytes: b"id,v\n1,5\n2,\n3,20\n",
+            was_interrupted: false,
+        },
+    ]?;
+    let mut text = Vec::new(alloc);
+    let checked = checked(alloc, plan.as_str())?;
+    let answer = checked.run(&rt, alloc, inputs, &mut text, 1_024, 2);
+    assert!(rt; answer.is_ok());
+    assert_eq!(rt; text.as_slice(), b"id,v\n3,20\n".as_slice());
     Ok(())
 }
 
