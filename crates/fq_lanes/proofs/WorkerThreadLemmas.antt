@@ -1,5 +1,5 @@
 -- Lemmas on jobs and answers.
-use Rattle.std.proofs.Common.{◌≡◌, ℕ, List, [], ◌∷◌, ◌++◌, length, arith, Result, Ok, Err, refl, sym, ap, subst, IsSome, option_to_list, Option, Some, None, inl, inr, IfOk}
+use Rattle.std.proofs.Common.{◌≡◌, ℕ, List, [], ◌∷◌, ◌++◌, length, arith, Result, Ok, Err, refl, sym, ap, subst, inl, inr, IfOk}
 use Rattle.fq_lanes.specs.declared.faults.Memory.{Memory}
 use Rattle.fq_lanes.specs.declared.job.Job.{Job}
 use Rattle.fq_lanes.specs.declared.messages.ToWorker.{ToWorker}
@@ -66,8 +66,3 @@ module _ {X O : Type 0} where
   replied_unstopped gives (o ∷ os) [] h = tt
   replied_unstopped gives (Do job ∷ os) (r ∷ rs) h = (h.0, replied_unstopped gives os rs h.1)
   replied_unstopped gives (Stop ∷ os) (r ∷ rs) h = absurd h
-
-  pub waits_popped : (os : List (ToWorker X)) (rs : List (Result O Memory)) (first : Option (ℕ × ℕ)) (old new : List (ℕ × ℕ)) (r : Result O Memory)
-      → IsSome first → old ≡ option_to_list first ++ new → Waits os rs old → Waits os (rs ++ r ∷ []) new
-  waits_popped os rs None old new r some e h = let bad : ⊥ = cc in absurd bad
-  waits_popped os rs (Some p) old new r some e h = (waits_less os rs p new r (subst (λ ps. Waits os rs ps) e h)).0

@@ -1,5 +1,5 @@
 -- What a contract sees of the ends of a lane.
-use Rattle.std.specs.Prelude.{◌≡◌, List, map}
+use Rattle.std.specs.Prelude.{◌≡◌, List}
 use Rattle.rtrb.specs.Ring.{sent, received, known_items}
 use Rattle.rtrb.specs.Shared.{Names}
 use denote.RawPtr.{Ptr}
@@ -44,10 +44,3 @@ module _ {T : Type 0} where
 
   abbrev pub SameTake : Take T → Take T → Type 0
   SameTake a b = take_name b ≡ take_name a
-
-  -- the lanes of these ends
-  abbrev pub lanes_of : List (Take T) → List Name
-  lanes_of ts = map take_name ts
-
-  abbrev pub taken_of : List (Take T) → List (List T)
-  taken_of ts = map taken_items ts

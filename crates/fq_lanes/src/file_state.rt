@@ -81,7 +81,7 @@ impl<T: Drop> FileState<T> {
         Ok(())
     }
 
-    /// Whether there is no slot for this serial yet, since it is at least `SLOTS` past the number of items handed out.
+    /// Whether this serial has no slot yet: it is at least `SLOTS` past the number of items handed out.
     pub(crate) fn is_far(&self, serial: u32) -> bool
         ensures { result ≡ nat_le (self.now.taken + SLOTS) serial }
     {

@@ -178,7 +178,7 @@ where
     }
 }
 
-/// Starts the workers over workers of their own.
+/// Starts a thread for each worker, runs the core, and joins them.
 fn start_workers<
     's,
     E,
