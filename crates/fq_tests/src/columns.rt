@@ -185,7 +185,7 @@ fn texts_in_place_and_on_the_heap_are_alike(rt: HostRuntime) -> Result<(), Fail>
     Ok(())
 }
 
-// The numbers below `count`, but for three that are null.
+// The numbers below `count`, with nulls in three places.
 fn with_gaps(alloc: Global, count: i64) -> Result<Vec<Option<i64>>, Memory> {
     let mut cells = Vec::new(alloc);
     for i in 0..count {
