@@ -19,3 +19,5 @@ mod lanes;
 mod operators;
 #[cfg(test)]
 mod plans;
+#[cfg(test)]
+mod program;

@@ -2,28 +2,14 @@
 //!
 //! With words, a plan file runs over data files: see `frameq --help`. Without words, the first line of standard input is
 //! the plan, in JSON, and the bytes after it are the one CSV file. The frame goes to standard output, a line on standard
-//! error says why there is none, and the exit status says how the run ended.
+//! error says why there is none, and the exit status says how the run ended. What is done stands in `fq_program`; here
+//! it meets the system.
 #![tactic(auto)]
 
-use failures::{Failure, report};
-use files::SystemFiles;
-use program::one_input;
+use fq_program::{Failure, SystemFiles, one_input, report, with_words};
 use std::env;
 use std::io::ErrorKind;
 use std::process::ExitCode;
-use words::with_words;
-
-#[cfg(test)]
-mod examples;
-mod failures;
-mod files;
-mod inputs;
-mod options;
-mod program;
-mod status;
-#[cfg(test)]
-mod tests;
-mod words;
 
 fn main(rt: HostRuntime) -> ExitCode {
     let alloc = rt.alloc();

@@ -1,0 +1,14 @@
+use Rattle.std.proofs.Common.{◌≡◌, ◌∙◌, sym, subst, ℕ}
+use Rattle.std.specs.Prelude.{◌⊎◌}
+use Rattle.fq_program.specs.Ending.{code_of, bad_device, no_memory}
+use Rattle.fq_program.specs.Program.{program}
+use Rattle.fq_program.proofs.EndingLemmas.{ended-well, ended-as}
+use Rattle.fq_program.proofs.program.one_input.Goals as goal
+
+pub returns-clause-status : goal.returns-clause-status
+returns-clause-status g c bytes known =
+    subst (λ (n : ℕ). (n ≡ code_of (program bytes)) ⊎ ((n ≡ bad_device) ⊎ (n ≡ no_memory))) (sym c.report.ensures)
+    (ended-as _ c.run_input.result (program bytes) (c.run_input.ensures.printed bytes known) (c.run_input.ensures.failed bytes known))
+
+pub returns-clause-output : goal.returns-clause-output
+returns-clause-output g c bytes known done = ended-well c.run_input.result (sym c.report.ensures ∙ done) (c.run_input.ensures.printed bytes known)

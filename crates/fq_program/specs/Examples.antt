@@ -1,0 +1,44 @@
+-- Worked examples: what inputs come to, from the bytes of standard input to the bytes of standard output, or the failure and its status.
+use Rattle.std.specs.Prelude.{◌≡◌, ℕ, ◌==◌, List, ◌++◌, map, codes, Result, Ok, Err, if◌then◌else◌}
+use Rattle.std.specs.Result.{result_map_both}
+use Rattle.fq_column.specs.declared.faults.StepFault.TheVariants.{NoSuchColumn}
+use Rattle.fq_csv.specs.Printed.{printed}
+use Rattle.fq_plan.specs.Judged.{refused_at}
+use Rattle.fq_plan.specs.declared.faults.PlanFault.TheVariants.{Json, Shape}
+use Rattle.fq_plan.specs.declared.faults.Place.TheVariants.{Step}
+use Rattle.fq_plan.specs.declared.faults.Fault.TheVariants.{Inputs, Header, BadCell}
+use Rattle.fq_program.specs.Ending.{code_of}
+use Rattle.fq_program.specs.Program.{program}
+use Rattle.fq_program.specs.declared.failures.Failure.{Failure}
+use Rattle.fq_program.specs.declared.failures.Failure.TheVariants.{Plan, Check, Run}
+
+-- the output of an input, or its failure
+abbrev pub output : List ℕ → Result (List ℕ) Failure
+output input = result_map_both printed (λ failure. failure) (program input)
+
+-- a plan that was written with single quotes, of one source of so many files, and of columns id and v, as an input's first line
+abbrev pub line : List ℕ → List ℕ → List ℕ
+line files steps = map (λ c. if c == 39 then 34 else c)
+    (codes "{'version':1,'sources':[{'files':" ++ files ++ codes ",'columns':[['id','int'],['v','int']]}],'steps':[" ++ steps ++ codes "]}\n")
+
+abbrev pub over_ten : List ℕ
+over_ten = codes "{'filter':['gt',{'col':'v'},10]}"
+
+abbrev pub Frames : Type 0
+Frames = (output (line (codes "1") over_ten ++ codes "id,v\n1,5\n2,\n3,20\n") ≡ Ok (codes "id,v\n3,20\n"))
+    × (output (line (codes "1") over_ten ++ codes "id,v\n") ≡ Ok (codes "id,v\n"))
+
+abbrev pub Failures : Type 0
+Failures = (output (codes "{\n") ≡ Err (Plan Json))
+    × (output (codes "{") ≡ Err (Plan Json))
+    × (output (codes "[]\nid,v\n") ≡ Err (Plan Shape))
+    × (output (line (codes "1") (codes "{'filter':['gt',{'col':'w'},10]}") ++ codes "id,v\n") ≡ Err (Check (refused_at (Step 0) NoSuchColumn)))
+    × (output (line (codes "2") over_ten ++ codes "id,v\n") ≡ Err (Run (Inputs 2 1)))
+    × (output (line (codes "1") over_ten) ≡ Err (Run (Header 0)))
+    × (output (line (codes "1") over_ten ++ codes "id,v\n1,9223372036854775808\n") ≡ Err (Run (BadCell 0 1 1)))
+
+abbrev pub Statuses : Type 0
+Statuses = (code_of (output (line (codes "1") over_ten ++ codes "id,v\n")) ≡ 0)
+    × (code_of (output (line (codes "2") over_ten ++ codes "id,v\n")) ≡ 2)
+    × (code_of (output (codes "{")) ≡ 3)
+    × (code_of (output (line (codes "1") over_ten)) ≡ 4)

@@ -1,0 +1,34 @@
+-- The program without words: a plan's line, then one CSV file.
+use Rattle.std.specs.Prelude.{ℕ, ◌+◌, ◌==◌, not, List, [], ◌∷◌, length, drop, take_while, Result, Ok, Err, if◌then◌else◌}
+use Rattle.std.specs.Result.{result_map_both}
+use Rattle.fq_column.specs.Frame.{Frame}
+use Rattle.fq_plan.specs.Judged.{checked}
+use Rattle.fq_plan.specs.Meaning.{meaning}
+use Rattle.fq_plan.specs.Plan.{Query, files_wanted}
+use Rattle.fq_plan.specs.Sources.{file_streams}
+use Rattle.fq_plan.specs.Spelling.{read_as_plan}
+use Rattle.fq_plan.specs.declared.faults.Fault.TheVariants.{Inputs}
+use Rattle.fq_program.specs.declared.failures.Failure.{Failure}
+use Rattle.fq_program.specs.declared.failures.Failure.TheVariants.{Plan, Check, Run}
+
+-- the bytes before the first line feed, or all
+abbrev pub plan_line : List ℕ → List ℕ
+plan_line input = take_while (λ c. not (c == 10)) input
+
+-- the bytes after it
+abbrev pub file_after : List ℕ → List ℕ
+file_after input = drop (length (plan_line input) + 1) input
+
+-- the plan that a text spells, where the check does not refuse it
+abbrev pub checked_plan : List ℕ → Result Query Failure
+checked_plan text = elim (read_as_plan text) [ Err fault ↦ Err (Plan fault) | Ok plan ↦ result_map_both (λ p. p) Check (checked plan) ]
+
+-- the frame of a plan over the files' bytes: the number of files is judged before any of them
+abbrev pub frame_of : Query → List (List ℕ) → Result Frame Failure
+frame_of plan files =
+    if not (length files == files_wanted plan) then Err (Run (Inputs (files_wanted plan) (length files)))
+    else result_map_both (λ frame. frame) Run (meaning plan (file_streams plan files))
+
+-- the frame that an input comes to, or why it comes to none
+abbrev pub program : List ℕ → Result Frame Failure
+program input = elim (checked_plan (plan_line input)) [ Err failure ↦ Err failure | Ok plan ↦ frame_of plan (file_after input ∷ []) ]

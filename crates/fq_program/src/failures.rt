@@ -1,0 +1,124 @@
+// Why the program ends without a frame, and what it says then.
+ghost use Rattle.std.specs.Prelude.{◌≡◌};
+ghost use Rattle.fq_program.specs.Ending.{code_of, status_of, status_of_fault};
+ghost use Rattle.fq_program.specs.declared.failures.Failure.TheVariants as failure;
+ghost use Rattle.fq_plan.specs.declared.faults.Fault.TheVariants as fault;
+
+use crate::status::Status;
+use fq_column::StepFault;
+use fq_plan::{CheckFault, Fault, PlanFault};
+use std::alloc::{AllocError, AllocFailed};
+use std::io::Write;
+use thiserror::Error;
+
+/// Why the program ends without a frame. Its text is the line that the program prints, without the program's name.
+#[derive(Clone, Copy, Debug, PartialEq, Eq, Error)]
+pub enum Failure {
+    /// A word is not UTF-8.
+    #[error("a word is not UTF-8")]
+    Words,
+    /// The plan file can't be opened or read.
+    #[error("cannot read plan")]
+    PlanFile,
+    /// The plan's text spells no plan.
+    #[error(transparent)]
+    Plan(PlanFault),
+    /// The check refuses the plan.
+    #[error(transparent)]
+    Check(CheckFault),
+    /// The run gives no frame, or does not come about.
+    #[error(transparent)]
+    Run(Fault),
+}
+
+impl Failure {
+    /// Memory was refused, wherever that was.
+    pub const MEMORY: Failure = Failure::Run(Fault::Memory);
+
+    /// The exit status of the program that ends so.
+    pub fn status(self) -> Status
+        ensures { result ≡ status_of self }
+    {
+        match self {
+            Failure::Words => Status::BadWords,
+            Failure::PlanFile => Status::BadDevice,
+            Failure::Plan(PlanFault::Memory) => Status::NoMemory,
+            Failure::Plan(_) => Status::BadPlan,
+            Failure::Check(refusal) => match refusal.code {
+                StepFault::Memory => Status::NoMemory,
+                _ => Status::BadPlan,
+            },
+            Failure::Run(fault) => status_of_run(fault),
+        }
+    }
+}
+
+// The exit status of a run's fault.
+fn status_of_run(fault: Fault) -> Status
+    ensures { result ≡ status_of_fault fault }
+{
+    match fault {
+        Fault::Inputs { .. } | Fault::Setting => Status::BadWords,
+        Fault::Memory => Status::NoMemory,
+        Fault::Read { .. } | Fault::Write => Status::BadDevice,
+        _ => Status::BadFile,
+    }
+}
+
+/// The exit status of an ending. A failure is said in one line on `err`, and a failed write of that line changes nothing.
+pub fn report<E: Write>(ending: Result<(), Failure>, err: &mut E) -> u8
+    ensures { result ≡ code_of ending }
+{
+    match ending {
+        Ok(()) => Status::Done as u8,
+        Err(failure) => {
+            let _ = writeln!(err, "frameq: {failure}");
+            failure.status() as u8
+        }
+    }
+}
+
+impl From<PlanFault> for Failure {
+    ghost from_gives = { λ f e. e ≡ failure.Plan f };
+
+    fn from(fault: PlanFault) -> Failure {
+        Failure::Plan(fault)
+    }
+}
+
+impl From<CheckFault> for Failure {
+    ghost use Rattle.fq_program.specs.Ending.{refused};
+
+    ghost from_gives = { λ f e. e ≡ refused f };
+
+    fn from(refusal: CheckFault) -> Failure {
+        match refusal.code {
+            StepFault::Memory => Failure::MEMORY,
+            _ => Failure::Check(refusal),
+        }
+    }
+}
+
+impl From<Fault> for Failure {
+    ghost from_gives = { λ f e. e ≡ failure.Run f };
+
+    fn from(fault: Fault) -> Failure {
+        Failure::Run(fault)
+    }
+}
+
+impl From<AllocError> for Failure {
+    ghost from_gives = { λ _ e. e ≡ failure.Run fault.Memory };
+
+    fn from(_error: AllocError) -> Failure {
+        Failure::MEMORY
+    }
+}
+
+impl<T: Drop> From<AllocFailed<T>> for Failure {
+    ghost from_gives = { λ _ e. e ≡ failure.Run fault.Memory };
+
+    fn from(_failed: AllocFailed<T>) -> Failure {
+        Failure::MEMORY
+    }
+}

@@ -1,0 +1,20 @@
+//! What the program frameq does, over inputs, files and outputs that are given to it.
+//!
+//! [`one_input`] is the program without words: the first line of its input is the plan, in JSON, and the bytes after it are
+//! the one CSV file. [`with_words`] is the program with words, a plan file over data files that an [`Opener`] opens. Each
+//! answers the exit status, which is a [`Status`]; where there is no frame, a [`Failure`] says why in one line.
+#![tactic(auto)]
+
+mod failures;
+mod files;
+mod inputs;
+mod options;
+mod program;
+mod status;
+mod words;
+
+pub use failures::{Failure, report};
+pub use files::{OpenFault, Opener, SystemFiles};
+pub use program::one_input;
+pub use status::Status;
+pub use words::with_words;

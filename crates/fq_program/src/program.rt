@@ -1,0 +1,85 @@
+// The program without words.
+ghost use Rattle.std.specs.Prelude.{◌≡◌, ◌≢◌, ◌⊎◌, ℕ, List, Some, Ok, Err, IfErr, OnOk, MatchResult};
+ghost use Rattle.std.specs.Io.KnownBytes.{Appends, Keeps};
+ghost use Rattle.fq_column.specs.Frame.{Frame};
+ghost use Rattle.fq_csv.specs.Printed.{printed};
+ghost use Rattle.fq_plan.specs.declared.faults.Fault.TheVariants as fault;
+ghost use Rattle.fq_program.specs.Ending.{code_of, done, bad_device, no_memory, IsOutside};
+ghost use Rattle.fq_program.specs.Program.{program, checked_plan as checked_plan_of};
+ghost use Rattle.fq_program.specs.declared.failures.Failure.TheVariants as failure;
+
+use crate::failures::{Failure, report};
+use crate::inputs::{read_whole, split_line};
+use fq_plan::{Checked, Fault, read_plan};
+use std::alloc::Global;
+use std::io::{Read, Write};
+use std::sync::Wait;
+use std::thread::Threads;
+
+/// The rows of a batch, where no word says otherwise.
+pub const BATCH_SIZE: u32 = 1024;
+
+/// The number of workers, where no word says otherwise.
+pub const WORKERS: u16 = 2;
+
+/// Runs the plan of the input's first line over the CSV file of the bytes after it, and answers the exit status.
+///
+/// The frame is written to `out` where the status is 0. At any other status a line on `err` says why, and nothing is
+/// written to `out`, but at 5, where the write itself has failed, an unknown part may be. A failed write to `err` changes
+/// no status. All of the input is read before anything else.
+pub fn one_input<T: Threads + Wait + Sync, R: Read + Drop, W: Write, E: Write>(
+    rt: &T,
+    alloc: Global,
+    input: R,
+    out: &mut W,
+    err: &mut E,
+) -> u8
+    ensures status { (bytes : List ℕ) → R.remaining input ≡ Some bytes →
+        (result ≡ code_of (program bytes)) ⊎ (result ≡ bad_device) ⊎ (result ≡ no_memory) }
+    ensures output { (bytes : List ℕ) → R.remaining input ≡ Some bytes → result ≡ done →
+        (frame : Frame) × (program bytes ≡ Ok frame) × Appends (W.contents out.old) (W.contents out.new) (printed frame) }
+    ensures unwritten { result ≢ done → result ≢ bad_device → Keeps (W.contents out.old) (W.contents out.new) }
+{
+    report(run_input(rt, alloc, input, out), err)
+}
+
+// Writes the frame that the input comes to.
+fn run_input<T: Threads + Wait + Sync, R: Read + Drop, W: Write>(
+    rt: &T,
+    alloc: Global,
+    input: R,
+    out: &mut W,
+) -> Result<(), Failure>
+    ensures printed { (bytes : List ℕ) → R.remaining input ≡ Some bytes → OnOk result
+        ((frame : Frame) × (program bytes ≡ Ok frame) × Appends (W.contents out.old) (W.contents out.new) (printed frame)) }
+    ensures failed { (bytes : List ℕ) → R.remaining input ≡ Some bytes → IfErr result (λ f. (program bytes ≡ Err f) ⊎ IsOutside f) }
+    ensures unwritten { IfErr result (λ f. f ≢ failure.Run fault.Write → Keeps (W.contents out.old) (W.contents out.new)) }
+{
+    let bytes = read_whole(alloc, input, Failure::Run(Fault::Read { file: 0 }))?;
+    run_bytes(rt, alloc, bytes.as_slice(), out)
+}
+
+// Writes the frame that an input in memory comes to.
+fn run_bytes<T: Threads + Wait + Sync, W: Write>(
+    rt: &T,
+    alloc: Global,
+    input: &[u8],
+    out: &mut W,
+) -> Result<(), Failure>
+    ensures printed { OnOk result ((frame : Frame) × (program input.now ≡ Ok frame) × Appends (W.contents out.old) (W.contents out.new) (printed frame)) }
+    ensures failed { IfErr result (λ f. (program input.now ≡ Err f) ⊎ IsOutside f) }
+    ensures unwritten { IfErr result (λ f. f ≢ failure.Run fault.Write → Keeps (W.contents out.old) (W.contents out.new)) }
+{
+    let (line, file) = split_line(input);
+    let plan = checked_plan(alloc, line)?;
+    let inputs = vec![in alloc; file]?;
+    plan.run(rt, alloc, inputs, out, BATCH_SIZE, WORKERS)?;
+    Ok(())
+}
+
+/// The plan that a text spells, where the check does not refuse it.
+pub fn checked_plan(alloc: Global, text: &[u8]) -> Result<Checked, Failure>
+    ensures { MatchResult result (λ plan. checked_plan_of text.now ≡ Ok plan) (λ f. (checked_plan_of text.now ≡ Err f) ⊎ IsOutside f) }
+{
+    Ok(read_plan(alloc, text)?.check(alloc)?)
+}

@@ -1,0 +1,113 @@
+// The program with words.
+ghost use Rattle.std.specs.Prelude.{◌≡◌, ◌≢◌, ◌<◌, ◌^◌, length, IfErr};
+ghost use Rattle.std.specs.Io.KnownBytes.{Keeps};
+ghost use Rattle.fq_plan.specs.declared.faults.Fault.TheVariants as fault;
+ghost use Rattle.fq_program.specs.Ending.{done, bad_device};
+ghost use Rattle.fq_program.specs.declared.failures.Failure.TheVariants as failure;
+
+use crate::failures::{Failure, report};
+use crate::files::{OpenFault, Opener};
+use crate::inputs::read_whole;
+use crate::options::Options;
+use crate::program::checked_plan;
+use crate::status::Status;
+use clap::error::ErrorKind;
+use fq_plan::Fault;
+use std::alloc::Global;
+use std::io::Write;
+use std::sync::Wait;
+use std::thread::Threads;
+
+/// Does what the words ask for, the program's own name left out, and answers the exit status.
+///
+/// `--plan PLAN [--batch N] [--workers N] FILE...` runs a plan over files and writes the frame to `out`; `--help` writes
+/// the help there. At any other status than 0 something on `err` says why, and nothing is written to `out`, but at 5, where
+/// the write itself has failed, an unknown part may be. A failed write to `err` changes no status. Words are judged first,
+/// then the plan file, the plan, the number of files; then the files are opened in order, and read as the run goes on.
+pub fn with_words<T: Threads + Wait + Sync, O: Opener, W: Write, E: Write>(
+    rt: &T,
+    alloc: Global,
+    words: Vec<String>,
+    files: &mut O,
+    out: &mut W,
+    err: &mut E,
+) -> u8
+    ensures unwritten { result ≢ done → result ≢ bad_device → Keeps (W.contents out.old) (W.contents out.new) }
+{
+    match Options::of_words(alloc, words.as_slice()) {
+        Ok(options) => report(run_options(rt, alloc, &options, files, out), err),
+        Err(answer) => answer_words(&answer, out, err),
+    }
+}
+
+// Says what is wrong with the words on `err`, or the help that they ask for on `out`.
+fn answer_words<W: Write, E: Write>(answer: &clap::Error, out: &mut W, err: &mut E) -> u8
+    ensures unwritten { result ≢ done → result ≢ bad_device → Keeps (W.contents out.old) (W.contents out.new) }
+{
+    if answer.kind() == ErrorKind::OutOfMemory {
+        return report(Err(Failure::MEMORY), err);
+    }
+    if answer.use_stderr() {
+        let _ = write!(err, "{answer}");
+        return Status::BadWords as u8;
+    }
+    report(
+        write!(out, "{answer}").map_err(|_| Failure::Run(Fault::Write)),
+        err,
+    )
+}
+
+// Writes the frame of the plan file over the data files.
+fn run_options<T: Threads + Wait + Sync, O: Opener, W: Write>(
+    rt: &T,
+    alloc: Global,
+    options: &Options<'_>,
+    files: &mut O,
+    out: &mut W,
+) -> Result<(), Failure>
+    ensures unwritten { IfErr result (λ f. f ≢ failure.Run fault.Write → Keeps (W.contents out.old) (W.contents out.new)) }
+{
+    let name = options.plan().ok_or(Failure::PlanFile)?;
+    let reader = open(files, name, Failure::PlanFile)?;
+    let text = read_whole(alloc, reader, Failure::PlanFile)?;
+    let plan = checked_plan(alloc, text.as_slice())?;
+    let (names, wanted) = (options.files(), plan.inputs());
+    let got = names.len();
+    if got != usize::from(wanted) {
+        return Err(Failure::Run(Fault::Inputs { wanted, got }));
+    }
+    let inputs = open_all(alloc, files, names)?;
+    plan.run(
+        rt,
+        alloc,
+        inputs,
+        out,
+        options.batch_size(),
+        options.workers(),
+    )?;
+    Ok(())
+}
+
+// Readers of the files of these names, in order.
+fn open_all<O: Opener>(
+    alloc: Global,
+    files: &mut O,
+    names: &[&str],
+) -> Result<Vec<O::Reader>, Failure>
+    requires { length names.now < 2 ^ 16 }
+{
+    let mut readers = Vec::with_capacity(alloc, names.len())?;
+    for (file, name) in names.iter().enumerate() {
+        let failure = Failure::Run(Fault::Read { file: file as u16 });
+        readers.push(open(files, name, failure)?)?;
+    }
+    Ok(readers)
+}
+
+// A reader of the file of this name, or this failure where it can't be opened.
+fn open<O: Opener>(files: &mut O, name: &str, failure: Failure) -> Result<O::Reader, Failure> {
+    files.reader_of(name).map_err(|fault| match fault {
+        OpenFault::Failed => failure,
+        OpenFault::Memory => Failure::MEMORY,
+    })
+}
