@@ -9,7 +9,7 @@ use Rattle.fq_expr.proofs.StepLemmas.{then_stream-assoc}
 use Rattle.fq_plan.specs.Gathering.{gathered, gathered_stream, joined, taken_in, with_stream}
 use Rattle.fq_plan.specs.Meaning.{frames_of}
 use Rattle.fq_plan.specs.Plan.{Source}
-use Rattle.fq_plan.specs.Rounds.{no_rows}
+use Rattle.fq_plan.specs.EngineRun.{no_rows}
 use Rattle.fq_plan.specs.Sources.{concat_streams}
 use Rattle.fq_plan.specs.Tail.{Taken, items_from, taken_streams}
 use Rattle.fq_plan.specs.Working.{worked_stream}

@@ -10,12 +10,13 @@ pub mod RunLemmas
 pub mod FeedLemmas
 pub mod GatheringLemmas
 pub mod EndLemmas
-pub mod RoundLemmas
+pub mod EngineLemmas
 pub mod PlaceLemmas
 pub mod MeaningLemmas
 pub mod OnLiterals
 pub mod CheckLemmas
 pub mod SplitLemmas
 pub mod PreparedLemmas
+pub mod CutLemmas
 pub mod StartLemmas
 pub mod OutcomeLemmas

@@ -1,4 +1,4 @@
--- A run of rounds comes to the plan's meaning.
+-- A run of the engine comes to the plan's meaning.
 use Rattle.std.proofs.Common.{◌≡◌, ℕ, ◌+◌, ◌<◌, List, [], ◌∷◌, ◌++◌, map, length, drop, sum_by, Some, None, Err, IsOk, refl, ap, sym, ◌∙◌, arith, length-drop}
 use Rattle.std.specs.List.{slice_get}
 use Rattle.std.proofs.lemmas.List.{length-map, take_all}
@@ -11,7 +11,7 @@ use Rattle.fq_lanes.specs.Numbering.{numbered, numbers}
 use Rattle.fq_plan.specs.Feeding.{Feeding}
 use Rattle.fq_plan.specs.Meaning.{meaning, outcome}
 use Rattle.fq_plan.specs.Plan.{Source, Query, but_last, file_fields, files_wanted, front_of, join_files, rest_of}
-use Rattle.fq_plan.specs.Rounds.{Gives, RanOver, front_fields, items_of_files, leading_steps, main_files, no_rows, nothing_taken, outcome_of_gathered}
+use Rattle.fq_plan.specs.EngineRun.{Gives, RanOver, front_fields, items_of_files, leading_steps, main_files, no_rows, nothing_taken, outcome_of_gathered}
 use Rattle.fq_plan.specs.Run.{trace_of}
 use Rattle.fq_plan.specs.Sources.{concat_streams, first_fault, scan_fault}
 use Rattle.fq_plan.specs.Tail.{Taken, all_items, finished, items_from, taken_streams, worked_items}
@@ -22,7 +22,7 @@ use Rattle.fq_plan.specs.declared.gathering.Gathering.{Gathering}
 use Rattle.fq_plan.proofs.EndLemmas.{files-done}
 use Rattle.fq_plan.proofs.GatheringLemmas.{Answer, all_joined-items, all_taken, all_taken-joined, items-frames, items-streams, with_items, with_items-append, head_of}
 use Rattle.fq_plan.proofs.PlaceLemmas.{HasMain, files-fit, has_main, length-columns, main-fields, wanted-main}
-use Rattle.fq_plan.proofs.RoundLemmas.{answers_in, answers_to, each-known, files-items, files-numbers, fit-files, log-answers, log-numbers, took-all}
+use Rattle.fq_plan.proofs.EngineLemmas.{answers_in, answers_to, each-known, files-items, files-numbers, fit-files, log-answers, log-numbers, took-all}
 use Rattle.fq_plan.proofs.SplitLemmas.{same-ends}
 use Rattle.fq_plan.proofs.TailLemmas.{items_from-start, outcome-all, untagged}
 

@@ -10,7 +10,7 @@ use Rattle.fq_plan.specs.Kept.{shape, IsSound, AreSound}
 use Rattle.fq_plan.specs.Meaning.{apply_plan_steps, frame_or_fault, outcome}
 use Rattle.fq_plan.specs.Outcome.{AreStaged, outcome_of_stages}
 use Rattle.fq_plan.specs.Plan.{Source, Query, but_last, join_fields}
-use Rattle.fq_plan.specs.Rounds.{front_fields, main_files, no_rows, nothing_taken, outcome_of_gathered}
+use Rattle.fq_plan.specs.EngineRun.{front_fields, main_files, no_rows, nothing_taken, outcome_of_gathered}
 use Rattle.fq_plan.specs.Run.{IsRunFault}
 use Rattle.fq_plan.specs.Sources.{first_fault}
 use Rattle.fq_plan.specs.Stages.{query_of, stage_steps, IsChecked, Leads}

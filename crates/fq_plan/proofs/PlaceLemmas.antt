@@ -7,7 +7,7 @@ use Rattle.std.proofs.lemmas.List.Sums.{sum_by-append, sum_by-cons}
 use Rattle.fq_column.specs.Frame.{Fields, Frame, Row}
 use Rattle.fq_csv.specs.Run.{framed}
 use Rattle.fq_plan.specs.Plan.{Source, Query, but_last, last_or, file_fields, files_wanted, join_files, main_fields}
-use Rattle.fq_plan.specs.Rounds.{front_fields, leading_steps, main_files, no_rows, nothing_taken}
+use Rattle.fq_plan.specs.EngineRun.{front_fields, leading_steps, main_files, no_rows, nothing_taken}
 use Rattle.fq_plan.specs.Working.{stepped, untouched, work_on}
 use Rattle.fq_plan.specs.declared.workers.Worked.{Worked}
 use Rattle.fq_plan.specs.declared.workers.Worked.TheVariants.{Piece}
@@ -16,7 +16,7 @@ use Rattle.fq_plan.specs.declared.gathering.Gathered.{Gathered}
 use Rattle.fq_column.specs.Schema.{same_fields}
 use Rattle.fq_column.specs.SchemaLaws.{same_fields_decides}
 use Rattle.fq_plan.proofs.GatheringLemmas.{Fits, Head, fields_at, head_of}
-use Rattle.fq_plan.proofs.RoundLemmas.{FilesFit, MainFields}
+use Rattle.fq_plan.proofs.EngineLemmas.{FilesFit, MainFields}
 use Rattle.fq_plan.proofs.SplitLemmas.{but_last-snoc, last_or-snoc}
 
 -- ---- a list that has a last item

@@ -1,4 +1,4 @@
--- What a run of a checked plan starts from: its rounds are over the items of the plan's files, from nothing taken.
+-- What a run of a checked plan starts from: its engine runs over the items of the plan's files, from nothing taken.
 use Rattle.std.proofs.Common.{◌≡◌, ℕ, zero, suc, ◌+◌, ◌-◌, ◌<◌, ◌≤◌, List, [], ◌∷◌, ◌++◌, map, length, zip, flat_map, replicate, sum_by, Option, Some, refl, ap, sym, ◌∙◌, arith}
 use Rattle.std.specs.Prelude.{All}
 use Rattle.std.specs.List.{range_with_len}
@@ -15,7 +15,7 @@ use Rattle.fq_lanes.specs.Engine.{Finishes}
 use Rattle.fq_plan.specs.Feeding.{Feeding, MayCome}
 use Rattle.fq_plan.specs.Gathering.{taken_in}
 use Rattle.fq_plan.specs.Plan.{Source, PlanStep, row_wise, join, group_by, rolling_sum, Query, but_last, last_or, file_fields, files_wanted, front_of, join_files, rest_of}
-use Rattle.fq_plan.specs.Rounds.{RanOver, leading_steps, main_files, no_rows, nothing_taken, opened}
+use Rattle.fq_plan.specs.EngineRun.{RanOver, leading_steps, main_files, no_rows, nothing_taken, opened}
 use Rattle.fq_plan.specs.Run.{Tell}
 use Rattle.fq_plan.specs.Sources.{file_streams}
 use Rattle.fq_plan.specs.Stages.{checked_source_data, query_of, stage_steps, IsChecked}
@@ -24,7 +24,7 @@ use Rattle.fq_plan.specs.declared.gathering.Gathering.{Gathering}
 use Rattle.fq_plan.specs.declared.stages.CheckedSource.{CheckedSource}
 use Rattle.fq_plan.specs.declared.stages.Stage.{Stage}
 use Rattle.fq_plan.proofs.PlaceLemmas.{length-columns}
-use Rattle.fq_plan.proofs.RoundLemmas.{opened-told}
+use Rattle.fq_plan.proofs.EngineLemmas.{opened-told}
 use Rattle.fq_plan.proofs.SplitLemmas.{but_last-snoc, last_or-snoc}
 
 -- ---- the leading row-wise steps, and the rest
@@ -125,7 +125,7 @@ module _ (sources : List CheckedSource) (front : NumberedSteps) (stages : List S
         rows-of joins ∙ ap (map (λ (s : Source). no_rows s.files s.fields)) (sym joins-are) in
         λ i. rows i ++ no_rows (sym main-files i) (fields_after_all (c.on_main i) (sym front-is i)) ∷ []
 
-    -- rounds over what readers tell
+    -- the engine over what readers tell
     pub ran-over : {R : Type 0} (remaining : R → Option (List ℕ)) (b : ℕ) (readers : List R) (files : List (List ℕ)) (feeds : List Feeding) (first last : Gathering) (trace : List (ℕ × ℕ)) →
         0 < b → length readers ≡ files_wanted plan → Tell remaining readers files →
         feeds ≡ opened remaining b 0 (flat_map (λ (s : CheckedSource). replicate s.files s.schema) sources) readers →

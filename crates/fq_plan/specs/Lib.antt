@@ -5,13 +5,14 @@ pub mod View
 pub mod Judged
 pub mod Sources
 pub mod Meaning
+pub mod Cuts
 pub mod Run
 pub mod Tail
 pub mod Feeding
 pub mod Working
 pub mod Gathering
 pub mod Kept
-pub mod Rounds
+pub mod EngineRun
 pub mod Answer
 pub mod Examples
 pub mod Stages

@@ -7,6 +7,7 @@ ghost use Rattle.fq_plan.specs.Plan.{files_wanted};
 use crate::faults::{CheckFault, Place};
 use crate::plans::Plan;
 use crate::stages::{CheckedSource, Stage};
+use crate::workers::LeadingSteps;
 use fq_column::StepFault;
 use fq_expr::Front;
 use std::alloc::Global;
@@ -22,7 +23,7 @@ use steps::{check_leading, check_stages, split_leading};
 #[derive(Drop)]
 pub struct Checked {
     pub(crate) sources: Vec<CheckedSource>,
-    pub(crate) front: Front,
+    pub(crate) leading: LeadingSteps,
     pub(crate) stages: Vec<Stage>,
     pub(crate) inputs: u16,
 }
@@ -37,11 +38,14 @@ impl Model for Checked {
 
     ghost coded = { Prim.hlevel (codes, expression_code (Prim.hlevel codes)) };
 
+    ghost use Rattle.std.specs.Prelude.{◌≡◌};
+    ghost use Rattle.fq_plan.specs.Plan.{join_files};
     ghost use Rattle.fq_plan.specs.Stages.{IsChecked, query_of};
 
-    ghost view = { λ c. query_of c.sources.items c.front c.stages.items };
+    ghost view = { λ c. query_of c.sources.items c.leading.front c.stages.items };
 
-    ghost invariant = { λ c. IsChecked c.sources.items c.front c.stages.items c.inputs };
+    ghost invariant = { λ c. IsChecked c.sources.items c.leading.front c.stages.items c.inputs
+        × (c.leading.join_files ≡ join_files (query_of c.sources.items c.leading.front c.stages.items)) };
 }
 
 impl Plan {
@@ -82,9 +86,14 @@ fn check_plan(alloc: Global, plan: Plan, place: &mut Place) -> Result<Checked, S
     let schema = check_leading(alloc, &main.schema, leading.as_slice(), place)?;
     let stages = check_stages(alloc, joins, leading.len() as u16, schema, rest, place)?;
     let front = Front::new(alloc, leading, front_schema, 0)?;
+    let join_files = inputs - main.files;
     Ok(Checked {
         sources,
-        front,
+        leading: LeadingSteps {
+            alloc,
+            front,
+            join_files,
+        },
         stages,
         inputs,
     })

@@ -1,12 +1,13 @@
 // Laws of the definitions, proved for all values.
-ghost use Rattle.std.specs.Prelude.{◌≡◌, ◌<◌, ◌≤◌, ℕ, List, length};
-ghost use Rattle.fq_column.specs.Frame.{Fields};
-ghost use Rattle.fq_column.specs.Stream.{Stream, rename_fault};
+ghost use Rattle.std.specs.Prelude.{◌≡◌, ◌<◌, ◌≤◌, ℕ, List, length, map};
+ghost use Rattle.fq_column.specs.Frame.{Fields, Row};
+ghost use Rattle.fq_column.specs.Stream.{Stream, done, rename_fault};
 ghost use Rattle.fq_expr.specs.Expression.{Step as RowWise};
 ghost use Rattle.fq_expr.specs.Front.{fault_at};
 ghost use Rattle.fq_expr.specs.Steps.{apply_steps};
 ghost use Rattle.fq_expr.specs.declared.fronts.RowFault.{RowFault};
-ghost use Rattle.fq_plan.specs.Meaning.{meaning_of_files};
+ghost use Rattle.fq_plan.specs.Cuts.{GiveTheSameRows};
+ghost use Rattle.fq_plan.specs.Meaning.{meaning, meaning_of_files};
 ghost use Rattle.fq_plan.specs.Plan.{Query, files_wanted};
 ghost use Rattle.fq_plan.specs.Sources.{row_fault};
 ghost use Rattle.fq_plan.specs.Tail.{all_items, outcome_of_taken};
@@ -18,6 +19,13 @@ ghost use Rattle.fq_plan.specs.declared.faults.Fault.TheVariants.{Overflow as ov
 pub fn meaning_of_items()
     ensures { (p : Query) (batch_size : ℕ) (us : List (Stream AnyFault)) → 0 < batch_size → length us ≤ files_wanted p →
         outcome_of_taken p (all_items p batch_size us) ≡ meaning_of_files p us }
+{}
+
+/// How the rows of a source are cut into files is no part of the answer: where the files of two plans with the same steps
+/// over the same columns have no fault and give each source the same rows, the plans mean the same.
+pub fn meaning_of_cut_files()
+    ensures { (p q : Query) (files other : List (List Row)) → 0 < length p.sources → GiveTheSameRows p q files other →
+        meaning p (map done files) ≡ meaning q (map done other) }
 {}
 
 /// The faults that a worker's row-wise steps name are those of the run under another name.

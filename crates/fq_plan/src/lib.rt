@@ -5,6 +5,7 @@
 #![tactic(auto)]
 
 mod checks;
+mod engine_run;
 mod evaluation;
 mod faults;
 mod feeds;
@@ -14,7 +15,6 @@ mod laws;
 mod openings;
 mod plans;
 mod reading;
-mod rounds;
 mod runs;
 mod staged;
 mod stages;
@@ -22,6 +22,9 @@ mod workers;
 
 pub use checks::Checked;
 pub use faults::{CheckFault, Fault, Place, PlanFault};
-pub use fq_lanes::Report;
-pub use laws::{meaning_of_items, renamed_steps};
+pub use fq_csv::ScanFault;
+pub use fq_expr::{Piece, RowFault};
+pub use fq_lanes::{Gate, NoGate, Report};
+pub use laws::{meaning_of_cut_files, meaning_of_items, renamed_steps};
 pub use plans::{Plan, Source, Step, read_plan};
+pub use workers::Worked;

@@ -1,7 +1,7 @@
 // What a run starts from: the feeds of the files, and the sources with no rows.
 ghost use Rattle.std.specs.Prelude.{◌≡◌, ◌≤◌, None, [], ◌∷◌, ◌++◌, flat_map, map, replicate, vec_len, length, IfOk};
 ghost use Rattle.fq_expr.specs.Steps.{fields_after_all};
-ghost use Rattle.fq_plan.specs.Rounds.{no_rows, opened};
+ghost use Rattle.fq_plan.specs.EngineRun.{no_rows, opened};
 
 use crate::feeds::FileFeed;
 use crate::gathering::Gathered;

@@ -6,7 +6,7 @@ ghost use Rattle.fq_csv.specs.Printed.{printed};
 ghost use Rattle.fq_plan.specs.Kept.{shape, AreSound};
 ghost use Rattle.fq_plan.specs.Meaning.{meaning};
 ghost use Rattle.fq_plan.specs.Plan.{files_wanted};
-ghost use Rattle.fq_plan.specs.Rounds.{Gives, nothing_taken};
+ghost use Rattle.fq_plan.specs.EngineRun.{Gives, nothing_taken};
 ghost use Rattle.fq_plan.specs.Run.{start_refusal, IsEngineFault, IsOfMeaning, IsRunFault, IsStartFault, Tell, trace_of};
 ghost use Rattle.fq_plan.specs.Sources.{file_streams};
 ghost use Rattle.fq_plan.specs.declared.faults.Fault.TheVariants as fault;
@@ -16,10 +16,10 @@ use crate::faults::Fault;
 use crate::finish::finish;
 use crate::gathering::Gathering;
 use crate::openings::{empty_sources, file_schemas, open_feeds};
-use crate::workers::LeadingSteps;
+use crate::workers::Worked;
 use fq_column::Batch;
 use fq_csv::{MAX_BATCH_SIZE, print_frame};
-use fq_lanes::{Report, run_rounds};
+use fq_lanes::{Gate, NoGate, Report, run_lanes};
 use std::alloc::Global;
 use std::io::{Read, Write};
 use std::sync::Wait;
@@ -32,19 +32,57 @@ impl Checked {
     /// Writes the frame that the plan means over the files, or answers the fault that it means.
     ///
     /// `inputs` are the files' readers, in argument order: those of the first source, then those of the next, and so on.
-    /// Their rows are read in batches of `batch_size` rows, from 1 to 65,536, and the leading row-wise steps are done by
-    /// as many `workers`, from 1 to 16; without such steps no thread is started. What is written does not depend on
-    /// either. The report lists the file and serial of each batch, by file, then serial.
+    /// A thread for each reads its rows in batches of `batch_size` rows, from 1 to 65,536, and as many threads as
+    /// `workers`, from 1 to 16, do the leading row-wise steps. What is written does not depend on either, nor on the order in
+    /// which the threads take their steps. The report lists the file and serial of each batch, by file, then serial.
     ///
     /// The first of these faults is answered: `Inputs` for another number of readers than `Checked::inputs`, and
     /// `Setting` for a batch size or a number of workers out of range, both before any reading; `Memory` where a growth
     /// or a thread was refused; `Read` with the lowest file whose reader failed; the fault of the files or of the steps
     /// that the plan means; `Write` where `out` failed. Nothing is written at any fault but `Write`, where an unknown
     /// part is.
-    pub fn run<T: Threads + Wait + Sync, R: Read + Drop, W: Write>(
+    pub fn run<T: Threads + Wait + Sync, R: Read + Drop + Send, W: Write>(
         &self,
         rt: &T,
         alloc: Global,
+        inputs: Vec<R>,
+        out: &mut W,
+        batch_size: u32,
+        workers: u16,
+    ) -> Result<Report, Fault>
+        // the number of inputs is judged first, then the settings
+        ensures refused { (f : _) → start_refusal (files_wanted self.now) (vec_len inputs) batch_size workers ≡ Some f → result ≡ Err f }
+        ensures started { IfErr result (λ f. IsStartFault f → start_refusal (files_wanted self.now) (vec_len inputs) batch_size workers ≡ Some f) }
+        // a report: the frame that the plan means was written, and each file's batches were taken in order
+        ensures printed { (files : List (List ℕ)) → Tell R.remaining inputs.items files → OnOk result
+            ((frame : Frame) × (meaning self.now (file_streams self.now files) ≡ Ok frame) × Appends (W.contents out.old) (W.contents out.new) (printed frame)) }
+        ensures trace { (files : List (List ℕ)) → Tell R.remaining inputs.items files → IfOk result
+            (λ report. report.trace.items ≡ trace_of batch_size (file_streams self.now files)) }
+        // a fault of the files or of the steps is the meaning
+        ensures fault { (files : List (List ℕ)) → Tell R.remaining inputs.items files → IfErr result
+            (λ f. IsOfMeaning f → meaning self.now (file_streams self.now files) ≡ Err f) }
+        // a refused write comes last
+        ensures write { (files : List (List ℕ)) → Tell R.remaining inputs.items files → result ≡ Err fault.Write →
+            IsOk (meaning self.now (file_streams self.now files)) }
+        ensures unwritten { IfErr result (λ f. f ≢ fault.Write → Keeps (W.contents out.old) (W.contents out.new)) }
+    {
+        self.run_gated(rt, alloc, &NoGate, inputs, out, batch_size, workers)
+    }
+
+    /// As `Checked::run`, with a gate that is shown each worker's answer before it leaves the worker.
+    ///
+    /// A gate sees who works on what and when, and can hold a worker up; what is written does not depend on it. Each answer
+    /// passes it, also where the plan has no leading row-wise steps.
+    pub fn run_gated<
+        T: Threads + Wait + Sync,
+        G: Gate<Worked> + Sync,
+        R: Read + Drop + Send,
+        W: Write,
+    >(
+        &self,
+        rt: &T,
+        alloc: Global,
+        gate: &G,
         inputs: Vec<R>,
         out: &mut W,
         batch_size: u32,
@@ -74,7 +112,7 @@ impl Checked {
         if !(1..=MAX_BATCH_SIZE).contains(&batch_size) || !(1..=MAX_WORKERS).contains(&workers) {
             return Err(Fault::Setting);
         }
-        let (frame, report) = self.outcome(rt, alloc, inputs, batch_size, workers)?;
+        let (frame, report) = self.outcome(rt, alloc, gate, inputs, batch_size, workers)?;
         let text = print_frame(alloc, &frame)?;
         match out.write_all(text.as_slice()) {
             Ok(()) => Ok(report),
@@ -83,10 +121,11 @@ impl Checked {
     }
 
     // The frame of a run that may start, with its report, or the fault before anything is written.
-    fn outcome<T: Threads + Wait + Sync, R: Read + Drop>(
+    fn outcome<T: Threads + Wait + Sync, G: Gate<Worked> + Sync, R: Read + Drop + Send>(
         &self,
         rt: &T,
         alloc: Global,
+        gate: &G,
         inputs: Vec<R>,
         batch_size: u32,
         workers: u16,
@@ -102,16 +141,17 @@ impl Checked {
             (λ f. IsOfMeaning f → meaning self.now (file_streams self.now files) ≡ Err f) }
         ensures kind { IfErr result IsRunFault }
     {
-        let (tail, report) = self.gather(rt, alloc, inputs, batch_size, workers)?;
+        let (tail, report) = self.gather(rt, alloc, gate, inputs, batch_size, workers)?;
         let frame = finish(alloc, self.stages.as_slice(), tail.sources)?;
         Ok((frame, report))
     }
 
-    // What rounds of workers gather of the files, with their report.
-    fn gather<T: Threads + Wait + Sync, R: Read + Drop>(
+    // What free threads gather of the files, with their report.
+    fn gather<T: Threads + Wait + Sync, G: Gate<Worked> + Sync, R: Read + Drop + Send>(
         &self,
         rt: &T,
         alloc: Global,
+        gate: &G,
         inputs: Vec<R>,
         batch_size: u32,
         workers: u16,
@@ -130,15 +170,16 @@ impl Checked {
         };
         let schemas = file_schemas(alloc, self.sources.as_slice())?;
         let feeds = open_feeds(alloc, schemas, inputs, batch_size)?;
-        let sources = empty_sources(alloc, joins, main.files, &self.front)?;
-        let work = LeadingSteps {
+        let sources = empty_sources(alloc, joins, main.files, &self.leading.front)?;
+        let (tail, outcome) = run_lanes(
+            rt,
             alloc,
-            front: &self.front,
-            join_files: self.inputs - main.files,
-        };
-        // without leading steps threads have nothing to do
-        let workers = if self.front.is_empty() { 1 } else { workers };
-        let (tail, outcome) = run_rounds(rt, alloc, feeds, &work, Gathering { sources }, workers);
+            feeds,
+            &self.leading,
+            gate,
+            Gathering { sources },
+            workers,
+        );
         Ok((tail, outcome?))
     }
 }

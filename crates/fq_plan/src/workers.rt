@@ -21,19 +21,19 @@ pub enum Worked {
 
 /// The leading row-wise steps of a plan, for the batches of the main source.
 #[derive(Drop)]
-pub(crate) struct LeadingSteps<'a> {
+pub(crate) struct LeadingSteps {
     pub(crate) alloc: Global,
-    pub(crate) front: &'a Front,
+    pub(crate) front: Front,
     /// How many files are of the sources before the main one; their batches are left as they are.
     pub(crate) join_files: u16,
 }
 
-impl Work for LeadingSteps<'_> {
+impl Work for LeadingSteps {
     type Item = Scanned;
 
     type Out = Worked;
 
-    ghost gives = { λ s file item out. out ≡ work_on s.front.now s.join_files file item };
+    ghost gives = { λ s file item out. out ≡ work_on s.front s.join_files file item };
 
     fn work(&self, file: u16, item: Scanned) -> Result<Worked, Memory> {
         match item {
@@ -47,10 +47,10 @@ impl Work for LeadingSteps<'_> {
     }
 }
 
-impl LeadingSteps<'_> {
+impl LeadingSteps {
     // A batch after the steps; one of other columns is left as it is.
     fn step(&self, batch: Batch) -> Result<Piece, Memory>
-        ensures { IfOk result (λ p. p ≡ (if same_fields batch.fields self.now.front.now.fields then stepped self.now.front.now batch else untouched batch)) }
+        ensures { IfOk result (λ p. p ≡ (if same_fields batch.fields self.now.front.fields then stepped self.now.front batch else untouched batch)) }
     {
         if batch.schema() != self.front.schema() {
             return Ok(Piece { batch, fault: None });

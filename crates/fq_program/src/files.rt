@@ -14,7 +14,7 @@ pub enum OpenFault {
 /// What opens files by name.
 pub trait Opener {
     /// What reads an open file.
-    type Reader: Read + Drop;
+    type Reader: Read + Drop + Send;
 
     /// A reader of the file of this name, from its start.
     fn reader_of(&mut self, name: &str) -> Result<Self::Reader, OpenFault>;
@@ -24,7 +24,10 @@ pub trait Opener {
 #[derive(Drop)]
 pub struct SystemFiles<'a, F: Files>(pub &'a F);
 
-impl<F: Files> Opener for SystemFiles<'_, F> {
+impl<F: Files> Opener for SystemFiles<'_, F>
+where
+    F::File: Send,
+{
     type Reader = F::File;
 
     fn reader_of(&mut self, name: &str) -> Result<F::File, OpenFault> {

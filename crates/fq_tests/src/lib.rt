@@ -14,6 +14,8 @@ mod expressions;
 #[cfg(test)]
 mod fixtures;
 #[cfg(test)]
+mod gates;
+#[cfg(test)]
 mod lanes;
 #[cfg(test)]
 mod operators;

@@ -1,5 +1,6 @@
 //! Plans: their reading, their check, and their runs.
 mod checks;
 mod examples;
+mod gated;
 mod reading;
 mod runs;

@@ -2,6 +2,7 @@
 ghost use Rattle.std.specs.Prelude.{◌≡◌};
 
 use super::fakes::{DOUBLES, make_room, make_steps};
+use crate::gates::Meeting;
 use fq_lanes::{Gate, lane, rejoin, run_lanes};
 use std::sync::atomic::{AtomicU64, Ordering};
 use std::test::Fail;
@@ -21,40 +22,11 @@ fn a_lane_keeps_what_was_put(rt: HostRuntime) -> Result<(), Fail> {
     Ok(())
 }
 
-/// In which the answers (0, 0) and (0, 1) mark that they came, and each waits for the other's mark.
-#[derive(Drop)]
-struct Meeting {
-    came: [AtomicU64; 2],
-    alone: AtomicU64,
-}
-
-impl Gate<u64> for Meeting {
-    fn pass(&self, _worker: u16, file: u16, serial: u32, _out: &u64) {
-        if file > 0 || serial > 1 {
-            return;
-        }
-        let (own, other) = match serial {
-            0 => (&self.came[0], &self.came[1]),
-            _ => (&self.came[1], &self.came[0]),
-        };
-        own.store(1, Ordering::SeqCst);
-        for _ in 0..1_000_000_000u32 {
-            if other.load(Ordering::SeqCst) == 1 {
-                return;
-            }
-        }
-        self.alone.fetch_add(1, Ordering::SeqCst);
-    }
-}
-
 #[test]
 fn two_workers_meet(rt: HostRuntime) -> Result<(), Fail> {
     let calls = AtomicU64::new(0);
     let feeds = vec![in rt.alloc(); make_steps(&calls, 10, 10, 3)]?;
-    let gate = Meeting {
-        came: [AtomicU64::new(0), AtomicU64::new(0)],
-        alone: AtomicU64::new(0),
-    };
+    let gate = Meeting::new();
     let (tail, outcome) = run_lanes(
         &rt,
         rt.alloc(),
@@ -65,7 +37,7 @@ fn two_workers_meet(rt: HostRuntime) -> Result<(), Fail> {
         2,
     );
     let report = outcome.ok().ok_or("a fault")?;
-    assert_eq!(rt; gate.alone.load(Ordering::SeqCst), 0);
+    assert!(rt; gate.was_held());
     assert_eq!(rt;
         tail.taken.as_slice(),
         [(0, 0, 20), (0, 1, 40), (0, 2, 60)].as_slice()

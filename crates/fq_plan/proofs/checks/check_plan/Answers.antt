@@ -1,4 +1,4 @@
-use Rattle.std.proofs.Common.{◌≡◌, ◌+◌, ℕ, ◌++◌, Ok, List, map, length, ap, sym, ◌∙◌, subst, inl, inr, arith}
+use Rattle.std.proofs.Common.{◌≡◌, ◌+◌, ◌-◌, ℕ, [], ◌∷◌, ◌++◌, Ok, List, map, length, ap, sym, ◌∙◌, subst, inl, inr, arith}
 use Rattle.std.specs.Prelude.{sum_by}
 use Rattle.std.proofs.lemmas.List.{length-map}
 use Rattle.std.proofs.lemmas.Result.{err_from_is_err_and}
@@ -8,12 +8,13 @@ use Rattle.fq_expr.specs.Kinds.{steps_schema}
 use Rattle.fq_expr.specs.Meaning.{step_of}
 use Rattle.fq_expr.specs.declared.steps.RowStep.{RowStep}
 use Rattle.fq_plan.specs.Judged.{IsPlaceOf, checked, judged_steps, source_refusal}
-use Rattle.fq_plan.specs.Plan.{Source, PlanStep, Query, IsWithinLimits, row_wise}
+use Rattle.fq_plan.specs.Plan.{Source, PlanStep, Query, IsWithinLimits, join_files, row_wise}
 use Rattle.fq_plan.specs.Stages.{checked_fields, checked_source_data, query_of, stage_steps, IsChecked, Leads}
 use Rattle.fq_plan.specs.View.{plan_step_of, source_data}
 use Rattle.fq_plan.proofs.PreparedLemmas.{checked-is, leading-refuses, prepared, stages-refuse, steps-are}
 use Rattle.fq_plan.specs.declared.faults.Place.{Place}
 use Rattle.fq_plan.proofs.SplitLemmas.{few-split, length-split}
+use Rattle.fq_plan.proofs.StartLemmas.{join-count, wanted-is}
 use Rattle.fq_plan.proofs.checks.check_plan.Goals as goal
 use Rattle.fq_plan.proofs.checks.check_plan.Goals.{In_ok-sources, In_ok-leading, In_ok-schema, In_ok-stages}
 
@@ -90,6 +91,9 @@ front-is c =
     let chain : Fields → NumberedSteps = λ fields. record { steps = map step_of c.in_ok-leading.leading.items; fields = fields; first = 0 } in
     c.in_ok-front.ensures ∙ ap chain c.in_ok-front_schema.ensures
 
+parts_of : (c : goal.In_ok-front) → c.in_ok-sources.sources.items ≡ c.in-Some.joins.now ++ c.in-Some.main.now ∷ []
+parts_of c = sym c.deref-2.ensures.value ∙ c.in-Some.ensures.cases.0
+
 is-prepared : (c : goal.In_ok-front) → IsChecked c.in_ok-sources.sources.items (front_of c) c.in_ok-stages.stages.items c.count_files-inputs.result
 unfolding front_of
 is-prepared c =
@@ -100,7 +104,7 @@ is-prepared c =
     let leads = c.in_ok-stages.ensures.leads in
     let count : c.len.result ≡ length leading = omega (arith, length-map c.in_ok-leading.leading.items step_of, c.in_ok-leading.leading.ok.0, c.len.ensures) in
     let of_sources : List Source → Query = λ ss. record { sources = ss; steps = steps } in
-    prepared c.in_ok-sources.sources.items c.in-Some.joins.now c.in-Some.main.now (sym c.deref-2.ensures.value ∙ c.in-Some.ensures.cases.0) steps leading c.in_ok-leading.ensures.leading
+    prepared c.in_ok-sources.sources.items c.in-Some.joins.now c.in-Some.main.now (parts_of c) steps leading c.in_ok-leading.ensures.leading
     stages c.in_ok-schema.schema leads.0 (c.in_ok-stages.ensures.steps ∙ c.in_ok-leading.ensures.rest) (ap (source_refusal 0) c.in_ok-sources.ensures.sources ∙ c.in_ok-sources.ensures.passed)
     (ap (λ (ss : List RowStep). steps_schema c.in-Some.main.now.schema (map step_of ss)) (sym c.as_slice.ensures.value) ∙ c.in_ok-schema.ensures.ok)
     (subst (λ n. Leads joins n c.in_ok-schema.schema stages leads.0) count leads.1)
@@ -108,9 +112,16 @@ is-prepared c =
     (subst IsWithinLimits (ap of_sources (sym c.in_ok-sources.ensures.sources)) c.plan.invariant)
     (c.count_files-inputs.ensures ∙ ap (λ ss. sum_by (λ (s : Source). s.files) (map source_data ss)) c.deref.ensures.value ∙ ap (sum_by (λ (s : Source). s.files)) (sym c.in_ok-sources.ensures.sources))
 
+pub overflow_sub-join_files : goal.overflow_sub-join_files
+overflow_sub-join_files c = omega (arith, (is-prepared c).inputs_wanted, wanted-is c.in_ok-sources.sources.items (front_of c) c.in_ok-stages.stages.items c.count_files-inputs.result (is-prepared c) c.in-Some.joins.now c.in-Some.main.now (parts_of c))
+
 pub invariant_of-result : goal.invariant_of-result
 invariant_of-result c =
-    subst (λ front. IsChecked c.in_ok-sources.sources.items front c.in_ok-stages.stages.items c.count_files-inputs.result) (sym (front-is c)) (is-prepared c)
+    let sources = c.in_ok-sources.sources.items in
+    let stages = c.in_ok-stages.stages.items in
+    let inputs = c.count_files-inputs.result in
+    subst (λ front. IsChecked sources front stages inputs × (inputs - c.in-Some.main.now.files ≡ join_files (query_of sources front stages))) (sym (front-is c))
+    (is-prepared c, join-count sources (front_of c) stages inputs (is-prepared c) c.in-Some.joins.now c.in-Some.main.now (parts_of c))
 
 passes : (c : goal.In_ok-front) → checked (query_of c.in_ok-sources.sources.items (front_of c) c.in_ok-stages.stages.items) ≡ Ok (query_of c.in_ok-sources.sources.items (front_of c) c.in_ok-stages.stages.items)
 passes c = checked-is c.in_ok-sources.sources.items (front_of c) c.in_ok-stages.stages.items c.count_files-inputs.result (is-prepared c)

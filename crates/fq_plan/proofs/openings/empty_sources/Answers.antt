@@ -6,7 +6,7 @@ use Rattle.fq_expr.specs.Expression.{Step}
 use Rattle.fq_expr.specs.Front.{fault_at}
 use Rattle.fq_expr.specs.Steps.{apply_steps, fields_after, fields_after_all}
 use Rattle.fq_expr.specs.declared.fronts.RowFault.{RowFault}
-use Rattle.fq_plan.specs.Rounds.{no_rows}
+use Rattle.fq_plan.specs.EngineRun.{no_rows}
 use Rattle.fq_plan.specs.declared.gathering.Gathered.{Gathered}
 use Rattle.fq_plan.specs.declared.stages.CheckedSource.{CheckedSource}
 use Rattle.fq_plan.proofs.openings.empty_sources.Goals as goal

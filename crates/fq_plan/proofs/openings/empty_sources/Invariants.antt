@@ -1,5 +1,5 @@
 use Rattle.std.proofs.Common.{◌≡◌, map, take}
-use Rattle.fq_plan.specs.Rounds.{no_rows}
+use Rattle.fq_plan.specs.EngineRun.{no_rows}
 use Rattle.fq_plan.proofs.openings.empty_sources.Given as goal
 
 abbrev pub invariant-loop-source : goal.invariant-loop-source

@@ -1,5 +1,5 @@
 use Rattle.std.proofs.Common.{◌≡◌, ◌++◌, ◌+◌, length}
-use Rattle.fq_plan.specs.Rounds.{opened}
+use Rattle.fq_plan.specs.EngineRun.{opened}
 use Rattle.fq_plan.proofs.openings.open_feeds.Given as goal
 
 abbrev pub invariant-loop-reader : goal.invariant-loop-reader

@@ -18,7 +18,7 @@ use Rattle.fq_plan.proofs.checks.Checked.outcome.Goals.{After-as_slice, In_ok-fr
 staged : (g : Over) (c : After-as_slice g) → IsGathered c.args.self.now c.as_slice.result.now c.in_ok-tail.tail.sources.items
 staged g c =
     let s = c.self.inside in
-    is_gathered s.sources.items s.front s.stages.items s.inputs c.self.invariant c.args.self.now c.self.view_is c.as_slice.result.now c.as_slice.ensures.value
+    is_gathered s.sources.items s.leading.front s.stages.items s.inputs c.self.invariant.0 c.args.self.now c.self.view_is c.as_slice.result.now c.as_slice.ensures.value
     c.in_ok-tail.tail.sources.items c.in_ok-tail.ensures.shapes
 
 pub finish-requires : goal.finish-requires

@@ -1,7 +1,7 @@
 use Rattle.fq_plan.specs.Plan.{file_fields}
 use Rattle.fq_plan.proofs.MeaningLemmas.{ran-gives}
-use Rattle.fq_plan.proofs.RoundLemmas.{opened-told}
-use Rattle.fq_plan.proofs.rounds.rounds_give_the_meaning.Goals as goal
+use Rattle.fq_plan.proofs.EngineLemmas.{opened-told}
+use Rattle.fq_plan.proofs.engine_run.engine_gives_the_meaning.Goals as goal
 
 pub returns : goal.returns
 returns g c = record {

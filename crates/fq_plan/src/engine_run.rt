@@ -1,4 +1,4 @@
-// What rounds of the leading steps over the files of a plan come to.
+// What the engine comes to, with the leading steps as its work, over the files of a plan.
 ghost use Rattle.std.specs.Prelude.{◌≡◌, ℕ, List, Option, Some, map};
 ghost use Rattle.fq_column.specs.Stream.{Stream};
 ghost use Rattle.fq_csv.specs.declared.faults.ScanFault.{ScanFault as FileFault};
@@ -10,7 +10,7 @@ ghost use Rattle.fq_plan.specs.Gathering.{gathered_stream};
 ghost use Rattle.fq_plan.specs.Kept.{shape, Takes, IsSound, AreSound};
 ghost use Rattle.fq_plan.specs.Meaning.{apply_plan_steps};
 ghost use Rattle.fq_plan.specs.Plan.{Query, PlanStep, file_fields};
-ghost use Rattle.fq_plan.specs.Rounds.{Gives, RanOver, items_of_files, opened};
+ghost use Rattle.fq_plan.specs.EngineRun.{Gives, RanOver, items_of_files, opened};
 ghost use Rattle.fq_plan.specs.Run.{Tell};
 ghost use Rattle.fq_plan.specs.Sources.{file_streams, first_fault};
 ghost use Rattle.fq_plan.specs.declared.faults.Fault.{Fault as AnyFault};
@@ -20,7 +20,7 @@ ghost use Rattle.fq_plan.specs.declared.workers.Worked.{Worked as Out};
 
 /// What the rest of the steps makes of what was gathered is the plan's meaning, and the trace lists the files' batches.
 /// Feeds over readers that tell their bytes tell the items of the files.
-pub(crate) fn rounds_give_the_meaning<R>()
+pub(crate) fn engine_gives_the_meaning<R>()
     ensures outcome { (p : Query) (batch_size : ℕ) (us : List (Stream FileFault)) (front : NumberedSteps) (joins : ℕ) (feeds : List Feeding) (first last : Gathering) (trace : List (ℕ × ℕ)) →
         RanOver p batch_size us front joins feeds first last trace → Gives p batch_size us last trace }
     ensures told { (p : Query) (batch_size : ℕ) (remaining : R → Option (List ℕ)) (readers : List R) (files : List (List ℕ)) → Tell remaining readers files →
@@ -29,7 +29,7 @@ pub(crate) fn rounds_give_the_meaning<R>()
 
 /// What a run's tail takes leaves the sources' files and columns as they are. No fault of theirs, nor one that the steps
 /// make of it, is one of starting or of writing.
-pub(crate) fn rounds_keep_the_sources()
+pub(crate) fn engine_keeps_the_sources()
     ensures shapes { (first : Gathering) (log : List (ℕ × ℕ × Out)) (last : Gathering) → Took Takes first log last → map shape last.sources.items ≡ map shape first.sources.items }
     ensures faults { (first : Gathering) (log : List (ℕ × ℕ × Out)) (last : Gathering) → Took Takes first log last → AreSound first.sources.items → AreSound last.sources.items }
     ensures first_fault { (sources : List Gathered) → AreSound sources → IsSound (first_fault (map gathered_stream sources)) }

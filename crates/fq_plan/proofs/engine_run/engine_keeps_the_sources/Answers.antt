@@ -1,5 +1,5 @@
 use Rattle.fq_plan.proofs.RunLemmas.{shape-kept, sound-kept, sound-first, sound-steps}
-use Rattle.fq_plan.proofs.rounds.rounds_keep_the_sources.Goals as goal
+use Rattle.fq_plan.proofs.engine_run.engine_keeps_the_sources.Goals as goal
 
 pub returns-clause-shapes : goal.returns-clause-shapes
 returns-clause-shapes c = shape-kept

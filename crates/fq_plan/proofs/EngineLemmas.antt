@@ -20,7 +20,7 @@ use Rattle.fq_lanes.specs.Taking.{Took}
 use Rattle.fq_plan.specs.Feeding.{Feeding, MayCome, end_item, scanned_items}
 use Rattle.fq_plan.specs.Gathering.{taken_in}
 use Rattle.fq_plan.specs.Plan.{Query, front_of, join_files, main_fields}
-use Rattle.fq_plan.specs.Rounds.{leading_steps, opened}
+use Rattle.fq_plan.specs.EngineRun.{leading_steps, opened}
 use Rattle.fq_plan.specs.Run.{Tell}
 use Rattle.fq_plan.specs.Sources.{row_fault, row_limit, scan_fault}
 use Rattle.fq_plan.specs.Tail.{Taken, items_of, last_item, worked, worked_items}

@@ -1,4 +1,4 @@
--- What rounds of the leading steps over the items of a plan's files come to.
+-- What the engine comes to, with the leading steps as its work, over the items of a plan's files.
 use Rattle.std.specs.Prelude.{◌+◌, Option, option_map, ◌≡◌, ℕ, List, [], ◌∷◌, ◌++◌, map, length, Some, None, Result, Err, IsOk, ◌<◌}
 use Rattle.fq_column.specs.Frame.{Fields, Frame}
 use Rattle.fq_column.specs.Lists.{zip_with}
@@ -58,7 +58,7 @@ outcome_of_gathered p joins main = elim (first_fault (map gathered_stream joins)
   | None ↦ outcome (map (λ g. g.batch) joins) (length (front_of p.steps)) main.batch.fields (rest_of p.steps) (gathered_stream main)
 ]
 
--- a run of rounds over feeds that tell the items of these streams, from nothing taken on
+-- a run of the engine over feeds that tell the items of these streams, from nothing taken on
 pub record RanOver (p : Query) (batch_size : ℕ) (us : List (Stream ScanFault)) (front : NumberedSteps) (joins : ℕ) (feeds : List Feeding) (first last : Gathering) (trace : List (ℕ × ℕ)) : Type 0 where
   pub some_rows : 0 < batch_size
   pub some_source : 0 < length p.sources
