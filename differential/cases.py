@@ -6,8 +6,11 @@ from collections import namedtuple
 import oracle
 from oracle import GREATEST, KINDS, LEAST
 
-# The bytes of a plan and of its files, in the order of the sources.
-Case = namedtuple("Case", "plan files")
+# The most files of a plan.
+MOST_FILES = 16
+
+# The bytes of a plan and of its files, in the order of the sources, and the rows of a batch and the workers of one of its runs.
+Case = namedtuple("Case", "plan files batch workers")
 
 NAMES = ["a", "b", "c", "d", "e", "k", "a_right", "é", "x,y", ""]
 UNKNOWN = "nowhere"
@@ -181,6 +184,8 @@ def source(draw):
 
 def plan(draw):
     sources = [source(draw) for _ in range(draw.choice([1, 1, 2, 2, 3]))]
+    if draw.often(3):
+        sources[-1]["files"] = MOST_FILES - sum(one["files"] for one in sources[:-1])
     main = sources[-1]["columns"]
     for joined in sources[:-1]:
         if main and draw.often(80):
@@ -379,4 +384,6 @@ def case(seed, number):
     value = plan(draw)
     files = files_of(draw, value)
     text = wrong_plan_text(draw, value) if draw.often(10) else text_of(draw, value)
-    return Case(text, files)
+    batch = draw.choice([1, 2, 3, 7, 64, 1000, 65536])
+    workers = 16 if len(files) == MOST_FILES else draw.randint(1, 16)
+    return Case(text, files, batch, workers)
