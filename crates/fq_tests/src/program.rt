@@ -1,8 +1,7 @@
 // The program over inputs, files and devices in memory.
+use crate::fixtures::Bytes;
 use fq_program::{OpenFault, Opener, one_input, with_words};
 use std::alloc::Global;
-use std::io;
-use std::io::{ErrorKind, Read, Write};
 use std::sync::Wait;
 use std::test::Fail;
 use std::thread::Threads;
@@ -58,14 +57,15 @@ fn answer_to<T: Threads + Wait + Sync>(
     rt: &T,
     alloc: Global,
     line: &str,
-    files: &[(&str, &str)],
+    files: InMemory<'_>,
 ) -> Result<Answer, Fail> {
+    let mut files = files;
     let mut words = Vec::new(alloc);
     for word in line.split(' ') {
         words.push(String::from_str(alloc, word)?)?;
     }
     let (mut out, mut err) = (Vec::new(alloc), Vec::new(alloc));
-    let status = with_words(rt, alloc, words, &mut InMemory(files), &mut out, &mut err);
+    let status = with_words(rt, alloc, words, &mut files, &mut out, &mut err);
     Ok(Answer { status, out, err })
 }
 
@@ -75,39 +75,38 @@ fn is_as_expected(status: u8, out: &Vec<u8>, err: &Vec<u8>, expected: (u8, &str,
         && err.as_slice() == expected.2.as_bytes()
 }
 
-// Files in memory, by name.
+// Files in memory, by name. One may fail behind its bytes, and one may need memory that is refused.
 #[derive(Drop)]
-struct InMemory<'a>(&'a [(&'a str, &'a str)]);
+struct InMemory<'a> {
+    files: &'a [(&'a str, &'a str)],
+    torn: &'a str,
+    refused: &'a str,
+}
 
 impl<'a> Opener for InMemory<'a> {
-    type Reader = &'a [u8];
+    type Reader = Bytes<'a>;
 
-    fn reader_of(&mut self, name: &str) -> Result<&'a [u8], OpenFault> {
-        for (given, text) in self.0 {
+    fn reader_of(&mut self, name: &str) -> Result<Bytes<'a>, OpenFault> {
+        if self.refused == name {
+            return Err(OpenFault::Memory);
+        }
+        for (given, text) in self.files {
             if *given == name {
-                return Ok(text.as_bytes());
+                return Ok(Bytes {
+                    bytes: text.as_bytes(),
+                    fails: self.torn == name,
+                });
             }
         }
         Err(OpenFault::Failed)
     }
 }
 
-// A device that fails at once.
-#[derive(Drop)]
-struct Broken;
-
-impl Read for Broken {
-    fn read(&mut self, _buffer: &mut [u8]) -> io::Result<usize> {
-        Err(io::Error::from(ErrorKind::Other))
-    }
-}
-
-impl Write for Broken {
-    fn write(&mut self, _bytes: &[u8]) -> io::Result<usize> {
-        Err(io::Error::from(ErrorKind::Other))
-    }
-
-    fn flush(&mut self) -> io::Result<()> {
-        Ok(())
+// Files in memory that can be read to their ends.
+fn whole<'a>(files: &'a [(&'a str, &'a str)]) -> InMemory<'a> {
+    InMemory {
+        files,
+        torn: "",
+        refused: "",
     }
 }

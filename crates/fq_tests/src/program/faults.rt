@@ -1,5 +1,6 @@
 // Inputs that give a fault: the status, no output, and one line.
-use super::{Broken, answers, gives, is_as_expected, plan_of};
+use super::{answers, gives, is_as_expected, plan_of};
+use crate::fixtures::{Broken, Bytes};
 use fq_program::one_input;
 use std::test::Fail;
 
@@ -201,7 +202,11 @@ fn sums_that_do_not_fit(rt: HostRuntime) -> Result<(), Fail> {
 fn a_reader_that_fails_at_once(rt: HostRuntime) {
     let alloc = rt.alloc();
     let (mut out, mut err) = (Vec::new(alloc), Vec::new(alloc));
-    let status = one_input(&rt, alloc, Broken, &mut out, &mut err);
+    let torn = Bytes {
+        bytes: b"".as_slice(),
+        fails: true,
+    };
+    let status = one_input(&rt, alloc, torn, &mut out, &mut err);
     let expected = (5, "", "frameq: read failed: file 0\n");
     assert!(rt; is_as_expected(status, &out, &err, expected));
 }

@@ -1,5 +1,6 @@
 // The program with words, over files in memory.
-use super::{Broken, InMemory, answer_to, is_as_expected};
+use super::{InMemory, answer_to, is_as_expected, whole};
+use crate::fixtures::Broken;
 use fq_program::with_words;
 use std::test::Fail;
 
@@ -53,10 +54,39 @@ fn runs_and_refusals(rt: HostRuntime) -> Result<(), Fail> {
             (4, "", "frameq: file 1, row 2, column 0: bad cell\n"),
         ),
     ] {
-        let answer = answer_to(&rt, alloc, words, &FILES)?;
+        let answer = answer_to(&rt, alloc, words, whole(&FILES))?;
         assert!(rt;
             is_as_expected(answer.status, &answer.out, &answer.err, expected),
             "{words}"
+        );
+    }
+    Ok(())
+}
+
+#[test]
+fn files_that_fail_when_they_are_read(rt: HostRuntime) -> Result<(), Fail> {
+    let alloc = rt.alloc();
+    for (torn, refused, status, message) in [
+        ("p", "", 5, "frameq: cannot read plan\n"),
+        ("a", "", 5, "frameq: read failed: file 0\n"),
+        ("b", "", 5, "frameq: read failed: file 1\n"),
+        ("", "p", 6, "frameq: out of memory\n"),
+        ("", "b", 6, "frameq: out of memory\n"),
+    ] {
+        let files = InMemory {
+            files: &FILES,
+            torn,
+            refused,
+        };
+        let answer = answer_to(&rt, alloc, "--plan p a b", files)?;
+        assert!(rt;
+            is_as_expected(
+                answer.status,
+                &answer.out,
+                &answer.err,
+                (status, "", message)
+            ),
+            "{torn}, {refused}"
         );
     }
     Ok(())
@@ -75,7 +105,7 @@ fn words_that_are_refused(rt: HostRuntime) -> Result<(), Fail> {
         "--plan p",
         "a b",
     ] {
-        let answer = answer_to(&rt, alloc, words, &FILES)?;
+        let answer = answer_to(&rt, alloc, words, whole(&FILES))?;
         assert!(rt; answer.status == 2 && answer.out.is_empty(), "{words}");
         assert!(rt; answer.err.as_slice().starts_with(b"error: "), "{words}");
     }
@@ -85,7 +115,7 @@ fn words_that_are_refused(rt: HostRuntime) -> Result<(), Fail> {
 #[test]
 fn help_goes_to_the_output(rt: HostRuntime) -> Result<(), Fail> {
     let alloc = rt.alloc();
-    let answer = answer_to(&rt, alloc, "--help", &[])?;
+    let answer = answer_to(&rt, alloc, "--help", whole(&[]))?;
     let help = String::from_utf8(answer.out).map_err(|_| Fail::from("no text"))?;
     assert!(rt; answer.status == 0 && answer.err.is_empty());
     for part in [
@@ -104,7 +134,7 @@ fn help_that_is_not_written(rt: HostRuntime) -> Result<(), Fail> {
     let alloc = rt.alloc();
     let words = vec![in alloc; String::from_str(alloc, "--help")?]?;
     let mut err = Vec::new(alloc);
-    let status = with_words(&rt, alloc, words, &mut InMemory(&[]), &mut Broken, &mut err);
+    let status = with_words(&rt, alloc, words, &mut whole(&[]), &mut Broken, &mut err);
     assert!(rt; status == 5 && err.as_slice() == "frameq: write failed\n".as_bytes());
     Ok(())
 }
