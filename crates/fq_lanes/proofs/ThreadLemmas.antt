@@ -1,8 +1,8 @@
 -- Lemmas on threads started by recursion.
 use Rattle.std.proofs.Common.{◌≡◌, List, [], ◌∷◌, ◌++◌, map, ap, sym, refl, false, ◌∙◌, append_assoc}
 use Rattle.std.proofs.lemmas.List.{map-append}
-use Rattle.fq_lanes.specs.WorkerLanes.{worker_view, AreNewWorkers}
-use Rattle.fq_lanes.specs.FeedLane.{feed_view, AreNewFeeds}
+use Rattle.fq_lanes.specs.WorkerLanes.{worker_view, idle_worker, AreNewWorkers}
+use Rattle.fq_lanes.specs.FeedLane.{feed_view, new_feed, AreNewFeeds}
 use Rattle.fq_lanes.specs.HubView.{FeedView, WorkerView}
 use Rattle.fq_lanes.specs.declared.worker_lanes.WorkerLanes.{WorkerLanes}
 use Rattle.fq_lanes.specs.declared.feed_lane.FeedLane.{FeedLane}
@@ -43,21 +43,23 @@ module _ {A B : Type 0} where
       (sym (map-append f popped (last ∷ [])) ∙ ap (map f) (sym p) ∙ e ∙ ap (map f) q ∙ map-append f now (first ∷ []))
 
 module _ {X O : Type 0} where
-  pub new_workers_push : (ds : List (WorkerLanes X O)) (d : WorkerLanes X O) → AreNewWorkers ds → (worker_view d).jobs ≡ [] → (worker_view d).answers ≡ [] → (worker_view d).outstanding ≡ [] → AreNewWorkers (ds ++ d ∷ [])
-  new_workers_push [] d h js rs os = (
-    ap {B = WorkerView X O} (λ l. record { jobs = l; answers = (worker_view d).answers; outstanding = (worker_view d).outstanding }) js
-        ∙ ap {B = WorkerView X O} (λ l. record { jobs = []; answers = l; outstanding = (worker_view d).outstanding }) rs
-        ∙ ap {B = WorkerView X O} (λ l. record { jobs = []; answers = []; outstanding = l }) os,
-    tt,
-  )
-  new_workers_push (e ∷ ds) d h js rs os = (h.0, new_workers_push ds d h.1 js rs os)
+  pub idle_at_first : (d : WorkerLanes X O) → (worker_view d).jobs ≡ [] → (worker_view d).answers ≡ [] → (worker_view d).outstanding ≡ [] → worker_view d ≡ idle_worker
+  idle_at_first d js rs os =
+      ap {B = WorkerView X O} (λ l. record { jobs = l; answers = (worker_view d).answers; outstanding = (worker_view d).outstanding }) js
+      ∙ ap {B = WorkerView X O} (λ l. record { jobs = []; answers = l; outstanding = (worker_view d).outstanding }) rs
+      ∙ ap {B = WorkerView X O} (λ l. record { jobs = []; answers = []; outstanding = l }) os
+
+  pub new_workers_push : (ds : List (WorkerLanes X O)) (d : WorkerLanes X O) → AreNewWorkers ds → worker_view d ≡ idle_worker → AreNewWorkers (ds ++ d ∷ [])
+  new_workers_push [] d h idle = (idle, tt)
+  new_workers_push (e ∷ ds) d h idle = (h.0, new_workers_push ds d h.1 idle)
 
 module _ {X : Type 0} where
-  pub new_feeds_push : (ns : List (FeedLane X)) (n : FeedLane X) → AreNewFeeds ns → (feed_view n).told ≡ [] → (feed_view n).items ≡ 0 → (feed_view n).ended ≡ false → AreNewFeeds (ns ++ n ∷ [])
-  new_feeds_push [] n h t i e = (
-    ap {B = FeedView X} (λ l. record { told = l; items = (feed_view n).items; ended = (feed_view n).ended }) t
-        ∙ ap {B = FeedView X} (λ l. record { told = []; items = l; ended = (feed_view n).ended }) i
-        ∙ ap {B = FeedView X} (λ l. record { told = []; items = 0; ended = l }) e,
-    tt,
-  )
-  new_feeds_push (m ∷ ns) n h t i e = (h.0, new_feeds_push ns n h.1 t i e)
+  pub new_at_first : (n : FeedLane X) → (feed_view n).told ≡ [] → (feed_view n).items ≡ 0 → (feed_view n).ended ≡ false → feed_view n ≡ new_feed
+  new_at_first n t i e =
+      ap {B = FeedView X} (λ l. record { told = l; items = (feed_view n).items; ended = (feed_view n).ended }) t
+      ∙ ap {B = FeedView X} (λ l. record { told = []; items = l; ended = (feed_view n).ended }) i
+      ∙ ap {B = FeedView X} (λ l. record { told = []; items = 0; ended = l }) e
+
+  pub new_feeds_push : (ns : List (FeedLane X)) (n : FeedLane X) → AreNewFeeds ns → feed_view n ≡ new_feed → AreNewFeeds (ns ++ n ∷ [])
+  new_feeds_push [] n h new = (new, tt)
+  new_feeds_push (m ∷ ns) n h new = (h.0, new_feeds_push ns n h.1 new)

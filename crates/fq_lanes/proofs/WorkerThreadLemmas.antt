@@ -1,5 +1,5 @@
 -- Lemmas on jobs and answers.
-use Rattle.std.proofs.Common.{◌≡◌, ℕ, List, [], ◌∷◌, ◌++◌, length, arith, Result, Ok, Err, refl, sym, ap, subst, inl, inr, IfOk}
+use Rattle.std.proofs.Common.{◌≡◌, ℕ, List, [], ◌∷◌, ◌++◌, length, arith, Result, Ok, Err, refl, sym, ap, inl, inr, IfOk}
 use Rattle.fq_lanes.specs.declared.faults.Memory.{Memory}
 use Rattle.fq_lanes.specs.declared.job.Job.{Job}
 use Rattle.fq_lanes.specs.declared.messages.ToWorker.{ToWorker}

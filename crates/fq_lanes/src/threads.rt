@@ -1,10 +1,10 @@
 //! The threads of the feeds, and then those of the workers.
-ghost use Rattle.std.specs.Prelude.{◌≡◌, ◌≤◌, ◌+◌, ℕ, List, [], ◌∷◌, ◌++◌, OnOk, OnErr, All, Result, length};
+ghost use Rattle.std.specs.Prelude.{◌≡◌, ◌≤◌, ◌+◌, ℕ, List, [], ◌∷◌, ◌++◌, IfOk, OnOk, OnErr, All, Result, length};
 ghost use Rattle.std.specs.Vec.Iter.{into_iter_items, into_iter_len};
 ghost use Rattle.std.specs.Thread.{IsSync};
-ghost use Rattle.fq_lanes.specs.WorkerLanes.{worker_names, worker_views, AreNewWorkers};
-ghost use Rattle.fq_lanes.specs.FeedLane.{feed_names, tolds_of, AreNewFeeds};
-ghost use Rattle.fq_lanes.specs.Lane.{put_items, taken_items, SamePut, SameTake};
+ghost use Rattle.fq_lanes.specs.WorkerLanes.{worker_names, worker_view, worker_views, idle_worker, AreNewWorkers};
+ghost use Rattle.fq_lanes.specs.FeedLane.{feed_names, feed_view, new_feed, tolds_of, AreNewFeeds};
+ghost use Rattle.fq_lanes.specs.Lane.{put_items, taken_items, IsLane, SamePut, SameTake};
 ghost use Rattle.fq_lanes.specs.Lists.{Each};
 ghost use Rattle.fq_lanes.specs.FeedThread.{Scanned, Began};
 ghost use Rattle.fq_lanes.specs.HubView.{WorkerView, AllReplied};
@@ -14,12 +14,12 @@ ghost use Rattle.fq_lanes.specs.declared.messages.FromFeed.{FromFeed};
 use crate::drains::drain_lanes;
 use crate::faults::{Memory, RunFault};
 use crate::feed_lane::FeedLane;
-use crate::feed_thread::{put_waiting, run_feed};
+use crate::feed_thread::run_feed;
 use crate::feeds::Feed;
 use crate::gates::Gate;
 use crate::lanes::{Put, Take, lane, rejoin};
 use crate::messages::{FromFeed, ToWorker};
-use crate::waiting::Parkers;
+use crate::waiting::{Parkers, Waiter};
 use crate::worker_lanes::{MOST_OUTSTANDING, WorkerLanes};
 use crate::worker_thread::run_worker;
 use crate::workers::Work;
@@ -78,6 +78,24 @@ impl<F: Feed> Promise<Put<FromFeed<F::Item>>> for FeedPromise<F> {
     ghost kept_by = { λ p r. SamePut p.put.value r × Scanned F.gives F.may_fail p.feed.value (put_items r) };
 }
 
+/// Opens the lanes of a worker: the hub's ends come last among `workers`, and the answer is the ends of its thread.
+fn open_worker<'s, X: Drop, O: Drop>(
+    alloc: Global,
+    waiter: Waiter<'s>,
+    workers: &mut Vec<WorkerLanes<'s, X, O>>,
+) -> Result<(Take<ToWorker<X>>, Put<Result<O, Memory>>), Memory>
+    ensures opened { IfOk result (λ ends. (hub : WorkerLanes X O) × (workers.new.items ≡ workers.old.items ++ hub ∷ []) × (worker_view hub ≡ idle_worker)
+        × IsLane hub.jobs ends.0 × IsLane ends.1 hub.answers × (taken_items ends.0 ≡ []) × (put_items ends.1 ≡ [])) }
+    ensures refused { OnErr result (workers.new.items ≡ workers.old.items) }
+{
+    let (jobs, their_jobs) = lane(alloc, MOST_OUTSTANDING)?;
+    let (their_answers, answers) = lane(alloc, MOST_OUTSTANDING)?;
+    match workers.push(WorkerLanes::new(alloc, waiter.turned(), jobs, answers)) {
+        Ok(()) => Ok((their_jobs, their_answers)),
+        Err(_) => Err(Memory),
+    }
+}
+
 /// Starts the threads of the workers from a number on, runs the core, and joins them.
 fn start_workers_from<
     's,
@@ -117,15 +135,7 @@ where
         return Ok(());
     }
     let waiter = parkers.of_worker(from);
-    let Ok((jobs, their_jobs)) = lane(alloc, MOST_OUTSTANDING) else {
-        drain_lanes(rt, lanes, RunFault::Memory);
-        return Err(Memory);
-    };
-    let Ok((their_answers, answers)) = lane(alloc, MOST_OUTSTANDING) else {
-        drain_lanes(rt, lanes, RunFault::Memory);
-        return Err(Memory);
-    };
-    let Ok(()) = workers.push(WorkerLanes::new(alloc, waiter.turned(), jobs, answers)) else {
+    let Ok((their_jobs, their_answers)) = open_worker(alloc, waiter, workers) else {
         drain_lanes(rt, lanes, RunFault::Memory);
         return Err(Memory);
     };
@@ -156,14 +166,7 @@ where
             let Some(worker) = workers.pop() else {
                 unreachable!()
             };
-            let WorkerLanes {
-                waiter: hub_waiter,
-                jobs,
-                answers,
-                outstanding: _,
-            } = worker;
-            let mut jobs = jobs;
-            put_waiting(rt, hub_waiter, &mut jobs, ToWorker::Stop);
+            let (jobs, answers) = worker.stop(rt);
             let (their_jobs, their_answers) = child.join(rt);
             drop(rejoin(jobs, their_jobs));
             drop(rejoin(their_answers, answers));
@@ -224,6 +227,22 @@ where
     )
 }
 
+/// Opens the lane of a feed: the hub's end comes last among `lanes`, and the answer is the end of its thread.
+fn open_feed<'s, X: Drop>(
+    alloc: Global,
+    waiter: Waiter<'s>,
+    lanes: &mut Vec<FeedLane<'s, X>>,
+) -> Result<Put<FromFeed<X>>, Memory>
+    ensures opened { IfOk result (λ put. (hub : FeedLane X) × (lanes.new.items ≡ lanes.old.items ++ hub ∷ []) × (feed_view hub ≡ new_feed) × IsLane put hub.take × (put_items put ≡ [])) }
+    ensures refused { OnErr result (lanes.new.items ≡ lanes.old.items) }
+{
+    let (put, take) = lane(alloc, ITEMS_AHEAD)?;
+    match lanes.push(FeedLane::new(waiter.turned(), take)) {
+        Ok(()) => Ok(put),
+        Err(_) => Err(Memory),
+    }
+}
+
 /// Starts a thread for each feed that is left, then the workers, runs the core, and joins them.
 pub(crate) fn start_feeds<
     's,
@@ -262,11 +281,7 @@ where
         return start_workers(scope, rt, alloc, parkers, work, gate, count, lanes, hub);
     };
     let waiter = parkers.of_feed(lanes.len());
-    let Ok((put, take)) = lane(alloc, ITEMS_AHEAD) else {
-        drain_lanes(rt, lanes, RunFault::Memory);
-        return Err(Memory);
-    };
-    let Ok(()) = lanes.push(FeedLane::new(waiter.turned(), take)) else {
+    let Ok(put) = open_feed(alloc, waiter, lanes) else {
         drain_lanes(rt, lanes, RunFault::Memory);
         return Err(Memory);
     };

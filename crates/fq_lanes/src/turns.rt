@@ -12,6 +12,7 @@ use crate::feed_lane::{FeedLane, Heard};
 use crate::hub::Hub;
 use crate::job::Job;
 use crate::tails::Tail;
+use crate::waiting::sleep;
 use crate::worker_lanes::{MOST_OUTSTANDING, WorkerLanes};
 use std::sync::Wait;
 use std::thread::Parker;
@@ -196,7 +197,7 @@ where
             return Ok(());
         }
         if !of_feeds && !of_workers {
-            parker.park(rt);
+            sleep(rt, parker);
         }
     }
     unreachable!()

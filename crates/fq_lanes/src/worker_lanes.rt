@@ -1,7 +1,7 @@
 //! The hub's side of a worker.
 ghost use Rattle.std.specs.Prelude.{◌≡◌, [], ◌∷◌, ◌++◌, OnOk, OnErr, MatchOption};
-ghost use Rattle.fq_lanes.specs.Lane.{put_items, taken_items};
-ghost use Rattle.fq_lanes.specs.declared.messages.ToWorker.TheVariants.{Do};
+ghost use Rattle.fq_lanes.specs.Lane.{put_items, taken_items, SamePut};
+ghost use Rattle.fq_lanes.specs.declared.messages.ToWorker.TheVariants.{Do, Stop};
 
 use crate::faults::Memory;
 use crate::feed_thread::put_waiting;
@@ -101,5 +101,21 @@ impl<'s, X, O> WorkerLanes<'s, X, O> {
             }
         }
         unreachable!()
+    }
+    /// Tells the worker to stop, and hands out its lanes.
+    pub(crate) fn stop<R: Wait>(self, rt: &R) -> (Put<ToWorker<X>>, Take<Result<O, Memory>>)
+        ensures jobs { SamePut self.entry.jobs result.0 }
+        ensures stopped { put_items result.0 ≡ put_items self.entry.jobs ++ Stop ∷ [] }
+        ensures answers { result.1 ≡ self.entry.answers }
+    {
+        let WorkerLanes {
+            waiter,
+            jobs,
+            answers,
+            outstanding: _,
+        } = self;
+        let mut jobs = jobs;
+        put_waiting(rt, waiter, &mut jobs, ToWorker::Stop);
+        (jobs, answers)
     }
 }

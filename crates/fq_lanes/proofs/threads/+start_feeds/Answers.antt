@@ -1,8 +1,8 @@
-use Rattle.std.proofs.Common.{rules, ◌≡◌, [], ◌∷◌, ◌++◌, All, sym, subst, ap, ◌∙◌, length}
+use Rattle.std.proofs.Common.{rules, ◌≡◌, [], ◌∷◌, All, sym, subst, ap, ◌∙◌, length}
 use Rattle.fq_lanes.specs.FeedLane.{feed_name, AreNewFeeds, tolds_of, told_of}
 use Rattle.std.proofs.lemmas.List.Elements.{All-tail}
 use Rattle.std.specs.Vec.Iter.{into_iter_items}
-use Rattle.fq_lanes.specs.Lane.{put_items, put_name, take_name, taken_items, left_items}
+use Rattle.fq_lanes.specs.Lane.{put_items, put_name, left_items}
 use Rattle.fq_lanes.specs.FeedThread.{Scanned, Began}
 use Rattle.fq_lanes.specs.Lists.{Each}
 use Rattle.std.proofs.lemmas.List.{append-nil, nil_from_length}
@@ -44,20 +44,19 @@ returns-in-Some-pop-clause-done g t c =
 
 pub start_feeds-outcome-requires-clause-lanes : goal.start_feeds-outcome-requires-clause-lanes
 start_feeds-outcome-requires-clause-lanes g t c κs within =
-    let pushed : c.push.new.self.items ≡ c.args.lanes.now.items ++ c.new.result ∷ [] = c.in-Ok-push.ensures.items in
-    subst (λ l. AreNewFeeds l) (sym pushed) (new_feeds_push c.args.lanes.now.items c.new.result c.requires.lanes
-    (ap taken_items c.new.ensures.0 ∙ c.in-Ok.ensures.empty.1) c.new.ensures.1 c.new.ensures.2)
+    let opened = c.in-Ok.ensures.opened in
+    subst (λ l. AreNewFeeds l) (sym opened.1) (new_feeds_push c.args.lanes.now.items opened.0 c.requires.lanes opened.2)
 
 pub rejoin-requires : goal.rejoin-requires
 rejoin-requires g t c =
-    let pushed : c.push.new.self.items ≡ c.args.lanes.now.items ++ c.new.result ∷ [] = c.in-Ok-push.ensures.items in
-    let split = names_split feed_name c.start_feeds-outcome.new.lanes.items c.push.new.self.items c.pop.new.self.items c.args.lanes.now.items c.in-Some-pop.lane c.new.result
-    c.start_feeds-outcome.ensures.lanes c.in-Some-pop.ensures.items pushed in
+    let opened = c.in-Ok.ensures.opened in
+    let split = names_split feed_name c.start_feeds-outcome.new.lanes.items c.open_feed.new.lanes.items c.pop.new.self.items c.args.lanes.now.items c.in-Some-pop.lane opened.0
+    c.start_feeds-outcome.ensures.lanes c.in-Some-pop.ensures.items opened.1 in
     let mine : c.in-Ok-spawn_with.child.promise.put.value ≡ c.in-Ok.put = ap (λ p. p.put.value) c.in-Ok-spawn_with.ensures.ok ∙ c.of-2.ensures in
-    c.join-put.ensures.0 ∙ ap put_name mine ∙ c.in-Ok.ensures.pair ∙ sym (split.1 ∙ ap take_name c.new.ensures.0)
+    c.join-put.ensures.0 ∙ ap put_name mine ∙ opened.3 ∙ sym split.1
 
 pub returns-in-Some-pop-clause-lanes : goal.returns-in-Some-pop-clause-lanes
 returns-in-Some-pop-clause-lanes g t c =
-    let pushed : c.push.new.self.items ≡ c.args.lanes.now.items ++ c.new.result ∷ [] = c.in-Ok-push.ensures.items in
-    (names_split feed_name c.start_feeds-outcome.new.lanes.items c.push.new.self.items c.pop.new.self.items c.args.lanes.now.items c.in-Some-pop.lane c.new.result
-    c.start_feeds-outcome.ensures.lanes c.in-Some-pop.ensures.items pushed).0
+    let opened = c.in-Ok.ensures.opened in
+    (names_split feed_name c.start_feeds-outcome.new.lanes.items c.open_feed.new.lanes.items c.pop.new.self.items c.args.lanes.now.items c.in-Some-pop.lane opened.0
+    c.start_feeds-outcome.ensures.lanes c.in-Some-pop.ensures.items opened.1).0

@@ -16,25 +16,25 @@ returns-then-from-count-clause-done g t c =
 
 pub rejoin-requires : goal.rejoin-requires
 rejoin-requires g t c =
-    let pushed : c.push.new.self.items ≡ c.args.workers.now.items ++ c.new.result ∷ [] = c.in-Ok-push.ensures.items in
-    let split = names_split worker_name c.start_workers_from-outcome.new.workers.items c.push.new.self.items c.pop.new.self.items c.args.workers.now.items c.in-Some.worker c.new.result
-    c.start_workers_from-outcome.ensures.workers c.in-Some.ensures.items pushed in
+    let opened = c.in-Ok.ensures.opened in
+    let split = names_split worker_name c.start_workers_from-outcome.new.workers.items c.open_worker.new.workers.items c.pop.new.self.items c.args.workers.now.items c.in-Some.worker opened.0
+    c.start_workers_from-outcome.ensures.workers c.in-Some.ensures.items opened.1 in
     let mine : c.in-Ok-spawn_with.child.promise.jobs.value ≡ c.in-Ok.their_jobs = ap (λ p. p.jobs.value) c.in-Ok-spawn_with.ensures.ok ∙ c.of-2.ensures in
-    c.put_waiting.ensures.lane ∙ ap (λ n. n.0) split.1 ∙ ap put_name c.new.ensures.0 ∙ c.in-Ok.ensures.pair ∙ sym (c.join-their_jobs.ensures.0 ∙ ap take_name mine)
+    c.stop-jobs.ensures.jobs ∙ ap (λ n. n.0) split.1 ∙ opened.3 ∙ sym (c.join-their_jobs.ensures.0 ∙ ap take_name mine)
 
 pub rejoin-requires-in-Ok-spawn_with : goal.rejoin-requires-in-Ok-spawn_with
 rejoin-requires-in-Ok-spawn_with g t c =
-    let pushed : c.push.new.self.items ≡ c.args.workers.now.items ++ c.new.result ∷ [] = c.in-Ok-push.ensures.items in
-    let split = names_split worker_name c.start_workers_from-outcome.new.workers.items c.push.new.self.items c.pop.new.self.items c.args.workers.now.items c.in-Some.worker c.new.result
-    c.start_workers_from-outcome.ensures.workers c.in-Some.ensures.items pushed in
-    let mine : c.in-Ok-spawn_with.child.promise.answers.value ≡ c.in-Ok-lane.their_answers = ap (λ p. p.answers.value) c.in-Ok-spawn_with.ensures.ok ∙ c.of-3.ensures in
-    c.join-their_jobs.ensures.1 ∙ ap put_name mine ∙ c.in-Ok-lane.ensures.pair ∙ sym (ap (λ n. n.1) split.1 ∙ ap take_name c.new.ensures.1)
+    let opened = c.in-Ok.ensures.opened in
+    let split = names_split worker_name c.start_workers_from-outcome.new.workers.items c.open_worker.new.workers.items c.pop.new.self.items c.args.workers.now.items c.in-Some.worker opened.0
+    c.start_workers_from-outcome.ensures.workers c.in-Some.ensures.items opened.1 in
+    let mine : c.in-Ok-spawn_with.child.promise.answers.value ≡ c.in-Ok.their_answers = ap (λ p. p.answers.value) c.in-Ok-spawn_with.ensures.ok ∙ c.of-3.ensures in
+    c.join-their_jobs.ensures.1 ∙ ap put_name mine ∙ opened.4 ∙ sym (ap take_name c.stop-jobs.ensures.answers ∙ ap (λ n. n.1) split.1)
 
 pub returns-in-Some-clause-workers : goal.returns-in-Some-clause-workers
 returns-in-Some-clause-workers g t c =
-    let pushed : c.push.new.self.items ≡ c.args.workers.now.items ++ c.new.result ∷ [] = c.in-Ok-push.ensures.items in
-    let split = names_split worker_name c.start_workers_from-outcome.new.workers.items c.push.new.self.items c.pop.new.self.items c.args.workers.now.items c.in-Some.worker c.new.result
-    c.start_workers_from-outcome.ensures.workers c.in-Some.ensures.items pushed in
+    let opened = c.in-Ok.ensures.opened in
+    let split = names_split worker_name c.start_workers_from-outcome.new.workers.items c.open_worker.new.workers.items c.pop.new.self.items c.args.workers.now.items c.in-Some.worker opened.0
+    c.start_workers_from-outcome.ensures.workers c.in-Some.ensures.items opened.1 in
     split.0
 
 pub returns-in-Some-clause-done : goal.returns-in-Some-clause-done
@@ -45,9 +45,10 @@ returns-in-Some-clause-done g t c =
     let promised = subst (λ w. Replied (g.W.Work.gives w) (taken_items theirs.0) (put_items theirs.1)) mine c.join-their_jobs.ensures.2 in
     let os = put_items c.in-Some.worker.jobs in
     let rs = taken_items c.in-Some.worker.answers in
-    let all : taken_items theirs.0 ++ left_items c.rejoin.result ≡ os ++ Stop ∷ [] = c.rejoin.ensures ∙ c.put_waiting.ensures.put in
+    let stopped = ap taken_items c.stop-jobs.ensures.answers in
+    let all : taken_items theirs.0 ++ left_items c.rejoin.result ≡ os ++ Stop ∷ [] = c.rejoin.ensures ∙ c.stop-jobs.ensures.stopped in
     let ahead = subst (λ zs. Replied gives zs (put_items theirs.1)) all (replied_ahead gives (taken_items theirs.0) (left_items c.rejoin.result) (put_items theirs.1) promised) in
-    let mid = replied_before gives (os ++ Stop ∷ []) rs (left_items c.rejoin-in-Ok-spawn_with.result) (subst (λ zs. Replied gives (os ++ Stop ∷ []) zs) (sym c.rejoin-in-Ok-spawn_with.ensures) ahead) in
+    let mid = replied_before gives (os ++ Stop ∷ []) rs (left_items c.rejoin-in-Ok-spawn_with.result) (subst (λ zs. Replied gives (os ++ Stop ∷ []) zs) (sym (ap (λ zs. zs ++ left_items c.rejoin-in-Ok-spawn_with.result) (sym stopped) ∙ c.rejoin-in-Ok-spawn_with.ensures)) ahead) in
     let here = replied_unstopped gives os rs mid in
     on_ok_weaker c.start_workers_from-outcome.result
     (λ i. (
@@ -59,6 +60,5 @@ returns-in-Some-clause-done g t c =
 
 pub start_workers_from-outcome-requires-clause-workers : goal.start_workers_from-outcome-requires-clause-workers
 start_workers_from-outcome-requires-clause-workers g t c κs within =
-    let pushed : c.push.new.self.items ≡ c.args.workers.now.items ++ c.new.result ∷ [] = c.in-Ok-push.ensures.items in
-    subst (λ l. AreNewWorkers l) (sym pushed) (new_workers_push c.args.workers.now.items c.new.result c.requires.workers
-    (ap put_items c.new.ensures.0 ∙ c.in-Ok.ensures.empty.0) (ap taken_items c.new.ensures.1 ∙ c.in-Ok-lane.ensures.empty.1) c.new.ensures.2)
+    let opened = c.in-Ok.ensures.opened in
+    subst (λ l. AreNewWorkers l) (sym opened.1) (new_workers_push c.args.workers.now.items opened.0 c.requires.workers opened.2)
