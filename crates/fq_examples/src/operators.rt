@@ -1,0 +1,16 @@
+//! Joins, groupings and rolling sums.
+ghost use Rattle.fq_ops.specs.Examples.{SumExamples, GroupExamples, AggregateExamples, GroupSchemaExamples, JoinExamples, SuffixExamples, RoomExamples, RollExamples, RollSchemaExamples, TakeExamples};
+
+/// The examples of its definitions.
+pub fn worked_examples()
+    ensures sums { SumExamples }
+    ensures groups { GroupExamples }
+    ensures aggregates { AggregateExamples }
+    ensures group_schemas { GroupSchemaExamples }
+    ensures joins { JoinExamples }
+    ensures suffix { SuffixExamples }
+    ensures room { RoomExamples }
+    ensures rolls { RollExamples }
+    ensures roll_schemas { RollSchemaExamples }
+    ensures takes { TakeExamples }
+{}

@@ -1,5 +1,0 @@
-//! Joins, groupings and rolling sums.
-mod examples;
-mod groups;
-mod joins;
-mod rolls;

@@ -1,6 +1,0 @@
-//! Plans: their reading, their check, and their runs.
-mod checks;
-mod examples;
-mod gated;
-mod reading;
-mod runs;

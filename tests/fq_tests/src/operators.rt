@@ -1,0 +1,4 @@
+//! Joins, groupings and rolling sums.
+mod groups;
+mod joins;
+mod rolls;

@@ -1,0 +1,5 @@
+//! Plans: their reading, their check, and their runs.
+mod checks;
+mod gated;
+mod reading;
+mod runs;
