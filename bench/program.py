@@ -1,11 +1,11 @@
 #!/usr/bin/env python3
 """Times frameq on whole plans beside the other programs on PATH that do the same work.
 
-    bench/program.py [--rows N] [--runs N] [--task NAME]... [--program PATH]
+    bench/program.py [--rows N] [--runs N] [--task NAME]... [--program PATH] [--beside PATH]
 
 Inputs are made first, the same at each call. In each round every program runs once on each task, one after another; the
-first round is not timed, and there the answers are compared, as sets of rows. Peers: mawk, Miller, SQLite, pandas, and R's
-data.table, where they are installed.
+first round is not timed, and there the answers are compared, as sets of rows. Peers: another frameq (--beside), mawk, Miller,
+SQLite, pandas, and R's data.table, where they are installed. Under `taskset -c 0` all run on one core.
 """
 import argparse
 import csv
@@ -88,6 +88,23 @@ FILTER = Task(
     data_table="d <- sales()[quantity > 50]; d[, total := as.numeric(quantity) * cents]; answer <- d",
 )
 
+COMPUTE = Task(
+    name="two computed columns, then a filter",
+    sources=SALES,
+    steps='{"with_columns":[["total",["mul",{"col":"quantity"},{"col":"cents"}]],["raised",["add",{"col":"cents"},100]]]},'
+          '{"filter":["gt",{"col":"total"},25000000]}',
+    files=["sales.csv"],
+    awk='NR == 1 { print $0, "total", "raised"; next } $3 != "" { t = $3 * $4; if (t > 25000000) print $0, t, $4 + 100 }',
+    miller=["filter", 'is_not_empty($quantity)', "then", "put", "$total = $quantity * $cents; $raised = $cents + 100",
+            "then", "filter", "$total > 25000000"],
+    sqlite="SELECT *, quantity * cents AS total, cents + 100 AS raised FROM sales "
+           "WHERE quantity <> '' AND quantity * cents > 25000000;",
+    pandas="d = sales(); d = d.assign(total=d.quantity * d.cents, raised=d.cents + 100); "
+           "answer = d[(d.total > 25000000).fillna(False)]",
+    data_table="d <- sales(); d[, total := as.numeric(quantity) * cents]; d[, raised := cents + 100]; "
+               "answer <- d[total > 25000000]",
+)
+
 GROUP = Task(
     name="group by one of 1,000 texts: sum, count, min",
     sources=SALES,
@@ -138,7 +155,7 @@ ROLL = Task(
     data_table=f"d <- sales(); d[, rolled := frollsum(cents, {WINDOW})]; answer <- d",
 )
 
-TASKS = {"filter": FILTER, "group": GROUP, "join": JOIN, "roll": ROLL}
+TASKS = {"filter": FILTER, "compute": COMPUTE, "group": GROUP, "join": JOIN, "roll": ROLL}
 
 
 # ---- programs
@@ -161,10 +178,10 @@ def first_line(words):
     return lines[0] if lines else ""
 
 
-def frameq(path):
+def frameq(path, name="frameq"):
     version = first_line(["git", "-C", ROOT, "describe", "--always", "--dirty"]) or "no version known"
     words = lambda workers: lambda key, task: [path, "--plan", f"{key}.json", "--workers", str(workers), *task.files]
-    return [Program(f"frameq, {workers} worker{'s' * (workers > 1)}", version, words(workers)) for workers in WORKERS]
+    return [Program(f"{name}, {workers} worker{'s' * (workers > 1)}", version, words(workers)) for workers in WORKERS]
 
 
 def mawk():
@@ -231,8 +248,10 @@ def data_table():
 
 @dataclass
 class Measure:
-    """What one run took: seconds on the clock, and the most memory in MB."""
+    """What one run took: seconds on the clock, of the processor for itself and in the system, and the most memory in MB."""
     seconds: float
+    user: float
+    system: float
     megabytes: float
 
 
@@ -246,7 +265,7 @@ def measure(words, folder, output):
     child.returncode = os.waitstatus_to_exitcode(status)
     if child.returncode:
         sys.exit(f"{words[0]} ended with status {child.returncode}")
-    return Measure(seconds, usage.ru_maxrss / 1024)
+    return Measure(seconds, usage.ru_utime, usage.ru_stime, usage.ru_maxrss / 1024)
 
 
 def rows_of(path):
@@ -286,12 +305,14 @@ def timed_rounds(key, task, programs, folder, runs):
 
 
 def print_table(measures):
-    best = {name: min(one.seconds for one in all_runs) for name, all_runs in measures.items()}
-    print(f"  {'':20} {'best s':>8} {'median s':>9} {'MB':>7}   best, beside {DEFAULT}")
+    best = {name: min(all_runs, key=lambda one: one.seconds) for name, all_runs in measures.items()}
+    print(f"  {'':22} {'best s':>8} {'user s':>8} {'system s':>8} {'median s':>9} {'MB':>7}   best, beside {DEFAULT}")
     for name, all_runs in measures.items():
         median = statistics.median(one.seconds for one in all_runs)
         megabytes = max(one.megabytes for one in all_runs)
-        print(f"  {name:20} {best[name]:8.3f} {median:9.3f} {megabytes:7.0f}   {best[name] / best[DEFAULT]:.2f}")
+        one = best[name]
+        print(f"  {name:22} {one.seconds:8.3f} {one.user:8.3f} {one.system:8.3f} {median:9.3f} {megabytes:7.0f}   "
+              f"{one.seconds / best[DEFAULT].seconds:.2f}")
 
 
 def binary(given: Optional[str]):
@@ -308,14 +329,17 @@ def arguments():
     parser.add_argument("--runs", type=int, default=5, help="timed runs of each program on each task [5]")
     parser.add_argument("--task", action="append", choices=TASKS, help="a task; may be given again [all]")
     parser.add_argument("--program", help="the frameq to time [the one that ./frameq builds]")
+    parser.add_argument("--beside", help="another frameq to time beside it")
     return parser.parse_args()
 
 
 def main():
     given = arguments()
     own = frameq(binary(given.program))
+    if given.beside:
+        own += frameq(os.path.abspath(given.beside), "other")
     peers = [peer for peer in (mawk(), miller(), sqlite(), pandas(), data_table()) if peer]
-    print(f"{os.cpu_count()} cores; frameq {own[0].version}; " + "; ".join(f"{peer.name} {peer.version}" for peer in peers))
+    print(f"{len(os.sched_getaffinity(0))} cores; frameq {own[0].version}; " + "; ".join(f"{peer.name} {peer.version}" for peer in peers))
     with tempfile.TemporaryDirectory() as folder:
         make_sales(os.path.join(folder, "sales.csv"), given.rows)
         make_regions(os.path.join(folder, "regions.csv"))
