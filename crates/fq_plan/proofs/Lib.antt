@@ -20,3 +20,9 @@ pub mod PreparedLemmas
 pub mod CutLemmas
 pub mod StartLemmas
 pub mod OutcomeLemmas
+mod PipelineLemmas
+mod OperatorLemmas
+mod RunningLemmas
+mod TransformLemmas
+mod StageTransforms
+mod OutcomeOfPipeline

@@ -61,12 +61,12 @@ step_on-is rows_step name u rows fault e f =
 
 -- ---- row-wise steps
 
-apply_steps-none : (n : ℕ) (fields : Fields) (steps : List Step) (end : Option Fault) → apply_steps Overflow n fields steps (record { rows = []; fault = end }) ≡ record { rows = []; fault = end }
+pub apply_steps-none : (n : ℕ) (fields : Fields) (steps : List Step) (end : Option Fault) → apply_steps Overflow n fields steps (record { rows = []; fault = end }) ≡ record { rows = []; fault = end }
 apply_steps-none n fields [] end = refl
 apply_steps-none n fields (s ∷ steps) end = apply_steps-none (n + 1) (fields_after fields s) steps end
 
 -- a stream is its rows and then its end
-rows-then-end : {F : Type 0} (u : Stream F) → then_stream (done u.rows) (record { rows = []; fault = u.fault }) ≡ u
+pub rows-then-end : {F : Type 0} (u : Stream F) → then_stream (done u.rows) (record { rows = []; fault = u.fault }) ≡ u
 rows-then-end u = λ i. record { rows = append-nil u.rows i; fault = u.fault }
 
 pub steps-on-stream : (n : ℕ) (fields : Fields) (steps : List Step) (u : Stream Fault) (rows : List Row) (fault : Option RowFault) →
@@ -138,16 +138,16 @@ with-sums fields name (Some c ∷ sums) (r ∷ rows) e =
 abbrev pub sums_of : Fields → Name → ℕ → ℕ → List Row → List (Option Cell)
 sums_of fields column n m rows = rolled n m (map (value_named fields column) rows)
 
-length-range : (a n : ℕ) → length (range_with_len a n) ≡ n
+pub length-range : (a n : ℕ) → length (range_with_len a n) ≡ n
 length-range a zero = refl
 length-range a (suc n) = ap suc (length-range (a + 1) n)
 
-length-sums : (fields : Fields) (column : Name) (n m : ℕ) (rows : List Row) → length (sums_of fields column n m rows) ≡ length rows
+pub length-sums : (fields : Fields) (column : Name) (n m : ℕ) (rows : List Row) → length (sums_of fields column n m rows) ≡ length rows
 length-sums fields column n m rows =
     let cells = map (value_named fields column) rows in
     length-map (numbers (length cells)) (rolled_at n m cells) ∙ length-range 0 (length cells) ∙ length-map rows (value_named fields column)
 
-length-before : (sums : List (Option Cell)) → length (before_missing sums) ≤ length sums
+pub length-before : (sums : List (Option Cell)) → length (before_missing sums) ≤ length sums
 length-before [] = omega arith
 length-before (None ∷ sums) = omega arith
 length-before (Some c ∷ sums) = omega (arith, length-before sums)
@@ -208,7 +208,7 @@ module _ (joins : List Frame) (n : ℕ) (fields after : Fields) (u : Stream Faul
   judged_with on o = elim o as (λ _. Result Fields StepFault) [ None ↦ Err NoSuchSource | Some right ↦ join_schema fields right on ]
 
   -- the source of a join that is not refused
-  source-there : (source : ℕ) (on : List Name) (right : Frame) → right ≡ get_or joins source right → judged_with on (slice_get (map (λ (f : Frame). f.fields) joins) source) ≡ Ok after → slice_get joins source ≡ Some right
+  pub source-there : (source : ℕ) (on : List Name) (right : Frame) → right ≡ get_or joins source right → judged_with on (slice_get (map (λ (f : Frame). f.fields) joins) source) ≡ Ok after → slice_get joins source ≡ Some right
   source-there source on right is t = go (slice_get joins source) refl (ap (judged_with on) (sym (slice_get-map (λ (f : Frame). f.fields) joins source)) ∙ t)
     where
       go : (o : Option Frame) → slice_get joins source ≡ o → judged_with on (option_map (λ (f : Frame). f.fields) o) ≡ Ok after → slice_get joins source ≡ Some right

@@ -17,3 +17,7 @@ pub mod Answer
 pub mod Examples
 pub mod Stages
 pub mod Outcome
+pub mod Transforms
+pub mod Running
+pub mod Pipelines
+pub mod Starting

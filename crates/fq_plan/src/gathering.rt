@@ -31,15 +31,11 @@ impl Gathered {
     pub(crate) fn new(alloc: Global, files: u16, schema: Schema) -> Result<Gathered, Memory>
         ensures { IfOk result (λ g. g ≡ record { files = files; batch = record { fields = schema; rows = [] }; fault = None }) }
     {
-        let columns = empty_columns(alloc, &schema)?;
-        match Batch::from_columns(schema, columns) {
-            Ok(batch) => Ok(Gathered {
-                files,
-                batch,
-                fault: None,
-            }),
-            Err(_) => unreachable!(),
-        }
+        Ok(Gathered {
+            files,
+            batch: empty_batch(alloc, schema)?,
+            fault: None,
+        })
     }
 
     // Adds a worked item; a batch of other columns is dropped.
@@ -100,6 +96,17 @@ fn take_in(sources: &mut [Gathered], file: u16, out: Worked) -> Result<(), Memor
         source.gather(out)
     } else {
         take_in(others, file - source.files, out)
+    }
+}
+
+/// A batch of no rows. `Memory` where a growth is refused.
+pub(crate) fn empty_batch(alloc: Global, schema: Schema) -> Result<Batch, Memory>
+    ensures { IfOk result (λ b. b ≡ record { fields = schema; rows = [] }) }
+{
+    let columns = empty_columns(alloc, &schema)?;
+    match Batch::from_columns(schema, columns) {
+        Ok(batch) => Ok(batch),
+        Err(_) => unreachable!(),
     }
 }
 

@@ -6,17 +6,18 @@
 
 mod checks;
 mod engine_run;
-mod evaluation;
 mod faults;
 mod feeds;
 mod finish;
 mod gathering;
 mod laws;
 mod openings;
+mod operators;
+mod passed;
+mod pipeline;
 mod plans;
 mod reading;
 mod runs;
-mod staged;
 mod stages;
 mod workers;
 

@@ -1,0 +1,280 @@
+-- The transforms of a plan's stages do the stages' steps.
+use Rattle.std.proofs.Common.{◌≡◌, ℕ, ◌+◌, List, [], ◌∷◌, ◌++◌, map, length, Option, Some, None, Result, Ok, Err, pos, refl, ap, sym, ◌∙◌, subst, get_or, string_bytes, suc, ◌<◌, drop, arith, append-nil, append_assoc, IsOk, inl, inr}
+use Rattle.std.proofs.Math.Seq.{drop-cons}
+use Rattle.std.specs.Prelude.{is_ok, option_map, nat_lt, not, ◌==◌, slice_get, slice_index_or}
+use Rattle.std.proofs.lemmas.Option.{get_or_from_slice_get, slice_get-map}
+use Rattle.fq_column.specs.declared.cells.Kind.{Kind}
+use Rattle.fq_column.specs.declared.cells.Kind.TheVariants.{Whole}
+use Rattle.fq_column.specs.declared.faults.StepFault.{StepFault}
+use Rattle.fq_column.specs.Frame.{Fields, Frame, Name, Row, put_named, same_name}
+use Rattle.fq_column.specs.Cell.{same_kind}
+use Rattle.fq_column.specs.Lists.{is_distinct}
+use Rattle.fq_ops.specs.Fields.{refusals}
+use Rattle.fq_ops.proofs.RefusalLemmas.{join-output}
+use Rattle.fq_column.specs.declared.faults.StepFault.TheVariants.{DoubleName, NoColumn, NoSuchSource, Samples, TooMany, Window, WrongKind}
+use Rattle.fq_column.specs.Refusal.{IsJudgement, and_then, first_refusal, refuse_if, unless_refused}
+use Rattle.fq_column.specs.Schema.{kind_named}
+use Rattle.fq_column.specs.Stream.{Stream, done, then_stream}
+use Rattle.fq_expr.specs.Steps.{apply_steps, fields_after_all}
+use Rattle.fq_ops.specs.Group.{group_stream, grouped_fields, grouped_kinds, grouped_names}
+use Rattle.fq_ops.specs.Join.{join_schema, joined_fields}
+use Rattle.fq_ops.specs.Meaning.{outputs_of}
+use Rattle.fq_ops.specs.Roll.{is_from_to, roll_stream}
+use Rattle.fq_plan.specs.Judged.{judged_step}
+use Rattle.fq_ops.specs.Aggregate.{Output}
+use Rattle.fq_ops.specs.declared.joins.How.{How}
+use Rattle.fq_plan.specs.Transforms.{Chain, Transform, given, given_all, group_transform, join_transform, roll_transform, whole, whole_all}
+use Rattle.fq_plan.specs.Pipelines.{HasRun}
+use Rattle.fq_plan.specs.Running.{HasGrouped, HasJoined, HasSummed, HasTaken, HaveTaken}
+use Rattle.fq_plan.specs.declared.operators.Running.{Running}
+use Rattle.fq_plan.specs.declared.operators.Running.TheVariants as running
+use Rattle.fq_plan.specs.declared.operators.grouping.Grouping.{Grouping}
+use Rattle.fq_plan.specs.declared.operators.joining.Joining.{Joining}
+use Rattle.fq_plan.specs.declared.operators.rolling.Summing.{Summing}
+use Rattle.fq_plan.specs.Meaning.{apply_plan_steps}
+use Rattle.fq_plan.specs.Plan.{PlanStep, group_by, join, rolling_sum}
+use Rattle.fq_plan.specs.Stages.{Leads, Turns, operator_steps, stage_steps}
+use Rattle.fq_plan.specs.Starting.{transform_of, transforms_of, nothing}
+use Rattle.fq_plan.specs.declared.faults.Fault.{Fault}
+use Rattle.fq_plan.specs.declared.faults.Fault.TheVariants.{Overflow, RollRange, SumRange}
+use Rattle.fq_plan.specs.declared.stages.Operator.{Operator}
+use Rattle.fq_plan.specs.declared.stages.Operator.TheVariants.{Rows, Join, GroupBy, RollingSum}
+use Rattle.fq_plan.specs.declared.stages.Stage.{Stage}
+use Rattle.fq_plan.proofs.TransformLemmas.{group-causal, group-whole, join-causal, join-whole, roll-causal, roll-whole, steps-whole}
+use Rattle.fq_plan.proofs.StageLemmas.{apply_steps-none, fields-after-all, join-turn, rows-turn, stages-lead, step-turn}
+
+-- what is given where nothing is refused
+module _ {X : Type 0} (x y : X) where
+  by-none : (o : Option StepFault) → (let r : Result X StepFault = elim o [ Some f ↦ Err f | None ↦ Ok x ] in r) ≡ Ok y → x ≡ y
+  by-none None e = cc
+  by-none (Some f) e = absurd (cc)
+
+  accepted-is : (checks : List (Option StepFault)) → unless_refused checks x ≡ Ok y → x ≡ y
+  accepted-is checks e = by-none (first_refusal checks) e
+
+  and-accepted-is : (o : Result Kind StepFault) (checks : Kind → List (Option StepFault)) → and_then o (λ k. unless_refused (checks k) x) ≡ Ok y → x ≡ y
+  and-accepted-is (Ok k) checks e = accepted-is (checks k) e
+  and-accepted-is (Err f) checks e = absurd (let g : Err f ≡ Ok y = e in cc)
+
+ok-is : (x y : Fields) → (let r : Result Fields StepFault = Ok x in r) ≡ Ok y → x ≡ y
+ok-is x y e = cc
+
+abbrev group_checks : Fields → List Name → List Output → List (Option StepFault)
+group_checks fields keys outputs =
+    refuse_if (length keys == 0) NoColumn
+    ∷ (refusals (grouped_kinds fields keys outputs)
+    ++ (refuse_if (nat_lt 64 (length (grouped_names keys outputs))) TooMany
+    ∷ refuse_if (not (is_distinct same_name (grouped_names keys outputs))) DoubleName ∷ []))
+
+abbrev roll_checks : Fields → ℕ → ℕ → Name → Kind → List (Option StepFault)
+roll_checks fields window least name k =
+    refuse_if (not (same_kind k Whole)) WrongKind
+    ∷ refuse_if (not (is_from_to (pos 1) (pos 65536) (pos window))) Window
+    ∷ refuse_if (not (is_from_to (pos 1) (pos window) (pos least))) Samples
+    ∷ refuse_if (nat_lt 64 (length (put_named fields (name, Whole)))) TooMany ∷ []
+
+-- a transform that takes rows of these columns to those, and does these steps
+pub record IsTransform (joins : List Frame) (n : ℕ) (fields after : Fields) (steps : List PlanStep) (m : Transform) : Type 0 where
+  pub takes : m.takes ≡ fields
+  pub gives : m.gives ≡ after
+  pub starts : m.at_once [] ≡ done []
+  pub does : (u : Stream Fault) → (let r : Fields × Stream Fault = (m.gives, whole m u) in r) ≡ apply_plan_steps joins n fields steps u
+
+module _ (joins : List Frame) where
+  abbrev columns : List Fields
+  columns = map (λ (f : Frame). f.fields) joins
+
+  pub right-is : (n : ℕ) (fields after : Fields) (source : ℕ) (on : List Name) (right : Frame) → slice_get joins source ≡ Some right → slice_index_or joins source nothing ≡ right
+  right-is n fields after source on right e = get_or_from_slice_get joins source right nothing e
+
+  -- the source of a join that is not refused
+  pub source-of : (source : ℕ) (on : List Name) (fields after : Fields) → (let judged : Option Fields → Result Fields StepFault = λ o. elim o [ None ↦ Err NoSuchSource | Some right ↦ join_schema fields right on ] in judged (slice_get columns source)) ≡ Ok after →
+      (right : Frame) × (slice_get joins source ≡ Some right) × (join_schema fields right.fields on ≡ Ok after)
+  source-of source on fields after t = go (slice_get joins source) refl (ap judged (sym (slice_get-map (λ (f : Frame). f.fields) joins source)) ∙ t)
+    where
+      judged : Option Fields → Result Fields StepFault
+      judged o = elim o [ None ↦ Err NoSuchSource | Some right ↦ join_schema fields right on ]
+
+      go : (o : Option Frame) → slice_get joins source ≡ o → judged (option_map (λ (f : Frame). f.fields) o) ≡ Ok after →
+          (right : Frame) × (slice_get joins source ≡ Some right) × (join_schema fields right.fields on ≡ Ok after)
+      go None e h = absurd (cc)
+      go (Some right) e h = (right, e, h)
+
+  pub transform-is : (n : ℕ) (fields after : Fields) (operator : Operator) → Turns columns n fields operator after → IsTransform joins n fields after (operator_steps operator) (transform_of joins n fields operator)
+  transform-is n fields after (Rows front) t =
+      let is : (u : Stream Fault) → (let r : Fields × Stream Fault = (fields_after_all front.fields front.steps, whole (transform_of joins n fields (Rows front)) u) in r) ≡ (fields_after_all fields front.steps, apply_steps Overflow front.first fields front.steps u) =
+      λ u i. (fields_after_all (t.0 i) front.steps, (steps-whole front u ∙ ap (λ (f : Fields). apply_steps Overflow front.first f front.steps u) t.0) i) in record {
+        takes = t.0;
+        gives = ap (λ (f : Fields). fields_after_all f front.steps) t.0 ∙ fields-after-all fields after front.steps t.2;
+        starts = apply_steps-none front.first front.fields front.steps None;
+        does = λ u. (rows-turn joins n fields after u (fields_after_all front.fields front.steps, whole (transform_of joins n fields (Rows front)) u) front t (is u)).1;
+      }
+  transform-is n fields after (Join source on how) t =
+      let names = map string_bytes on.items in
+      let at = source-of source names fields after t in
+      let right = slice_index_or joins source nothing in
+      let same : right ≡ at.0 = get_or_from_slice_get joins source at.0 nothing at.1 in
+      let is : right ≡ get_or joins source right = same ∙ sym (get_or_from_slice_get joins source at.0 right at.1) in
+      let m = transform_of joins n fields (Join source on how) in
+      let gives : joined_fields fields right.fields names ≡ after = ap (λ (f : Frame). joined_fields fields f.fields names) same ∙ ok-is (joined_fields fields at.0.fields names) after (sym (join-output fields at.0.fields names (ap is_ok at.2)) ∙ at.2) in record {
+        takes = refl;
+        gives = gives;
+        starts = refl;
+        does = λ u. (join-turn joins n fields after u (m.gives, whole m u) source names how right is t (λ i. (m.gives, join-whole n how (record { fields = right.fields; rows = right.rows; on = names }) fields u i))).1;
+      }
+  transform-is n fields after (GroupBy keys aggs) t =
+      let names = map string_bytes keys.items in let outputs = outputs_of aggs.items in
+      let m = transform_of joins n fields (GroupBy keys aggs) in
+      let gives : grouped_fields fields names outputs ≡ after = accepted-is (grouped_fields fields names outputs) after (group_checks fields names outputs) t in record {
+        takes = refl;
+        gives = gives;
+        starts = refl;
+        does = λ u. (step-turn joins n fields after u (m.gives, whole m u) (group_by names outputs) (grouped_fields fields names outputs) (group_stream fields names outputs (SumRange n) u) t gives refl (λ i. (m.gives, group-whole n fields names outputs u i))).1;
+      }
+  transform-is n fields after (RollingSum column window least name) t =
+      let c = string_bytes column in let to = string_bytes name in
+      let m = transform_of joins n fields (RollingSum column window least name) in
+      let gives : put_named fields (to, Whole) ≡ after = and-accepted-is (put_named fields (to, Whole)) after (kind_named fields c) (roll_checks fields window least to) t in record {
+        takes = refl;
+        gives = gives;
+        starts = refl;
+        does = λ u. (step-turn joins n fields after u (m.gives, whole m u) (rolling_sum c (pos window) (pos least) to) (put_named fields (to, Whole)) (roll_stream fields c window least to (RollRange n) u) t gives refl (λ i. (m.gives, roll-whole n fields c window least to u i))).1;
+      }
+
+  -- ---- stages, one after the other
+
+  pub chain-of : (n : ℕ) (fields after : Fields) (stages : List Stage) → Leads columns n fields stages after → Chain fields (transforms_of joins fields stages) after
+  chain-of n fields after [] leads = leads
+  chain-of n fields after (s ∷ stages) (mid, same, turns, leads) =
+      let is = transform-is s.number fields mid s.operator (subst (λ k. Turns columns k fields s.operator mid) (sym same) turns) in
+      (is.takes, subst (λ (f : Fields). Chain f (transforms_of joins f stages) after) (sym is.gives) (chain-of (n + length (operator_steps s.operator)) mid after stages leads))
+
+  pub starts-of : (n : ℕ) (fields after : Fields) (stages : List Stage) → Leads columns n fields stages after → given_all (transforms_of joins fields stages) (done []) ≡ done []
+  starts-of n fields after [] leads = refl
+  starts-of n fields after (s ∷ stages) (mid, same, turns, leads) =
+      let is = transform-is s.number fields mid s.operator (subst (λ k. Turns columns k fields s.operator mid) (sym same) turns) in
+      ap (λ (a : Stream Fault). given_all (transforms_of joins (transform_of joins s.number fields s.operator).gives stages) (then_stream a (done []))) is.starts
+      ∙ ap (λ (f : Fields). given_all (transforms_of joins f stages) (done [])) is.gives
+      ∙ starts-of (n + length (operator_steps s.operator)) mid after stages leads
+
+  abbrev last : Fields → List Transform → Fields
+  last fields [] = fields
+  last fields (m ∷ ms) = last m.gives ms
+
+  does-all : (stages : List Stage) (fields : Fields) (u : Stream Fault) (n : ℕ) (after : Fields) → Leads columns n fields stages after →
+      (let r : Fields × Stream Fault = (last fields (transforms_of joins fields stages), whole_all (transforms_of joins fields stages) u) in r) ≡ apply_plan_steps joins n fields (stage_steps stages) u
+  does-all [] fields u n after leads = refl
+  does-all (s ∷ stages) fields u n after leads =
+      let m = transform_of joins s.number fields s.operator in
+      stages-lead joins fields s stages u (m.gives, whole m u) (last m.gives (transforms_of joins m.gives stages), whole_all (transforms_of joins m.gives stages) (whole m u)) n after leads
+      (λ f turns. let is = transform-is s.number fields f s.operator turns in (is.gives, is.does u))
+      (λ k end more. does-all stages m.gives (whole m u) k end more)
+
+  pub whole-of : (n : ℕ) (fields after : Fields) (stages : List Stage) → Leads columns n fields stages after → (u : Stream Fault) →
+      whole_all (transforms_of joins fields stages) u ≡ (apply_plan_steps joins n fields (stage_steps stages) u).1
+  whole-of n fields after stages leads u = ap (λ (p : Fields × Stream Fault). p.1) (does-all stages fields u n after leads)
+
+  last-is : (fields : Fields) (ms : List Transform) (after : Fields) → Chain fields ms after → last fields ms ≡ after
+  last-is fields [] after chain = chain
+  last-is fields (m ∷ ms) after chain = last-is m.gives ms after chain.1
+
+  pub columns-of : (n : ℕ) (fields after : Fields) (stages : List Stage) → Leads columns n fields stages after → (u : Stream Fault) → (apply_plan_steps joins n fields (stage_steps stages) u).0 ≡ after
+  columns-of n fields after stages leads u = sym (ap (λ (p : Fields × Stream Fault). p.0) (does-all stages fields u n after leads)) ∙ last-is fields (transforms_of joins fields stages) after (chain-of n fields after stages leads)
+
+-- ---- operators that have taken no row
+
+module _ (joins : List Frame) (n : ℕ) (fields after : Fields) where
+  module _ (source : ℕ) (on : List Name) (right : Frame) (is : right ≡ get_or joins source right) (how : How) (t : judged_step (map (λ (f : Frame). f.fields) joins) fields (join (pos source) on how) ≡ Ok after) where
+    found : (r : Frame) × (slice_get joins source ≡ Some r) × (join_schema fields r.fields on ≡ Ok after)
+    found = source-of joins source on fields after t
+
+    right-found : right ≡ found.0
+    right-found = is ∙ get_or_from_slice_get joins source found.0 right found.1
+
+    pub join-can : (names : List Name) → names ≡ on → IsOk (join_schema fields right.fields names)
+    join-can names e = ap is_ok ((λ i. join_schema fields (right-found i).fields (e i)) ∙ found.2)
+
+    pub join-started : (names : List Name) → names ≡ on → (j : Joining) → ((left : Fields) → IsOk (join_schema left right.fields names) → HasJoined j (join_transform n how (record { fields = right.fields; rows = right.rows; on = names }) left) []) →
+        HasTaken (running.Join j) (let r = slice_index_or joins source nothing in join_transform n how (record { fields = r.fields; rows = r.rows; on = on }) fields) []
+    join-started names e j h =
+        let same : right ≡ slice_index_or joins source nothing = right-found ∙ sym (get_or_from_slice_get joins source found.0 nothing found.1) in
+        subst (λ (r : Frame). HasTaken (running.Join j) (join_transform n how (record { fields = r.fields; rows = r.rows; on = on }) fields) []) same
+        (record { causal = join-causal n how (record { fields = right.fields; rows = right.rows; on = on }) fields; faultless = refl; keeps = subst (λ (ns : List Name). HasJoined j (join_transform n how (record { fields = right.fields; rows = right.rows; on = ns }) fields) []) e (h fields (join-can names e)) })
+
+  pub group-started : (keys names : List Name) (outputs made : List Output) → names ≡ keys → made ≡ outputs → (g : Grouping) → HasGrouped g (group_transform n fields names made) [] → HasTaken (running.Group g) (group_transform n fields keys outputs) []
+  group-started keys names outputs made e f g h = record {
+    causal = group-causal n fields keys outputs;
+    faultless = refl;
+    keeps = subst (λ (ns : List Name). HasGrouped g (group_transform n fields ns outputs) []) e (subst (λ (os : List Output). HasGrouped g (group_transform n fields names os) []) f h);
+  }
+
+  pub roll-started : (column from : Name) (window least : ℕ) (name to : Name) → from ≡ column → to ≡ name → (s : Summing) → HasSummed s (roll_transform n fields from window least to) [] → HasTaken (running.Roll s) (roll_transform n fields column window least name) []
+  roll-started column from window least name to e f s h = record {
+    causal = roll-causal n fields column window least name;
+    faultless = refl;
+    keeps = subst (λ (c : Name). HasSummed s (roll_transform n fields c window least name) []) e (subst (λ (t : Name). HasSummed s (roll_transform n fields from window least t) []) f h);
+  }
+
+-- ---- the same of several, of which the first have been started
+
+pub record StartedSoFar (joins : List Frame) (before : Fields) (stages : List Stage) (after : Fields) (operators : List Running) (fields : Fields) (rest : List Stage) : Type 0 where
+  pub n : ℕ
+  pub leads : Leads (map (λ f. f.fields) joins) n fields rest after
+  pub closes : (qs : List Running) → HaveTaken qs (transforms_of joins fields rest) [] → HaveTaken (operators ++ qs) (transforms_of joins before stages) []
+
+module _ (joins : List Frame) (before : Fields) (stages : List Stage) (after : Fields) where
+  pub started-start : (n : ℕ) → Leads (map (λ f. f.fields) joins) n before stages after → StartedSoFar joins before stages after [] before stages
+  started-start n leads = record { n = n; leads = leads; closes = λ qs h. h }
+
+  abbrev pub turns-next : (operators : List Running) (fields : Fields) (s : Stage) (rest : List Stage) → StartedSoFar joins before stages after operators fields (s ∷ rest) →
+      (mid : Fields) × Turns (map (λ f. f.fields) joins) s.number fields s.operator mid
+  turns-next operators fields s rest so_far = (so_far.leads.0, subst (λ k. Turns (map (λ f. f.fields) joins) k fields s.operator so_far.leads.0) (sym so_far.leads.1) so_far.leads.2)
+
+  pub started-step : (operators : List Running) (fields next : Fields) (s : Stage) (rest : List Stage) (r : Running) → StartedSoFar joins before stages after operators fields (s ∷ rest) →
+      ((mid : Fields) → Turns (map (λ f. f.fields) joins) s.number fields s.operator mid → HasTaken r (transform_of joins s.number fields s.operator) []) →
+      ((mid : Fields) → Turns (map (λ f. f.fields) joins) s.number fields s.operator mid → next ≡ mid) →
+      StartedSoFar joins before stages after (operators ++ r ∷ []) next rest
+  started-step operators fields next s rest r so_far taken same =
+      let t = turns-next operators fields s rest so_far in
+      let m = transform_of joins s.number fields s.operator in
+      let is = transform-is joins s.number fields t.0 s.operator t.1 in
+      let to : next ≡ t.0 = same t.0 t.1 in record {
+        n = so_far.n + length (operator_steps s.operator);
+        leads = subst (λ (f : Fields). Leads (map (λ f. f.fields) joins) (so_far.n + length (operator_steps s.operator)) f rest after) (sym to) so_far.leads.3;
+        closes = λ qs h. subst (λ (rs : List Running). HaveTaken rs (transforms_of joins before stages) []) (sym (append_assoc operators (r ∷ []) qs))
+            (so_far.closes (r ∷ qs) (
+              taken t.0 t.1,
+              subst (λ (l : List Row). HaveTaken qs (transforms_of joins m.gives rest) l) (ap (λ (a : Stream Fault). a.rows) (sym is.starts))
+                  (subst (λ (f : Fields). HaveTaken qs (transforms_of joins f rest) []) (to ∙ sym is.gives) h),
+            ));
+      }
+
+  pub started-all : (n : ℕ) → Leads (map (λ f. f.fields) joins) n before stages after → (operators : List Running) (fields : Fields) → StartedSoFar joins before stages after operators fields [] →
+      (fields ≡ after) × HasRun operators (record { joins = joins; n = n; before = before; steps = stage_steps stages; after = after }) [] []
+  started-all n leads operators fields so_far = (
+    so_far.leads,
+    record {
+      transforms = transforms_of joins before stages;
+      taken = subst (λ (rs : List Running). HaveTaken rs (transforms_of joins before stages) []) (append-nil operators) (so_far.closes [] tt);
+      chain = chain-of joins n before after stages leads;
+      given = starts-of joins n before after stages leads;
+      whole = whole-of joins n before after stages leads;
+    },
+  )
+
+  -- along the list of stages
+  pub stage-next : (i : ℕ) (s : Stage) → i < length stages → s ≡ get_or stages i s → drop i stages ≡ s ∷ drop (i + 1) stages
+  stage-next i s h is = drop-cons stages i s h ∙ (λ k. sym is k ∷ drop (let e : suc i ≡ i + 1 = omega arith in e k) stages)
+
+-- ---- the schema after a join
+
+pub schema-after-join : (joins : List Frame) (fields after : Fields) (source : ℕ) (on names : List Name) (how : How) (right : Frame) (next : Fields) → right ≡ get_or joins source right → names ≡ on →
+    judged_step (map (λ (f : Frame). f.fields) joins) fields (join (pos source) on how) ≡ Ok after → join_schema fields right.fields names ≡ Ok next → next ≡ after
+schema-after-join joins fields after source on names how right next is e t given =
+    let found = source-of joins source on fields after t in
+    let same : right ≡ found.0 = is ∙ get_or_from_slice_get joins source found.0 right found.1 in
+    ok-is next after (sym given ∙ (λ i. join_schema fields (same i).fields (e i)) ∙ found.2)
+
+pub judged-is : (expected answer : Result Fields StepFault) (next : Fields) → IsJudgement expected answer → answer ≡ Ok next → expected ≡ Ok next
+judged-is expected answer next (inl is) e = sym is ∙ e
+judged-is expected answer next (inr memory) e = absurd (cc)
