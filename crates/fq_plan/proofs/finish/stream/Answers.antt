@@ -7,7 +7,6 @@ use Rattle.fq_plan.specs.Running.{rows_in}
 use Rattle.fq_plan.specs.Stages.{Leads, stage_steps}
 use Rattle.std.proofs.lemmas.Result.{err_from_is_err_and}
 use Rattle.fq_plan.specs.declared.faults.Fault.{Fault}
-use Rattle.fq_plan.specs.declared.gathering.Gathered.{Gathered}
 use Rattle.fq_plan.proofs.OutcomeOfPipeline.{finished-rows, pushed-fault}
 use Rattle.fq_plan.proofs.StageTransforms.{columns-of}
 use Rattle.fq_plan.proofs.finish.stream.Goals.{In_ok-passed}
