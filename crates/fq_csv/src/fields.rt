@@ -9,6 +9,9 @@ ghost use Rattle.fq_csv.specs.Rows.{with_cell};
 use fq_column::{Column, Kind, Memory};
 use std::str;
 
+/// From how many bytes on a field is tested in steps of 64 bytes.
+const LONG_FIELD: usize = 64;
+
 /// As many digits as write a number within 64 bits, whichever they are.
 const FEW_DIGITS: usize = 18;
 
@@ -81,7 +84,11 @@ fn truth(field: &[u8]) -> Option<bool>
 fn text(field: &[u8]) -> Option<&str>
     ensures { option_map (λ t. t.now) result ≡ text_of field.now }
 {
-    simdutf8::compat::from_utf8(field).ok()
+    if field.len() < LONG_FIELD {
+        str::from_utf8(field).ok()
+    } else {
+        simdutf8::compat::from_utf8(field).ok()
+    }
 }
 
 /// Appends the cell that a field is to a column, and says whether it is one.
