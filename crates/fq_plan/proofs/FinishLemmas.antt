@@ -4,7 +4,9 @@ use Rattle.std.proofs.lemmas.List.{map-append}
 use Rattle.fq_column.specs.Frame.{Fields, Frame}
 use Rattle.fq_column.specs.Stream.{Stream}
 use Rattle.fq_plan.specs.Gathering.{gathered_stream}
-use Rattle.fq_plan.specs.Meaning.{apply_plan_steps, frame_or_fault, outcome}
+use Rattle.fq_plan.specs.Later.{later_steps}
+use Rattle.fq_plan.specs.Meaning.{frame_or_fault, outcome}
+use Rattle.fq_plan.specs.Pipelines.{meant}
 use Rattle.fq_plan.specs.Outcome.{AreStaged, outcome_of_stages}
 use Rattle.fq_plan.specs.Sources.{first_fault}
 use Rattle.fq_plan.specs.Stages.{Leads, stage_steps}
@@ -13,6 +15,7 @@ use Rattle.fq_plan.specs.declared.gathering.Gathered.{Gathered}
 use Rattle.fq_plan.specs.declared.stages.Stage.{Stage}
 use Rattle.fq_ops.proofs.RefusalLemmas.{map-map}
 use Rattle.fq_plan.proofs.SplitLemmas.{same-ends}
+use Rattle.fq_plan.proofs.StageTransforms.{columns-of}
 
 abbrev or_later : Option Fault → Option Fault → Option Fault
 or_later o rest = elim o as (λ _. Option Fault) [ Some f ↦ Some f | None ↦ rest ]
@@ -39,21 +42,23 @@ still-none gs g none e = past gs (g ∷ []) none ∙ ap (λ o. or_later o None) 
 
 -- ---- what is made of whole sources
 
-pub leads-over : (xs joins : List Gathered) (x main : Gathered) (batches : List Frame) (stages : List Stage) (n : ℕ) (after : Fields) → AreStaged (xs ++ x ∷ []) stages joins main n after →
-    batches ≡ map (λ g. g.batch) xs → Leads (map (λ (f : Frame). f.fields) batches) n x.batch.fields stages after
-leads-over xs joins x main batches stages n after s e =
-    let same = same-ends xs joins x main s.sources_are in
-    let columns : map (λ (g : Gathered). g.batch.fields) joins ≡ map (λ (f : Frame). f.fields) batches =
-    ap (map (λ (g : Gathered). g.batch.fields)) (sym same.0) ∙ sym (map-map (λ (f : Frame). f.fields) (λ (g : Gathered). g.batch) xs) ∙ ap (map (λ (f : Frame). f.fields)) (sym e) in
-    subst (λ (f : Fields). Leads (map (λ (f : Frame). f.fields) batches) n f stages after) (ap (λ (g : Gathered). g.batch.fields) (sym same.1))
-    (subst (λ fs. Leads fs n main.batch.fields stages after) columns s.leads)
+-- these sources and this one last are the staged ones
+pub on-ends : (xs joins : List Gathered) (x main : Gathered) (stages : List Stage) (n : ℕ) (after : Fields) → AreStaged (xs ++ x ∷ []) stages joins main n after →
+    Leads (map (λ g. g.batch.fields) xs) n x.batch.fields stages after × (outcome_of_stages n stages joins main ≡ outcome_of_stages n stages xs x)
+on-ends xs joins x main stages n after s =
+    let same = same-ends xs joins x main s.sources_are in (
+      subst (λ (f : Fields). Leads (map (λ g. g.batch.fields) xs) n f stages after) (ap (λ (g : Gathered). g.batch.fields) (sym same.1))
+          (subst (λ (gs : List Gathered). Leads (map (λ g. g.batch.fields) gs) n main.batch.fields stages after) (sym same.0) s.leads),
+      λ i. outcome_of_stages n stages (sym same.0 i) (sym same.1 i),
+    )
 
-pub staged-outcome : (xs joins : List Gathered) (x main : Gathered) (batches : List Frame) (stages : List Stage) (n : ℕ) (after : Fields) (r : Fields × Stream Fault) → AreStaged (xs ++ x ∷ []) stages joins main n after →
-    batches ≡ map (λ g. g.batch) xs → first_fault (map gathered_stream xs) ≡ None →
-    r ≡ apply_plan_steps batches n x.batch.fields (stage_steps stages) (gathered_stream x) → outcome_of_stages n stages joins main ≡ frame_or_fault r.0 r.1
-staged-outcome xs joins x main batches stages n after r s e none made =
-    let same = same-ends xs joins x main s.sources_are in
-    (λ i. outcome_of_stages n stages (sym same.0 i) (sym same.1 i))
-    ∙ ap (λ (o : Option Fault). elim o as (λ _. Result Frame Fault) [ Some f ↦ Err f | None ↦ outcome (map (λ g. g.batch) xs) n x.batch.fields (stage_steps stages) (gathered_stream x) ]) none
-    ∙ ap (λ bs. outcome bs n x.batch.fields (stage_steps stages) (gathered_stream x)) (sym e)
-    ∙ ap (λ (p : Fields × Stream Fault). frame_or_fault p.0 p.1) (sym made)
+module _ (joins : List Gathered) (main : Gathered) (n : ℕ) (stages : List Stage) (after : Fields) where
+  -- what the steps make of the last, where no source before it ends in a fault
+  pub none-before : first_fault (map gathered_stream joins) ≡ None → Leads (map (λ g. g.batch.fields) joins) n main.batch.fields stages after →
+      outcome_of_stages n stages joins main ≡ frame_or_fault after (meant (later_steps n stages joins main.batch.fields after) (gathered_stream main))
+  none-before none leads =
+      let batches : List Frame = map (λ (g : Gathered). g.batch) joins in
+      let over : Leads (map (λ (f : Frame). f.fields) batches) n main.batch.fields stages after =
+      subst (λ fs. Leads fs n main.batch.fields stages after) (sym (map-map (λ (f : Frame). f.fields) (λ (g : Gathered). g.batch) joins)) leads in
+      ap (λ (o : Option Fault). elim o as (λ _. Result Frame Fault) [ Some f ↦ Err f | None ↦ outcome batches n main.batch.fields (stage_steps stages) (gathered_stream main) ]) none
+      ∙ ap (λ (f : Fields). frame_or_fault f (meant (later_steps n stages joins main.batch.fields after) (gathered_stream main))) (columns-of batches n main.batch.fields after stages over (gathered_stream main))

@@ -21,3 +21,5 @@ pub mod Transforms
 pub mod Running
 pub mod Pipelines
 pub mod Starting
+pub mod Streaming
+pub mod Later

@@ -11,6 +11,7 @@ mod feeds;
 mod finish;
 mod gathering;
 mod laws;
+mod main_stream;
 mod openings;
 mod operators;
 mod passed;

@@ -1,0 +1,61 @@
+use Rattle.std.proofs.Common.{◌≡◌, ◌∙◌, ◌++◌, List, inl, inr, ap, sym, subst}
+use Rattle.std.proofs.lemmas.Result.{err_from_is_err_and}
+use Rattle.fq_column.specs.Frame.{Fields, Frame, Row}
+use Rattle.fq_column.specs.Stream.{Stream}
+use Rattle.fq_plan.specs.Pipelines.{HasPushed, HasRun, PlanPart}
+use Rattle.fq_plan.specs.Running.{IsUnder, rows_in}
+use Rattle.fq_plan.specs.Streaming.{Streaming}
+use Rattle.fq_plan.specs.declared.faults.Fault.{Fault}
+use Rattle.fq_plan.proofs.main_stream.MainStream.take.Goals as goal
+use Rattle.fq_plan.proofs.main_stream.MainStream.take.Goals.{In_ok-passed}
+
+-- what was passed on of the piece, where these steps had run over those rows
+pushed : (c : In_ok-passed) (w : PlanPart) (taken : List Row) → HasRun c.self.inside.pipeline.operators.items w taken c.self.inside.rows.rows → w.before ≡ c.self.inside.before →
+    HasPushed c.push.new.self.operators.items w taken c.self.inside.rows.rows c.args.came c.in_ok-passed.passed
+pushed c w taken run before =
+    c.in_ok-passed.ensures w taken c.self.inside.rows.rows run (subst (λ (f : Fields). IsUnder f c.args.came.batch) (sym (ap (λ (s : Streaming). s.before) c.self.view_is) ∙ sym before) c.requires)
+
+pub add-requires : goal.add-requires
+add-requires c =
+    let d = (goal.at.add-requires c).In_ok-passed in
+    let i = c.self.invariant in
+    subst (λ (f : Fields). IsUnder f c.in_ok-passed.passed.batch) i.1.1.1.1 (pushed d i.0 i.1.0 i.1.1.0 i.1.1.1.0).columns
+
+pub invariant_of-result : goal.invariant_of-result
+invariant_of-result c =
+    let d = (goal.at.invariant_of-result c).In_ok-passed in
+    let i = c.self.invariant in
+    let on = ((pushed d i.0 i.1.0 i.1.1.0 i.1.1.1.0).goes_on c.in_ok-add.ensures.none).1 in (
+      i.0,
+      (
+        i.1.0 ++ rows_in c.args.came.batch,
+        (
+          subst (λ (out : List Row). HasRun c.push.new.self.operators.items i.0 (i.1.0 ++ rows_in c.args.came.batch) out) (sym (ap (λ (f : Frame). f.rows) c.in_ok-add.ensures.rows)) on,
+          (i.1.1.1.0, i.1.1.1.1 ∙ sym (ap (λ (f : Frame). f.fields) c.in_ok-add.ensures.rows)),
+        ),
+      ),
+    )
+
+pub returns-clause-goes_on : goal.returns-clause-goes_on
+returns-clause-goes_on c w taken run before after =
+    let d = (goal.at.returns-clause-goes_on c).In_ok-passed in
+    let inside = subst (λ (s : Streaming). HasRun s.operators w taken s.rows.rows) (sym c.self.view_is) run in
+    let same = before ∙ sym (ap (λ (s : Streaming). s.before) c.self.view_is) in
+    let on = (pushed d w taken inside same).goes_on c.in_ok-add.ensures.none in (
+      on.0,
+      subst (λ (out : List Row). HasRun c.push.new.self.operators.items w (taken ++ rows_in c.args.came.batch) out) (sym (ap (λ (f : Frame). f.rows) c.in_ok-add.ensures.rows)) on.1,
+      ap (λ (s : Streaming). s.before) c.self.view_is,
+      ap (λ (f : Frame). f.fields) c.in_ok-add.ensures.rows ∙ ap (λ (s : Streaming). s.rows.fields) c.self.view_is,
+    )
+
+pub returns-in_err-add-clause-ends : goal.returns-in_err-add-clause-ends
+returns-in_err-add-clause-ends c =
+    let d = (goal.at.returns-in_err-add-clause-ends c).In_ok-passed in
+    let exit = err_from_is_err_and c.from_residual-in_err-add.result c.from_residual-in_err-add.ensures.1 in
+    rw (exit.1, exit.2) (elim c.in_err-add.ensures.fault [
+      | inl e ↦ inr (λ w taken run before rest.
+          let inside = subst (λ (s : Streaming). HasRun s.operators w taken s.rows.rows) (sym c.self.view_is) run in
+          let same = before ∙ sym (ap (λ (s : Streaming). s.before) c.self.view_is) in
+          sym (ap (λ (v : Stream Fault). v.fault) ((pushed d w taken inside same).settled c.in_err-add.field-0.0 e rest)) ∙ e)
+      | inr memory ↦ inl memory
+    ])

@@ -1,0 +1,148 @@
+// The main source's rows on their way through the steps after the leading ones.
+ghost use Rattle.std.specs.Prelude.{◌≡◌, ◌⊎◌, ◌++◌, ℕ, List, [], map, Some, None, Err, IfOk, IfErr, OnOk};
+ghost use Rattle.fq_column.specs.Frame.{Fields, Row};
+ghost use Rattle.fq_column.specs.Stream.{Stream, done, then_stream};
+ghost use Rattle.fq_plan.specs.Pipelines.{HasRun, PlanPart, meant};
+ghost use Rattle.fq_plan.specs.Gathering.{gathered_stream};
+ghost use Rattle.fq_plan.specs.Later.{later_steps};
+ghost use Rattle.fq_plan.specs.Meaning.{frame_or_fault};
+ghost use Rattle.fq_plan.specs.Sources.{first_fault};
+ghost use Rattle.fq_plan.specs.Stages.{Leads};
+ghost use Rattle.fq_plan.specs.Running.{IsUnder, passed_stream, rows_in};
+ghost use Rattle.fq_plan.specs.declared.faults.Fault.{Fault as AnyFault};
+ghost use Rattle.fq_plan.specs.declared.faults.Fault.TheVariants as fault;
+
+use crate::faults::Fault;
+use crate::gathering::{Gathered, empty_batch};
+use crate::passed::Passed;
+use crate::pipeline::Pipeline;
+use crate::stages::Stage;
+use fq_column::{Batch, Schema};
+use std::alloc::Global;
+use std::marker::Model;
+
+/// Running operators, and the rows that they have passed on.
+#[derive(Drop)]
+pub(crate) struct MainStream<'a> {
+    before: Schema,
+    pipeline: Pipeline<'a>,
+    rows: Batch,
+}
+
+impl<'a> Model for MainStream<'a> {
+    ghost use Rattle.fq_plan.specs.Streaming.{Streaming};
+
+    ghost Value = { Streaming };
+
+    ghost use Rattle.std.specs.Coded.{codes};
+    ghost use Rattle.fq_expr.specs.ExpressionCode.{expression_code};
+
+    ghost coded = { Prim.hlevel (codes, expression_code (Prim.hlevel codes)) };
+
+    ghost use Rattle.std.specs.Prelude.{◌≡◌, List};
+    ghost use Rattle.fq_column.specs.Frame.{Row};
+    ghost use Rattle.fq_plan.specs.Pipelines.{HasRun, PlanPart};
+
+    ghost view = { λ s. record { before = s.before; operators = s.pipeline.operators.items; rows = s.rows } };
+
+    ghost invariant = { λ s. (w : PlanPart) × ((taken : List Row) × (HasRun s.pipeline.operators.items w taken s.rows.rows × ((w.before ≡ s.before) × (w.after ≡ s.rows.fields)))) };
+}
+
+impl<'a> MainStream<'a> {
+    /// The steps over the sources before the last, which have taken no row of the last; or the first fault of those sources.
+    pub(crate) fn start(
+        alloc: Global,
+        joins: Vec<Gathered>,
+        before: Schema,
+        stages: &'a [Stage],
+    ) -> Result<MainStream<'a>, Fault>
+        requires { (n : ℕ) × ((after : Fields) × Leads (map (λ g. g.batch.fields) joins.items) n before stages.now after) }
+        ensures started { IfOk result (λ s. (n : ℕ) (after : Fields) → Leads (map (λ g. g.batch.fields) joins.items) n before stages.entry.now after →
+            (first_fault (map gathered_stream joins.items) ≡ None) × (HasRun s.operators (later_steps n stages.entry.now joins.items before after) [] s.rows.rows × ((s.before ≡ before) × (s.rows.fields ≡ after)))) }
+        ensures refused { IfErr result (λ f. (first_fault (map gathered_stream joins.items) ≡ Some f) ⊎ (f ≡ fault.Memory)) }
+    {
+        let batches = whole_batches(alloc, joins)?;
+        let (pipeline, after) = Pipeline::start(alloc, batches.as_slice(), &before, stages)?;
+        let rows = empty_batch(alloc, after)?;
+        Ok(MainStream {
+            before,
+            pipeline,
+            rows,
+        })
+    }
+
+    /// The frame of all that the operators have passed on, and of what is left; or the fault in which it ends.
+    pub(crate) fn finish(self, alloc: Global) -> Result<Batch, Fault>
+        ensures { (w : PlanPart) (taken : List Row) → HasRun self.entry.operators w taken self.entry.rows.rows → w.after ≡ self.entry.rows.fields →
+            (result ≡ frame_or_fault w.after (meant w (done taken))) ⊎ (result ≡ Err fault.Memory) }
+    {
+        let MainStream {
+            before: _,
+            pipeline,
+            rows,
+        } = self;
+        let mut pipeline = pipeline;
+        let mut rows = rows;
+        let passed = pipeline.finish(alloc)?;
+        add(&mut rows, passed)?;
+        Ok(rows)
+    }
+
+    /// Takes one more piece, and keeps what the operators pass on of it; or answers the fault in which all ends.
+    pub(crate) fn take(self, alloc: Global, came: Passed) -> Result<MainStream<'a>, Fault>
+        requires { IsUnder self.before came.batch }
+        ensures goes_on { IfOk result (λ s. (w : PlanPart) (taken : List Row) → HasRun self.entry.operators w taken self.entry.rows.rows → w.before ≡ self.entry.before → w.after ≡ self.entry.rows.fields →
+            (came.fault ≡ None) × HasRun s.operators w (taken ++ rows_in came.batch) s.rows.rows × (s.before ≡ self.entry.before) × (s.rows.fields ≡ self.entry.rows.fields)) }
+        ensures ends { IfErr result (λ f. (f ≡ fault.Memory) ⊎ ((w : PlanPart) (taken : List Row) → HasRun self.entry.operators w taken self.entry.rows.rows → w.before ≡ self.entry.before →
+            (rest : Stream AnyFault) → (meant w (then_stream (then_stream (done taken) (passed_stream came)) rest)).fault ≡ Some f)) }
+    {
+        let MainStream {
+            before,
+            pipeline,
+            rows,
+        } = self;
+        let mut pipeline = pipeline;
+        let mut rows = rows;
+        let passed = pipeline.push(alloc, came)?;
+        add(&mut rows, passed)?;
+        Ok(MainStream {
+            before,
+            pipeline,
+            rows,
+        })
+    }
+}
+
+// Adds the rows that were passed on, or answers the fault that ends them.
+fn add(rows: &mut Batch, passed: Passed) -> Result<(), Fault>
+    requires { IsUnder rows.old.fields passed.batch }
+    ensures none { OnOk result (passed.fault ≡ None) }
+    ensures rows { OnOk result (rows.new ≡ record { fields = rows.old.fields; rows = rows.old.rows ++ rows_in passed.batch }) }
+    ensures fault { IfErr result (λ f. (passed.fault ≡ Some f) ⊎ (f ≡ fault.Memory)) }
+{
+    if let Some(fault) = passed.fault {
+        return Err(fault);
+    }
+    match passed.batch {
+        Some(batch) if rows.rows() == 0 => *rows = batch,
+        Some(batch) => rows.extend(batch)?,
+        None => {}
+    }
+    Ok(())
+}
+
+// The batches of sources, or the fault that ends the first that has one.
+fn whole_batches(alloc: Global, sources: Vec<Gathered>) -> Result<Vec<Batch>, Fault>
+    ensures none { IfOk result (λ batches. first_fault (map gathered_stream sources.items) ≡ None) }
+    ensures batches { IfOk result (λ batches. batches.items ≡ map (λ g. g.batch) sources.items) }
+    ensures fault { IfErr result (λ f. (first_fault (map gathered_stream sources.items) ≡ Some f) ⊎ (f ≡ fault.Memory)) }
+{
+    let mut batches = Vec::with_capacity(alloc, sources.len())?;
+    for source in sources {
+        if let Some(fault) = source.fault {
+            return Err(fault);
+        }
+        batches.push(source.batch)?;
+    }
+    Ok(batches)
+}
