@@ -52,13 +52,18 @@ on-ends xs joins x main stages n after s =
       λ i. outcome_of_stages n stages (sym same.0 i) (sym same.1 i),
     )
 
+-- the sources' batches have their columns
+pub over-batches : (joins : List Gathered) (batches : List Frame) (n : ℕ) (before after : Fields) (stages : List Stage) → batches ≡ map (λ (g : Gathered). g.batch) joins →
+    Leads (map (λ (g : Gathered). g.batch.fields) joins) n before stages after → Leads (map (λ (f : Frame). f.fields) batches) n before stages after
+over-batches joins batches n before after stages e leads =
+    subst (λ fs. Leads fs n before stages after) (sym (ap (map (λ (f : Frame). f.fields)) e ∙ map-map (λ (f : Frame). f.fields) (λ (g : Gathered). g.batch) joins)) leads
+
 module _ (joins : List Gathered) (main : Gathered) (n : ℕ) (stages : List Stage) (after : Fields) where
   -- what the steps make of the last, where no source before it ends in a fault
   pub none-before : first_fault (map gathered_stream joins) ≡ None → Leads (map (λ g. g.batch.fields) joins) n main.batch.fields stages after →
       outcome_of_stages n stages joins main ≡ frame_or_fault after (meant (later_steps n stages joins main.batch.fields after) (gathered_stream main))
   none-before none leads =
       let batches : List Frame = map (λ (g : Gathered). g.batch) joins in
-      let over : Leads (map (λ (f : Frame). f.fields) batches) n main.batch.fields stages after =
-      subst (λ fs. Leads fs n main.batch.fields stages after) (sym (map-map (λ (f : Frame). f.fields) (λ (g : Gathered). g.batch) joins)) leads in
+      let over = over-batches joins batches n main.batch.fields after stages refl leads in
       ap (λ (o : Option Fault). elim o as (λ _. Result Frame Fault) [ Some f ↦ Err f | None ↦ outcome batches n main.batch.fields (stage_steps stages) (gathered_stream main) ]) none
       ∙ ap (λ (f : Fields). frame_or_fault f (meant (later_steps n stages joins main.batch.fields after) (gathered_stream main))) (columns-of batches n main.batch.fields after stages over (gathered_stream main))

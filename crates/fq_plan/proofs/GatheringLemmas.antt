@@ -93,7 +93,7 @@ abbrev pub with_items : ℕ → List Taken → List Gathered → List Gathered
 with_items first ts [] = []
 with_items first ts (g ∷ gs) = with_stream g (then_stream (gathered_stream g) (concat_streams (items_from first g.files ts))) ∷ with_items (first + g.files) ts gs
 
-then-nothing : (u : Stream Fault) → then_stream u (done []) ≡ u
+pub then-nothing : (u : Stream Fault) → then_stream u (done []) ≡ u
 then-nothing u = go u.rows u.fault
   where
     go : (rows : List Row) (end : Option Fault) → then_stream (record { rows = rows; fault = end }) (done []) ≡ record { rows = rows; fault = end }

@@ -14,14 +14,14 @@ use crate::passed::Passed;
 use crate::stages::{Operator, Stage};
 use fq_column::{Batch, Memory, Schema};
 use fq_expr::{Front, Piece};
-pub use grouping::Grouping;
-pub use joining::Joining;
-pub use rolling::Summing;
+pub(crate) use grouping::Grouping;
+pub(crate) use joining::Joining;
+pub(crate) use rolling::Summing;
 use std::alloc::Global;
 
 /// An operator, with what it keeps of the rows that it has taken.
 #[derive(Drop)]
-pub enum Running<'a> {
+pub(crate) enum Running<'a> {
     /// Row-wise steps.
     Rows(&'a Front),
     /// A join with rows that are there.
@@ -34,7 +34,7 @@ pub enum Running<'a> {
 
 impl<'a> Running<'a> {
     /// The operator of a stage that has taken no row, on rows of a schema.
-    pub fn start(
+    pub(crate) fn start(
         alloc: Global,
         joins: &[Batch],
         schema: &Schema,
@@ -84,7 +84,7 @@ impl<'a> Running<'a> {
     }
 
     /// Takes what the operator before it passed on, and passes on what it makes of that at once.
-    pub fn push(&mut self, alloc: Global, came: Passed) -> Result<Passed, Memory>
+    pub(crate) fn push(&mut self, alloc: Global, came: Passed) -> Result<Passed, Memory>
         requires { (m : Transform) × ((rows : List Row) × (HasTaken self.old m rows × IsUnder m.takes came.batch)) }
         ensures { IfOk result (λ p. (m : Transform) (rows : List Row) → HasTaken self.old m rows → IsUnder m.takes came.batch →
             HasPassed self.new m rows came p) }
@@ -104,7 +104,7 @@ impl<'a> Running<'a> {
     }
 
     /// Takes the last that comes, and passes on all that is left. No more can be taken.
-    pub fn finish(&mut self, alloc: Global, came: Passed) -> Result<Passed, Memory>
+    pub(crate) fn finish(&mut self, alloc: Global, came: Passed) -> Result<Passed, Memory>
         requires { (m : Transform) × ((rows : List Row) × (HasTaken self.old m rows × IsUnder m.takes came.batch)) }
         ensures { IfOk result (λ p. (m : Transform) (rows : List Row) → HasTaken self.old m rows → IsUnder m.takes came.batch →
             HasEnded m rows came p) }

@@ -4,7 +4,7 @@ use fq_column::Batch;
 
 /// Rows, where there are any, and the fault that ends them.
 #[derive(Drop)]
-pub struct Passed {
-    pub batch: Option<Batch>,
-    pub fault: Option<Fault>,
+pub(crate) struct Passed {
+    pub(crate) batch: Option<Batch>,
+    pub(crate) fault: Option<Fault>,
 }

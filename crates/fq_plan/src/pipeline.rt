@@ -15,13 +15,13 @@ use std::alloc::Global;
 
 /// Running operators, each of which takes what the one before it passes on.
 #[derive(Drop)]
-pub struct Pipeline<'a> {
-    pub operators: Vec<Running<'a>>,
+pub(crate) struct Pipeline<'a> {
+    pub(crate) operators: Vec<Running<'a>>,
 }
 
 impl<'a> Pipeline<'a> {
     /// The operators of stages that have taken no row, on rows of a schema; and the schema of what they pass on.
-    pub fn start(
+    pub(crate) fn start(
         alloc: Global,
         joins: &[Batch],
         schema: &Schema,
@@ -41,7 +41,7 @@ impl<'a> Pipeline<'a> {
     }
 
     /// Takes one more piece, and passes on what the operators make of it at once.
-    pub fn push(&mut self, alloc: Global, came: Passed) -> Result<Passed, Memory>
+    pub(crate) fn push(&mut self, alloc: Global, came: Passed) -> Result<Passed, Memory>
         requires { (w : PlanPart) × ((rows : List Row) × ((out : List Row) × (HasRun self.old.operators.items w rows out × IsUnder w.before came.batch))) }
         ensures { IfOk result (λ p. (w : PlanPart) (rows out : List Row) → HasRun self.old.operators.items w rows out → IsUnder w.before came.batch →
             HasPushed self.new.operators.items w rows out came p) }
@@ -54,7 +54,7 @@ impl<'a> Pipeline<'a> {
     }
 
     /// What is left where no more comes. No more can be taken.
-    pub fn finish(&mut self, alloc: Global) -> Result<Passed, Memory>
+    pub(crate) fn finish(&mut self, alloc: Global) -> Result<Passed, Memory>
         requires { (w : PlanPart) × ((rows : List Row) × ((out : List Row) × HasRun self.old.operators.items w rows out)) }
         ensures { IfOk result (λ p. (w : PlanPart) (rows out : List Row) → HasRun self.old.operators.items w rows out → HasFinished w rows out p) }
     {

@@ -17,14 +17,14 @@ const MAX_GROUPED_ROWS: u64 = 1 << 40;
 
 /// A grouping, which passes nothing on before the end. It has a grouper until then.
 #[derive(Drop)]
-pub struct Grouping {
-    pub number: u16,
-    pub grouper: Option<Grouper>,
+pub(crate) struct Grouping {
+    pub(crate) number: u16,
+    pub(crate) grouper: Option<Grouper>,
 }
 
 impl Grouping {
     /// A grouping of columns that has taken no row.
-    pub fn new(
+    pub(crate) fn new(
         alloc: Global,
         number: u16,
         schema: &Schema,
@@ -42,7 +42,7 @@ impl Grouping {
     }
 
     /// Takes one more batch.
-    pub fn take(&mut self, alloc: Global, batch: Batch) -> Result<Passed, Memory>
+    pub(crate) fn take(&mut self, alloc: Global, batch: Batch) -> Result<Passed, Memory>
         requires { (m : Transform) × ((rows : List Row) × ((m.takes ≡ batch.fields) × ((m.at_once rows).fault ≡ None) × HasGrouped self.old m rows)) }
         ensures { IfOk result (λ p. Takes (HasGrouped self.old) (HasGrouped self.new) batch p) }
     {
@@ -60,7 +60,7 @@ impl Grouping {
     }
 
     /// The rows of the groups, or the fault of a sum that does not fit. No more can be taken.
-    pub fn finish(&mut self, alloc: Global) -> Result<Passed, Memory>
+    pub(crate) fn finish(&mut self, alloc: Global) -> Result<Passed, Memory>
         requires { (m : Transform) × ((rows : List Row) × HasGrouped self.old m rows) }
         ensures columns { IfOk result (λ p. (m : Transform) (rows : List Row) → HasGrouped self.old m rows → IsUnder m.gives p.batch) }
         ensures rows { IfOk result (λ p. (m : Transform) (rows : List Row) → HasGrouped self.old m rows → passed_stream p ≡ m.in_all rows) }

@@ -16,16 +16,16 @@ const MAX_JOINED_ROWS: u64 = 4_294_967_295;
 
 /// A join with a table, and how many rows it may still give.
 #[derive(Drop)]
-pub struct Joining {
-    pub number: u16,
-    pub table: JoinTable,
-    pub how: How,
-    pub room: u64,
+pub(crate) struct Joining {
+    pub(crate) number: u16,
+    pub(crate) table: JoinTable,
+    pub(crate) how: How,
+    pub(crate) room: u64,
 }
 
 impl Joining {
     /// A join with a right batch, with room for all rows that a join gives.
-    pub fn new(
+    pub(crate) fn new(
         alloc: Global,
         number: u16,
         right: &Batch,
@@ -45,7 +45,7 @@ impl Joining {
     }
 
     /// Takes one more batch, and passes on the rows that it gives.
-    pub fn take(&mut self, alloc: Global, batch: Batch) -> Result<Passed, Memory>
+    pub(crate) fn take(&mut self, alloc: Global, batch: Batch) -> Result<Passed, Memory>
         requires { (m : Transform) × ((rows : List Row) × ((m.takes ≡ batch.fields) × ((m.at_once rows).fault ≡ None) × HasJoined self.old m rows)) }
         ensures { IfOk result (λ p. Takes (HasJoined self.old) (HasJoined self.new) batch p) }
     {

@@ -13,16 +13,16 @@ use std::alloc::Global;
 
 /// A rolling sum of the column at a place, put under a name.
 #[derive(Drop)]
-pub struct Summing<'a> {
-    pub number: u16,
-    pub place: usize,
-    pub name: &'a str,
-    pub rolling: Rolling,
+pub(crate) struct Summing<'a> {
+    pub(crate) number: u16,
+    pub(crate) place: usize,
+    pub(crate) name: &'a str,
+    pub(crate) rolling: Rolling,
 }
 
 impl<'a> Summing<'a> {
     /// A rolling sum of the column of a name, that has taken no row.
-    pub fn new(
+    pub(crate) fn new(
         alloc: Global,
         number: u16,
         schema: &Schema,
@@ -46,7 +46,7 @@ impl<'a> Summing<'a> {
     }
 
     /// Takes one more batch, and passes it on with its sums.
-    pub fn take(&mut self, alloc: Global, batch: Batch) -> Result<Passed, Memory>
+    pub(crate) fn take(&mut self, alloc: Global, batch: Batch) -> Result<Passed, Memory>
         requires { (m : Transform) × ((rows : List Row) × ((m.takes ≡ batch.fields) × ((m.at_once rows).fault ≡ None) × HasSummed self.old m rows)) }
         ensures { IfOk result (λ p. Takes (HasSummed self.old) (HasSummed self.new) batch p) }
     {

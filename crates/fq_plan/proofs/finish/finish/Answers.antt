@@ -14,12 +14,9 @@ use Rattle.fq_plan.specs.declared.faults.Fault.{Fault}
 use Rattle.fq_plan.specs.declared.gathering.Gathered.{Gathered}
 use Rattle.fq_plan.specs.declared.stages.Stage.{Stage}
 use Rattle.fq_plan.proofs.FinishLemmas.{on-ends, none-before}
+use Rattle.fq_plan.proofs.GatheringLemmas.{then-nothing}
 use Rattle.fq_plan.proofs.finish.finish.Goals as goal
 use Rattle.fq_plan.proofs.finish.finish.Goals.{In_ok-stream}
-
-then-none : (rows : List Row) (end : Option Fault) → then_stream (let u : Stream Fault = record { rows = rows; fault = end } in u) (done []) ≡ record { rows = rows; fault = end }
-then-none rows None = ap done (append-nil rows)
-then-none rows (Some f) = refl
 
 -- what the steps make of the last source, whose columns are told
 outcome-is : (xs : List Gathered) (x : Gathered) (n : ℕ) (stages : List Stage) (before after : Fields) → before ≡ x.batch.fields → first_fault (map gathered_stream xs) ≡ None →
@@ -63,7 +60,7 @@ returns-in_err-stream-2 c joins main n after s =
       | inl memory ↦ inr (ap Err memory)
       | inr settled ↦
           let e : (meant (w d joins main n after s) (gathered_stream c.in-Some.main)).fault ≡ Some f =
-          ap (λ (u : Stream Fault). (meant (w d joins main n after s) u).fault) (sym (then-none c.in-Some.main.batch.rows c.in-Some.main.fault))
+          ap (λ (u : Stream Fault). (meant (w d joins main n after s) u).fault) (sym (then-nothing (gathered_stream c.in-Some.main)))
           ∙ settled (w d joins main n after s) [] (started d joins main n after s).1.0 (sym (started d joins main n after s).1.1.0) (done []) in
           inl (sym (whole d joins main n after s
           ∙ ap (λ (o : Option Fault). frame_or_fault after (let u : Stream Fault = record { rows = (meant (w d joins main n after s) (gathered_stream c.in-Some.main)).rows; fault = o } in u)) e))

@@ -1,31 +1,25 @@
 use Rattle.std.proofs.Common.{◌≡◌, ◌∙◌, ℕ, List, [], map, ap, sym, refl, subst}
 use Rattle.fq_column.specs.Frame.{Fields, Frame, Row}
-use Rattle.fq_ops.proofs.RefusalLemmas.{map-map}
 use Rattle.fq_plan.specs.Later.{later_steps}
 use Rattle.fq_plan.specs.Pipelines.{HasRun, PlanPart}
 use Rattle.fq_plan.specs.Stages.{Leads, stage_steps}
 use Rattle.fq_plan.specs.declared.gathering.Gathered.{Gathered}
 use Rattle.fq_plan.specs.declared.stages.Stage.{Stage}
+use Rattle.fq_plan.proofs.FinishLemmas.{over-batches}
 use Rattle.fq_plan.proofs.main_stream.MainStream.start.Goals as goal
 use Rattle.fq_plan.proofs.main_stream.MainStream.start.Goals.{In_ok-rows}
-
--- the batches have the columns of the sources
-over : (joins : List Gathered) (batches : List Frame) (n : ℕ) (before after : Fields) (stages : List Stage) → batches ≡ map (λ (g : Gathered). g.batch) joins →
-    Leads (map (λ (g : Gathered). g.batch.fields) joins) n before stages after → Leads (map (λ (f : Frame). f.fields) batches) n before stages after
-over joins batches n before after stages e leads =
-    subst (λ fs. Leads fs n before stages after) (sym (ap (map (λ (f : Frame). f.fields)) e ∙ map-map (λ (f : Frame). f.fields) (λ (g : Gathered). g.batch) joins)) leads
 
 pub start-requires : goal.start-requires
 start-requires c =
     let r = c.requires in
-    (r.0, (r.1.0, over c.args.joins.items c.as_slice.result.now r.0 c.args.before r.1.0 c.args.stages.now (c.as_slice.ensures.value ∙ c.in_ok-batches.ensures.batches) r.1.1))
+    (r.0, (r.1.0, over-batches c.args.joins.items c.as_slice.result.now r.0 c.args.before r.1.0 c.args.stages.now (c.as_slice.ensures.value ∙ c.in_ok-batches.ensures.batches) r.1.1))
 
 -- the operators have taken no row
 fresh : (c : In_ok-rows) (n : ℕ) (after : Fields) → Leads (map (λ (g : Gathered). g.batch.fields) c.args.joins.items) n c.args.before c.args.stages.now after →
     HasRun c.in_ok-pipeline.pipeline.operators.items (later_steps n c.args.stages.now c.args.joins.items c.args.before after) [] c.in_ok-rows.rows.rows × (c.in_ok-rows.rows.fields ≡ after)
 fresh c n after leads =
     let batches = c.as_slice.ensures.value ∙ c.in_ok-batches.ensures.batches in
-    let made = c.in_ok-pipeline.ensures n after (over c.args.joins.items c.as_slice.result.now n c.args.before after c.args.stages.now batches leads) in (
+    let made = c.in_ok-pipeline.ensures n after (over-batches c.args.joins.items c.as_slice.result.now n c.args.before after c.args.stages.now batches leads) in (
       subst (λ (out : List Row). HasRun c.in_ok-pipeline.pipeline.operators.items (later_steps n c.args.stages.now c.args.joins.items c.args.before after) [] out) (sym (ap (λ (f : Frame). f.rows) c.in_ok-rows.ensures))
           (subst (λ (js : List Frame). HasRun c.in_ok-pipeline.pipeline.operators.items (let w : PlanPart = record { joins = js; n = n; before = c.args.before; steps = stage_steps c.args.stages.now; after = after } in w) [] []) batches made.1),
       ap (λ (f : Frame). f.fields) c.in_ok-rows.ensures ∙ made.0,
