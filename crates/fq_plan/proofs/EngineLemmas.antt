@@ -18,7 +18,7 @@ use Rattle.fq_lanes.specs.Lists.{Each}
 use Rattle.fq_lanes.specs.Numbering.{numbered, numbered_file, numbers}
 use Rattle.fq_lanes.specs.Taking.{Took}
 use Rattle.fq_plan.specs.Feeding.{Feeding, MayCome, end_item, scanned_items}
-use Rattle.fq_plan.specs.Gathering.{taken_in}
+use Rattle.fq_plan.specs.Kept.{Takes}
 use Rattle.fq_plan.specs.Plan.{Query, front_of, join_files, main_fields}
 use Rattle.fq_plan.specs.EngineRun.{leading_steps, opened}
 use Rattle.fq_plan.specs.Run.{Tell}
@@ -29,7 +29,7 @@ use Rattle.fq_plan.specs.declared.faults.Fault.{Fault}
 use Rattle.fq_plan.specs.declared.faults.Fault.TheVariants.{Overflow}
 use Rattle.fq_plan.specs.declared.feeds.Scanned.{Scanned}
 use Rattle.fq_plan.specs.declared.feeds.Scanned.TheVariants.{Batch, Ended}
-use Rattle.fq_plan.specs.declared.gathering.Gathering.{Gathering}
+use Rattle.fq_plan.specs.declared.gathering.Gathered.{Gathered}
 use Rattle.fq_plan.specs.declared.workers.Worked.{Worked}
 use Rattle.fq_plan.proofs.BatchLemmas.{rename_fault-apply_steps}
 use Rattle.fq_plan.proofs.EndLemmas.{AllDone}
@@ -52,9 +52,9 @@ each-known (f ∷ fs) (x ∷ xs) (k ∷ ks) h e =
 abbrev pub answers_in : List (ℕ × ℕ × Worked) → List Answer
 answers_in log = map (λ (r : ℕ × ℕ × Worked). (r.0, r.2)) log
 
-pub took-all : (log : List (ℕ × ℕ × Worked)) (a b : Gathering) → Took (λ old file serial out new. new.sources.items ≡ taken_in file out old.sources.items) a log b →
-    b.sources.items ≡ all_taken (answers_in log) a.sources.items
-took-all [] a b h = ap (λ (g : Gathering). g.sources.items) h
+pub took-all : (log : List (ℕ × ℕ × Worked)) (a b : List Gathered) → Took Takes a log b →
+    b ≡ all_taken (answers_in log) a
+took-all [] a b h = h
 took-all (e ∷ es) a b h = took-all es h.0 b h.2 ∙ ap (all_taken (answers_in es)) h.1
 
 module _ (front : NumberedSteps) (joins : ℕ) where

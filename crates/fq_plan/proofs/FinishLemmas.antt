@@ -7,14 +7,13 @@ use Rattle.fq_plan.specs.Gathering.{gathered_stream}
 use Rattle.fq_plan.specs.Later.{later_steps}
 use Rattle.fq_plan.specs.Meaning.{frame_or_fault, outcome}
 use Rattle.fq_plan.specs.Pipelines.{meant}
-use Rattle.fq_plan.specs.Outcome.{AreStaged, outcome_of_stages}
+use Rattle.fq_plan.specs.Outcome.{outcome_of_stages}
 use Rattle.fq_plan.specs.Sources.{first_fault}
 use Rattle.fq_plan.specs.Stages.{Leads, stage_steps}
 use Rattle.fq_plan.specs.declared.faults.Fault.{Fault}
 use Rattle.fq_plan.specs.declared.gathering.Gathered.{Gathered}
 use Rattle.fq_plan.specs.declared.stages.Stage.{Stage}
 use Rattle.fq_ops.proofs.RefusalLemmas.{map-map}
-use Rattle.fq_plan.proofs.SplitLemmas.{same-ends}
 use Rattle.fq_plan.proofs.StageTransforms.{columns-of}
 
 abbrev or_later : Option Fault → Option Fault → Option Fault
@@ -41,16 +40,6 @@ pub still-none : (gs : List Gathered) (g : Gathered) → first_fault (map gather
 still-none gs g none e = past gs (g ∷ []) none ∙ ap (λ o. or_later o None) e
 
 -- ---- what is made of whole sources
-
--- these sources and this one last are the staged ones
-pub on-ends : (xs joins : List Gathered) (x main : Gathered) (stages : List Stage) (n : ℕ) (after : Fields) → AreStaged (xs ++ x ∷ []) stages joins main n after →
-    Leads (map (λ g. g.batch.fields) xs) n x.batch.fields stages after × (outcome_of_stages n stages joins main ≡ outcome_of_stages n stages xs x)
-on-ends xs joins x main stages n after s =
-    let same = same-ends xs joins x main s.sources_are in (
-      subst (λ (f : Fields). Leads (map (λ g. g.batch.fields) xs) n f stages after) (ap (λ (g : Gathered). g.batch.fields) (sym same.1))
-          (subst (λ (gs : List Gathered). Leads (map (λ g. g.batch.fields) gs) n main.batch.fields stages after) (sym same.0) s.leads),
-      λ i. outcome_of_stages n stages (sym same.0 i) (sym same.1 i),
-    )
 
 -- the sources' batches have their columns
 pub over-batches : (joins : List Gathered) (batches : List Frame) (n : ℕ) (before after : Fields) (stages : List Stage) → batches ≡ map (λ (g : Gathered). g.batch) joins →

@@ -6,7 +6,7 @@ use Rattle.fq_column.specs.Frame.{Fields, Row}
 use Rattle.fq_column.specs.SchemaLaws.{same_fields_decides}
 use Rattle.fq_column.specs.Stream.{Stream, done, then_stream}
 use Rattle.fq_expr.proofs.StepLemmas.{then_stream-assoc}
-use Rattle.fq_plan.specs.Gathering.{gathered, gathered_stream, joined, taken_in, with_stream}
+use Rattle.fq_plan.specs.Gathering.{gathered, gathered_stream, taken_in, with_stream}
 use Rattle.fq_plan.specs.Meaning.{frames_of}
 use Rattle.fq_plan.specs.Plan.{Source}
 use Rattle.fq_plan.specs.EngineRun.{no_rows}
@@ -37,6 +37,9 @@ Fits (Piece p) None = Unit {0}
 Fits (Piece p) (Some fields) = p.batch.fields ≡ fields
 
 -- below, each item is one of its source's columns, and is joined
+abbrev pub joined : Gathered → Worked → Gathered
+joined g out = with_stream g (then_stream (gathered_stream g) (worked_stream out))
+
 abbrev pub joined_in : ℕ → Worked → List Gathered → List Gathered
 joined_in file out [] = []
 joined_in file out (g ∷ gs) = cond (nat_lt file g.files) (joined g out ∷ gs) (g ∷ joined_in (file - g.files) out gs)
@@ -59,7 +62,7 @@ AllFit hs (t ∷ ts) = Fits t.1 (fields_at t.0 hs) × AllFit hs ts
 
 gathered-joined : (g : Gathered) (out : Worked) → Fits out (Some g.batch.fields) → gathered g out ≡ joined g out
 gathered-joined g (Ended fault) h = refl
-gathered-joined g (Piece p) h = ap (λ b. cond b (joined g (Piece p)) g) ((same_fields_decides p.batch.fields g.batch.fields).1 h)
+gathered-joined g (Piece p) h = ap (λ b. with_stream g (then_stream (gathered_stream g) (cond b (worked_stream (Piece p)) (done [])))) ((same_fields_decides p.batch.fields g.batch.fields).1 h)
 
 taken-joined : (file : ℕ) (out : Worked) (gs : List Gathered) → Fits out (fields_at file (map head_of gs)) → taken_in file out gs ≡ joined_in file out gs
 taken-joined file out [] h = refl

@@ -26,3 +26,6 @@ mod RunningLemmas
 mod TransformLemmas
 mod StageTransforms
 mod OutcomeOfPipeline
+mod StandingLemmas
+mod LogLemmas
+mod GatheredLemmas

@@ -18,7 +18,6 @@ use Rattle.fq_plan.specs.Tail.{Taken, all_items, finished, items_from, taken_str
 use Rattle.fq_plan.specs.declared.faults.Fault.{Fault}
 use Rattle.fq_plan.specs.declared.feeds.Scanned.{Scanned}
 use Rattle.fq_plan.specs.declared.gathering.Gathered.{Gathered}
-use Rattle.fq_plan.specs.declared.gathering.Gathering.{Gathering}
 use Rattle.fq_plan.proofs.EndLemmas.{files-done}
 use Rattle.fq_plan.proofs.GatheringLemmas.{Answer, all_joined-items, all_taken, all_taken-joined, items-frames, items-streams, with_items, with_items-append, head_of}
 use Rattle.fq_plan.proofs.PlaceLemmas.{HasMain, files-fit, has_main, length-columns, main-fields, wanted-main}
@@ -92,7 +91,7 @@ module _ (p : Query) (b : ℕ) (us : List (Stream ScanFault)) (main : Source) (h
   trace-of : IsOk (meaning p us) → numbers (numbered 0 (items_of_files p b us)) ≡ trace_of b us
   trace-of h = files-numbers b 0 (file_fields p) us columns-count (files-done p us h)
 
-pub ran-gives : (p : Query) (b : ℕ) (us : List (Stream ScanFault)) (front : NumberedSteps) (joins : ℕ) (feeds : List Feeding) (first last : Gathering) (trace : List (ℕ × ℕ)) →
+pub ran-gives : (p : Query) (b : ℕ) (us : List (Stream ScanFault)) (front : NumberedSteps) (joins : ℕ) (feeds : List Feeding) (first last : List Gathered) (trace : List (ℕ × ℕ)) →
     RanOver p b us front joins feeds first last trace → Gives p b us last trace
 ran-gives p b us front joins feeds first last trace ran =
     let main = has_main p ran.some_source in
@@ -104,13 +103,13 @@ ran-gives p b us front joins feeds first last trace ran =
     ∙ ap (λ f. answers_to f joins (numbered 0 items)) ran.steps
     ∙ ap (λ n. answers_to (leading_steps p) n (numbered 0 items)) ran.join_count
     ∙ ap (λ xs. answers_to (leading_steps p) (join_files p) (numbered 0 xs)) known in
-    let sources : last.sources.items ≡ with_items 0 (taken p b us main.0 main.1 ran.some_rows ran.all_files) (nothing_taken p) =
+    let sources : last ≡ with_items 0 (taken p b us main.0 main.1 ran.some_rows ran.all_files) (nothing_taken p) =
     took-all log first last ran.finished.2.2
-    ∙ ap (λ ts. all_taken ts first.sources.items) answers
+    ∙ ap (λ ts. all_taken ts first) answers
     ∙ ap (all_taken (answers_to (leading_steps p) (join_files p) (numbered 0 (items_of_files p b us)))) ran.nothing
     ∙ all-gathered p b us main.0 main.1 ran.some_rows ran.all_files in
     record {
-      outcome = λ js m e. outcome-of p b us main.0 main.1 ran.some_rows ran.all_files last.sources.items js m sources e;
+      outcome = λ js m e. outcome-of p b us main.0 main.1 ran.some_rows ran.all_files last js m sources e;
       trace = λ h. ran.finished.2.3 ∙ log-numbers front joins (numbered 0 items) log ran.finished.2.1 ∙ ap (λ xs. numbers (numbered 0 xs)) known
           ∙ trace-of p b us main.0 main.1 ran.some_rows ran.all_files h;
     }

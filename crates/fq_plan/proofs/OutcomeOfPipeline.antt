@@ -11,7 +11,7 @@ use Rattle.fq_plan.specs.declared.passed.Passed.{Passed}
 abbrev stream : List Row → Option Fault → Stream Fault
 stream rows fault = record { rows = rows; fault = fault }
 
-fault-is : (fields : Fields) (v : Stream Fault) (f : Fault) → v.fault ≡ Some f → frame_or_fault fields v ≡ Err f
+pub fault-is : (fields : Fields) (v : Stream Fault) (f : Fault) → v.fault ≡ Some f → frame_or_fault fields v ≡ Err f
 fault-is fields v f e = ap (λ (o : Option Fault). frame_or_fault fields (stream v.rows o)) e
 
 -- what was passed on, and the rest at the end, is the frame, or the fault in which it ends

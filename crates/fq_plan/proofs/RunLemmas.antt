@@ -1,6 +1,7 @@
 -- What a run keeps of its sources: their files and columns, and that no fault of theirs is one of starting or writing.
-use Rattle.std.proofs.Common.{◌≡◌, ℕ, ◌+◌, ◌-◌, Bool, true, false, nat_lt, cond, List, [], ◌∷◌, ◌++◌, map, is_some, Option, Some, None, Result, Ok, Err, refl, ap, sym, ◌∙◌, subst}
+use Rattle.std.proofs.Common.{◌≡◌, ℕ, ◌+◌, ◌-◌, Bool, true, false, nat_lt, cond, List, [], ◌∷◌, ◌++◌, map, length, is_some, Option, Some, None, Result, Ok, Err, refl, ap, sym, ◌∙◌, subst}
 use Rattle.std.specs.Prelude.{nat_abs, option_map}
+use Rattle.std.proofs.lemmas.List.{length-map}
 use Rattle.fq_column.specs.Frame.{Fields, Frame, Row}
 use Rattle.fq_column.specs.Schema.{same_fields}
 use Rattle.fq_column.specs.Stream.{Stream, done, faulted, one_by_one, then_stream, rename_fault, step_on, whole_on}
@@ -11,7 +12,7 @@ use Rattle.fq_lanes.specs.Taking.{Took}
 use Rattle.fq_ops.specs.Group.{grouped}
 use Rattle.fq_ops.specs.Join.{join_rows, join_stream}
 use Rattle.fq_ops.specs.Roll.{roll_rows}
-use Rattle.fq_plan.specs.Gathering.{gathered, gathered_stream, joined, taken_in}
+use Rattle.fq_plan.specs.Gathering.{added_stream, gathered, gathered_stream, taken_in}
 use Rattle.fq_plan.specs.Kept.{shape, Takes, IsSound, AreSound}
 use Rattle.fq_plan.specs.Meaning.{apply_plan_step, apply_plan_steps, fields_after, join_room}
 use Rattle.fq_plan.specs.Plan.{PlanStep, row_wise, join, group_by, rolling_sum, item_at}
@@ -21,32 +22,33 @@ use Rattle.fq_plan.specs.Working.{worked_stream}
 use Rattle.fq_plan.specs.declared.faults.Fault.{Fault}
 use Rattle.fq_plan.specs.declared.faults.Fault.TheVariants as fault
 use Rattle.fq_plan.specs.declared.gathering.Gathered.{Gathered}
-use Rattle.fq_plan.specs.declared.gathering.Gathering.{Gathering}
 use Rattle.fq_plan.specs.declared.workers.Worked.{Worked}
 use Rattle.fq_plan.specs.declared.workers.Worked.TheVariants as worked
 
 -- ---- files and columns
-
-shape-gathered : (g : Gathered) (out : Worked) → shape (gathered g out) ≡ shape g
-shape-gathered g (worked.Ended f) = refl
-shape-gathered g (worked.Piece p) = go (same_fields p.batch.fields g.batch.fields)
-  where
-    go : (b : Bool) → shape (cond b (joined g (worked.Piece p)) g) ≡ shape g
-    go true = refl
-    go false = refl
 
 shape-taken : (file : ℕ) (out : Worked) (gs : List Gathered) → map shape (taken_in file out gs) ≡ map shape gs
 shape-taken file out [] = refl
 shape-taken file out (g ∷ gs) = go (nat_lt file g.files) (shape-taken (file - g.files) out gs)
   where
     go : (b : Bool) → map shape (taken_in (file - g.files) out gs) ≡ map shape gs → map shape (cond b (gathered g out ∷ gs) (g ∷ taken_in (file - g.files) out gs)) ≡ map shape (g ∷ gs)
-    go true rest = ap (λ s. s ∷ map shape gs) (shape-gathered g out)
+    go true rest = refl
     go false rest = ap (λ ss. shape g ∷ ss) rest
 
-pub shape-kept : (first : Gathering) (log : List (ℕ × ℕ × Worked)) (last : Gathering) → Took Takes first log last → map shape last.sources.items ≡ map shape first.sources.items
-shape-kept first [] last t = ap (λ (g : Gathering). map shape g.sources.items) t
+pub columns-of-shapes : (gs : List Gathered) → map (λ (g : Gathered). g.batch.fields) gs ≡ map (λ (s : ℕ × Fields). s.1) (map shape gs)
+columns-of-shapes [] = refl
+columns-of-shapes (g ∷ gs) = ap (λ fss. g.batch.fields ∷ fss) (columns-of-shapes gs)
+
+pub length-taken : (file : ℕ) (out : Worked) (gs : List Gathered) → length (taken_in file out gs) ≡ length gs
+length-taken file out gs = sym (length-map (taken_in file out gs) shape) ∙ ap length (shape-taken file out gs) ∙ length-map gs shape
+
+pub columns-taken : (file : ℕ) (out : Worked) (gs : List Gathered) → map (λ (g : Gathered). g.batch.fields) (taken_in file out gs) ≡ map (λ (g : Gathered). g.batch.fields) gs
+columns-taken file out gs = columns-of-shapes (taken_in file out gs) ∙ ap (map (λ (s : ℕ × Fields). s.1)) (shape-taken file out gs) ∙ sym (columns-of-shapes gs)
+
+pub shape-kept : (first : List Gathered) (log : List (ℕ × ℕ × Worked)) (last : List Gathered) → Took Takes first log last → map shape last ≡ map shape first
+shape-kept first [] last t = ap (map shape) t
 shape-kept first (e ∷ log) last t =
-    shape-kept t.0 log last t.2 ∙ ap (map shape) t.1 ∙ shape-taken e.0 e.2 first.sources.items
+    shape-kept t.0 log last t.2 ∙ ap (map shape) t.1 ∙ shape-taken e.0 e.2 first
 
 -- ---- faults
 
@@ -73,13 +75,16 @@ sound-worked : (out : Worked) → IsSound (worked_stream out).fault
 sound-worked (worked.Ended f) = sound-scan f
 sound-worked (worked.Piece p) = sound-named row_fault (λ f. tt) p.fault
 
-sound-gathered : (g : Gathered) (out : Worked) → IsSound g.fault → IsSound (gathered g out).fault
-sound-gathered g (worked.Ended f) s = sound-then (gathered_stream g) (worked_stream (worked.Ended f)) s (sound-worked (worked.Ended f))
-sound-gathered g (worked.Piece p) s = go (same_fields p.batch.fields g.batch.fields)
+sound-added : (fields : Fields) (out : Worked) → IsSound (added_stream fields out).fault
+sound-added fields (worked.Ended f) = sound-worked (worked.Ended f)
+sound-added fields (worked.Piece p) = go (same_fields p.batch.fields fields)
   where
-    go : (b : Bool) → IsSound (cond b (joined g (worked.Piece p)) g).fault
-    go true = sound-then (gathered_stream g) (worked_stream (worked.Piece p)) s (sound-worked (worked.Piece p))
-    go false = s
+    go : (b : Bool) → IsSound (cond b (worked_stream (worked.Piece p)) (done [])).fault
+    go true = sound-worked (worked.Piece p)
+    go false = tt
+
+sound-gathered : (g : Gathered) (out : Worked) → IsSound g.fault → IsSound (gathered g out).fault
+sound-gathered g out s = sound-then (gathered_stream g) (added_stream g.batch.fields out) s (sound-added g.batch.fields out)
 
 sound-taken : (file : ℕ) (out : Worked) (gs : List Gathered) → AreSound gs → AreSound (taken_in file out gs)
 sound-taken file out [] s = tt
@@ -89,10 +94,10 @@ sound-taken file out (g ∷ gs) s = go (nat_lt file g.files) (sound-taken (file 
     go true rest = (sound-gathered g out s.0, s.1)
     go false rest = (s.0, rest)
 
-pub sound-kept : (first : Gathering) (log : List (ℕ × ℕ × Worked)) (last : Gathering) → Took Takes first log last → AreSound first.sources.items → AreSound last.sources.items
-sound-kept first [] last t s = subst (λ (g : Gathering). AreSound g.sources.items) (sym t) s
+pub sound-kept : (first : List Gathered) (log : List (ℕ × ℕ × Worked)) (last : List Gathered) → Took Takes first log last → AreSound first → AreSound last
+sound-kept first [] last t s = subst AreSound (sym t) s
 sound-kept first (e ∷ log) last t s =
-    sound-kept t.0 log last t.2 (subst AreSound (sym t.1) (sound-taken e.0 e.2 first.sources.items s))
+    sound-kept t.0 log last t.2 (subst AreSound (sym t.1) (sound-taken e.0 e.2 first s))
 
 pub sound-first : (gs : List Gathered) → AreSound gs → IsSound (first_fault (map gathered_stream gs))
 sound-first [] s = tt

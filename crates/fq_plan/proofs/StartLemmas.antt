@@ -3,7 +3,7 @@ use Rattle.std.proofs.Common.{◌≡◌, ℕ, zero, suc, ◌+◌, ◌-◌, ◌<�
 use Rattle.std.specs.Prelude.{All}
 use Rattle.std.specs.List.{range_with_len}
 use Rattle.std.proofs.lemmas.List.{length-map, map-append}
-use Rattle.std.proofs.lemmas.List.Sums.{sum_by_push}
+use Rattle.std.proofs.lemmas.List.Sums.{sum_by-cons, sum_by_push}
 use Rattle.fq_column.specs.Frame.{Fields}
 use Rattle.fq_column.specs.Lists.{zip_with}
 use Rattle.fq_column.specs.Stream.{Stream}
@@ -13,14 +13,14 @@ use Rattle.fq_expr.specs.Front.{NumberedSteps}
 use Rattle.fq_expr.specs.Steps.{fields_after_all}
 use Rattle.fq_lanes.specs.Engine.{Finishes}
 use Rattle.fq_plan.specs.Feeding.{Feeding, MayCome}
-use Rattle.fq_plan.specs.Gathering.{taken_in}
-use Rattle.fq_plan.specs.Plan.{Source, PlanStep, row_wise, join, group_by, rolling_sum, Query, but_last, last_or, file_fields, files_wanted, front_of, join_files, rest_of}
+use Rattle.fq_plan.specs.Kept.{Takes}
+use Rattle.fq_plan.specs.Plan.{Source, PlanStep, row_wise, join, group_by, rolling_sum, Query, but_last, last_or, file_fields, files_wanted, front_of, join_fields, join_files, rest_of}
 use Rattle.fq_plan.specs.EngineRun.{RanOver, leading_steps, main_files, no_rows, nothing_taken, opened}
 use Rattle.fq_plan.specs.Run.{Tell}
 use Rattle.fq_plan.specs.Sources.{file_streams}
 use Rattle.fq_plan.specs.Stages.{checked_source_data, query_of, stage_steps, IsChecked}
 use Rattle.fq_plan.specs.Working.{work_on}
-use Rattle.fq_plan.specs.declared.gathering.Gathering.{Gathering}
+use Rattle.fq_plan.specs.declared.gathering.Gathered.{Gathered}
 use Rattle.fq_plan.specs.declared.stages.CheckedSource.{CheckedSource}
 use Rattle.fq_plan.specs.declared.stages.Stage.{Stage}
 use Rattle.fq_plan.proofs.PlaceLemmas.{length-columns}
@@ -78,6 +78,18 @@ rows-of : (sources : List CheckedSource) →
 rows-of [] = refl
 rows-of (s ∷ sources) = ap (λ gs. no_rows s.files s.schema ∷ gs) (rows-of sources)
 
+columns-of-rows : (sources : List CheckedSource) →
+    map (λ (g : Gathered). g.batch.fields) (map (λ (s : CheckedSource). no_rows s.files s.schema) sources) ≡ map (λ (s : Source). s.fields) (map checked_source_data sources)
+columns-of-rows [] = refl
+columns-of-rows (s ∷ sources) = ap (λ fss. s.schema ∷ fss) (columns-of-rows sources)
+
+count-of-rows : (sources : List CheckedSource) →
+    sum_by (λ (g : Gathered). g.files) (map (λ (s : CheckedSource). no_rows s.files s.schema) sources) ≡ sum_by (λ (s : Source). s.files) (map checked_source_data sources)
+count-of-rows [] = refl
+count-of-rows (s ∷ sources) =
+    sum_by-cons (λ (g : Gathered). g.files) (no_rows s.files s.schema) (map (λ (s : CheckedSource). no_rows s.files s.schema) sources)
+    ∙ ap (λ n. s.files + n) (count-of-rows sources) ∙ sym (sum_by-cons (λ (s : Source). s.files) (checked_source_data s) (map checked_source_data sources))
+
 module _ (sources : List CheckedSource) (front : NumberedSteps) (stages : List Stage) (inputs : ℕ) (c : IsChecked sources front stages inputs) where
   abbrev pub plan : Query
   plan = query_of sources front stages
@@ -125,13 +137,18 @@ module _ (sources : List CheckedSource) (front : NumberedSteps) (stages : List S
         rows-of joins ∙ ap (map (λ (s : Source). no_rows s.files s.fields)) (sym joins-are) in
         λ i. rows i ++ no_rows (sym main-files i) (fields_after_all (c.on_main i) (sym front-is i)) ∷ []
 
+    pub join-columns : map (λ (g : Gathered). g.batch.fields) (map (λ (s : CheckedSource). no_rows s.files s.schema) joins) ≡ join_fields plan
+    join-columns = columns-of-rows joins ∙ ap (map (λ (s : Source). s.fields)) (sym joins-are)
+
+    pub join-file-count : join_files plan ≡ sum_by (λ (g : Gathered). g.files) (map (λ (s : CheckedSource). no_rows s.files s.schema) joins)
+    join-file-count = ap (sum_by (λ (s : Source). s.files)) joins-are ∙ sym (count-of-rows joins)
+
     -- the engine over what readers tell
-    pub ran-over : {R : Type 0} (remaining : R → Option (List ℕ)) (b : ℕ) (readers : List R) (files : List (List ℕ)) (feeds : List Feeding) (first last : Gathering) (trace : List (ℕ × ℕ)) →
+    pub ran-over : {R : Type 0} (remaining : R → Option (List ℕ)) (b : ℕ) (readers : List R) (files : List (List ℕ)) (feeds : List Feeding) (first last : List Gathered) (trace : List (ℕ × ℕ)) →
         0 < b → length readers ≡ files_wanted plan → Tell remaining readers files →
         feeds ≡ opened remaining b 0 (flat_map (λ (s : CheckedSource). replicate s.files s.schema) sources) readers →
-        first.sources.items ≡ map (λ (s : CheckedSource). no_rows s.files s.schema) joins ++ no_rows main.files (fields_after_all front.fields front.steps) ∷ [] →
-        Finishes MayCome (λ file item out. out ≡ work_on front (inputs - main.files) file item)
-        (λ old file serial out new. new.sources.items ≡ taken_in file out old.sources.items) feeds first trace last →
+        first ≡ map (λ (s : CheckedSource). no_rows s.files s.schema) joins ++ no_rows main.files (fields_after_all front.fields front.steps) ∷ [] →
+        Finishes MayCome (λ file item out. out ≡ work_on front (inputs - main.files) file item) Takes feeds first trace last →
         RanOver plan b (file_streams plan files) front (inputs - main.files) feeds first last trace
     ran-over remaining b readers files feeds first last trace some count tell feeds-are nothing finished =
         let many : length files ≡ files_wanted plan = sym (length-map files Some) ∙ ap length (sym tell) ∙ length-map readers remaining ∙ count in

@@ -9,7 +9,8 @@ use Rattle.fq_expr.specs.Front.{NumberedSteps}
 use Rattle.fq_expr.specs.Steps.{fields_after_all}
 use Rattle.fq_lanes.specs.Engine.{Finishes}
 use Rattle.fq_plan.specs.Feeding.{Feeding, MayCome, scanned_items}
-use Rattle.fq_plan.specs.Gathering.{gathered_stream, taken_in}
+use Rattle.fq_plan.specs.Gathering.{gathered_stream}
+use Rattle.fq_plan.specs.Kept.{Takes}
 use Rattle.fq_plan.specs.Meaning.{meaning, outcome}
 use Rattle.fq_plan.specs.Plan.{Query, but_last, last_or, file_fields, files_wanted, front_of, join_files, main_fields, rest_of}
 use Rattle.fq_plan.specs.Run.{trace_of}
@@ -18,7 +19,6 @@ use Rattle.fq_plan.specs.Working.{work_on}
 use Rattle.fq_plan.specs.declared.faults.Fault.{Fault}
 use Rattle.fq_plan.specs.declared.feeds.Scanned.{Scanned}
 use Rattle.fq_plan.specs.declared.gathering.Gathered.{Gathered}
-use Rattle.fq_plan.specs.declared.gathering.Gathering.{Gathering}
 
 -- the number of the main source's files, and its columns after the leading steps
 abbrev pub main_files : Query → ℕ
@@ -59,18 +59,17 @@ outcome_of_gathered p joins main = elim (first_fault (map gathered_stream joins)
 ]
 
 -- a run of the engine over feeds that tell the items of these streams, from nothing taken on
-pub record RanOver (p : Query) (batch_size : ℕ) (us : List (Stream ScanFault)) (front : NumberedSteps) (joins : ℕ) (feeds : List Feeding) (first last : Gathering) (trace : List (ℕ × ℕ)) : Type 0 where
+pub record RanOver (p : Query) (batch_size : ℕ) (us : List (Stream ScanFault)) (front : NumberedSteps) (joins : ℕ) (feeds : List Feeding) (first last : List Gathered) (trace : List (ℕ × ℕ)) : Type 0 where
   pub some_rows : 0 < batch_size
   pub some_source : 0 < length p.sources
   pub all_files : length us ≡ files_wanted p
   pub steps : front ≡ leading_steps p
   pub join_count : joins ≡ join_files p
   pub told : map (λ f. f.items) feeds ≡ map Some (items_of_files p batch_size us)
-  pub nothing : first.sources.items ≡ nothing_taken p
-  pub finished : Finishes MayCome (λ file item out. out ≡ work_on front joins file item)
-      (λ old file serial out new. new.sources.items ≡ taken_in file out old.sources.items) feeds first trace last
+  pub nothing : first ≡ nothing_taken p
+  pub finished : Finishes MayCome (λ file item out. out ≡ work_on front joins file item) Takes feeds first trace last
 
 -- then what was gathered has the plan's meaning as its outcome, and the trace lists each file's batches where that is a frame
-pub record Gives (p : Query) (batch_size : ℕ) (us : List (Stream ScanFault)) (last : Gathering) (numbers : List (ℕ × ℕ)) : Type 0 where
-  pub outcome : (joins : List Gathered) (main : Gathered) → last.sources.items ≡ joins ++ main ∷ [] → outcome_of_gathered p joins main ≡ meaning p us
+pub record Gives (p : Query) (batch_size : ℕ) (us : List (Stream ScanFault)) (last : List Gathered) (numbers : List (ℕ × ℕ)) : Type 0 where
+  pub outcome : (joins : List Gathered) (main : Gathered) → last ≡ joins ++ main ∷ [] → outcome_of_gathered p joins main ≡ meaning p us
   pub trace : IsOk (meaning p us) → numbers ≡ trace_of batch_size us

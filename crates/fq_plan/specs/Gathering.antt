@@ -1,7 +1,8 @@
 -- The streams of a plan's sources, as far as worked items were taken.
 use Rattle.std.specs.Prelude.{ℕ, ◌-◌, nat_lt, List, [], ◌∷◌, if◌then◌else◌}
+use Rattle.fq_column.specs.Frame.{Fields}
 use Rattle.fq_column.specs.Schema.{same_fields}
-use Rattle.fq_column.specs.Stream.{Stream, then_stream}
+use Rattle.fq_column.specs.Stream.{Stream, done, then_stream}
 use Rattle.fq_plan.specs.Working.{worked_stream}
 use Rattle.fq_plan.specs.declared.faults.Fault.{Fault}
 use Rattle.fq_plan.specs.declared.gathering.Gathered.{Gathered}
@@ -15,14 +16,14 @@ gathered_stream g = record { rows = g.batch.rows; fault = g.fault }
 abbrev pub with_stream : Gathered → Stream Fault → Gathered
 with_stream g u = record { files = g.files; batch = record { fields = g.batch.fields; rows = u.rows }; fault = u.fault }
 
--- a source's stream, then that of a worked item
-abbrev pub joined : Gathered → Worked → Gathered
-joined g out = with_stream g (then_stream (gathered_stream g) (worked_stream out))
+-- what a worked item adds to a source with these columns; a batch of others is dropped
+abbrev pub added_stream : Fields → Worked → Stream Fault
+added_stream fields (worked.Ended fault) = worked_stream (worked.Ended fault)
+added_stream fields (worked.Piece p) = if same_fields p.batch.fields fields then worked_stream (worked.Piece p) else done []
 
--- a source after one of its worked items, of which batches of other columns are dropped
+-- a source after one of its worked items
 abbrev pub gathered : Gathered → Worked → Gathered
-gathered g (worked.Ended fault) = joined g (worked.Ended fault)
-gathered g (worked.Piece p) = if same_fields p.batch.fields g.batch.fields then joined g (worked.Piece p) else g
+gathered g out = with_stream g (then_stream (gathered_stream g) (added_stream g.batch.fields out))
 
 -- the sources after a worked item of a file, which is counted from the first of them on
 abbrev pub taken_in : ℕ → Worked → List Gathered → List Gathered

@@ -5,16 +5,15 @@ use Rattle.fq_plan.specs.Gathering.{taken_in}
 use Rattle.fq_plan.specs.Run.{IsRunFault}
 use Rattle.fq_plan.specs.declared.faults.Fault.{Fault}
 use Rattle.fq_plan.specs.declared.gathering.Gathered.{Gathered}
-use Rattle.fq_plan.specs.declared.gathering.Gathering.{Gathering}
 use Rattle.fq_plan.specs.declared.workers.Worked.{Worked}
 
 -- a source's files and columns
 abbrev pub shape : Gathered → ℕ × Fields
 shape g = (g.files, g.batch.fields)
 
--- what the tail of a run takes
-abbrev pub Takes : Gathering → ℕ → ℕ → Worked → Gathering → Type 0
-Takes old file serial out new = new.sources.items ≡ taken_in file out old.sources.items
+-- sources take a worked item
+abbrev pub Takes : List Gathered → ℕ → ℕ → Worked → List Gathered → Type 0
+Takes old file serial out new = new ≡ taken_in file out old
 
 -- no fault, or one of a run that has started, up to its writing
 abbrev pub IsSound : Option Fault → Type 0

@@ -23,3 +23,6 @@ pub mod Pipelines
 pub mod Starting
 pub mod Streaming
 pub mod Later
+pub mod WaitingSources
+pub mod Standing
+pub mod GatheredRun

@@ -1,10 +1,10 @@
 -- What the stages of a checked plan make of the streams that its sources came to.
-use Rattle.std.specs.Prelude.{◌≡◌, ℕ, List, [], ◌∷◌, ◌++◌, map, Some, None, Result, Err}
-use Rattle.fq_column.specs.Frame.{Fields, Frame}
+use Rattle.std.specs.Prelude.{ℕ, List, map, Some, None, Result, Err}
+use Rattle.fq_column.specs.Frame.{Frame}
 use Rattle.fq_plan.specs.Gathering.{gathered_stream}
 use Rattle.fq_plan.specs.Meaning.{outcome}
 use Rattle.fq_plan.specs.Sources.{first_fault}
-use Rattle.fq_plan.specs.Stages.{Leads, stage_steps}
+use Rattle.fq_plan.specs.Stages.{stage_steps}
 use Rattle.fq_plan.specs.declared.faults.Fault.{Fault}
 use Rattle.fq_plan.specs.declared.gathering.Gathered.{Gathered}
 use Rattle.fq_plan.specs.declared.stages.Stage.{Stage}
@@ -15,8 +15,3 @@ outcome_of_stages n stages joins main = elim (first_fault (map gathered_stream j
   | Some f ↦ Err f
   | None ↦ outcome (map (λ g. g.batch) joins) n main.batch.fields (stage_steps stages) (gathered_stream main)
 ]
-
--- the sources are these and then the main one, whose columns the stages take to some columns
-pub record AreStaged (sources : List Gathered) (stages : List Stage) (joins : List Gathered) (main : Gathered) (n : ℕ) (after : Fields) : Type 0 where
-  pub sources_are : sources ≡ joins ++ main ∷ []
-  pub leads : Leads (map (λ g. g.batch.fields) joins) n main.batch.fields stages after

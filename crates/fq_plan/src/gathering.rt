@@ -1,4 +1,4 @@
-// The tail of a run: the worked items of each source, gathered.
+// The worked items of sources, gathered.
 ghost use Rattle.std.specs.Prelude.{◌≡◌, ◌<◌, None, [], length, IfOk, OnOk, OnErr};
 ghost use Rattle.fq_column.specs.Frame.{kinds_of};
 ghost use Rattle.fq_csv.specs.Rows.{Holds};
@@ -8,7 +8,6 @@ use crate::faults::Fault;
 use crate::workers::Worked;
 use fq_column::{Batch, Column, Memory, Schema};
 use fq_expr::Piece;
-use fq_lanes::Tail;
 use std::alloc::Global;
 
 /// A source's rows so far, and the fault that ends them; after a fault nothing is added.
@@ -18,12 +17,6 @@ pub(crate) struct Gathered {
     pub(crate) files: u16,
     pub(crate) batch: Batch,
     pub(crate) fault: Option<Fault>,
-}
-
-/// The sources of a plan, of which the last is the main one, as far as worked items were taken.
-#[derive(Drop)]
-pub(crate) struct Gathering {
-    pub(crate) sources: Vec<Gathered>,
 }
 
 impl Gathered {
@@ -70,23 +63,8 @@ impl Gathered {
     }
 }
 
-impl Tail for Gathering {
-    type Out = Worked;
-
-    ghost takes = { λ old file serial out new. new.sources.items ≡ taken_in file out old.sources.items };
-
-    ghost refuses = { λ _ _. Unit {0} };
-
-    fn take(&mut self, file: u16, _serial: u32, out: Worked) -> Result<(), fq_lanes::Memory> {
-        match take_in(self.sources.as_mut_slice(), file, out) {
-            Ok(()) => Ok(()),
-            Err(Memory) => Err(fq_lanes::Memory),
-        }
-    }
-}
-
-// Adds a worked item to the source that its file is of, counted from the first of these.
-fn take_in(sources: &mut [Gathered], file: u16, out: Worked) -> Result<(), Memory>
+/// Adds a worked item to the source that its file is of, counted from the first of these.
+pub(crate) fn take_in(sources: &mut [Gathered], file: u16, out: Worked) -> Result<(), Memory>
     ensures { OnOk result (sources.new ≡ taken_in file out sources.old) }
 {
     let Some((source, others)) = sources.split_first_mut() else {

@@ -8,7 +8,6 @@ mod checks;
 mod engine_run;
 mod faults;
 mod feeds;
-mod finish;
 mod gathering;
 mod laws;
 mod main_stream;
@@ -18,8 +17,10 @@ mod passed;
 mod pipeline;
 mod plans;
 mod reading;
+mod run_tail;
 mod runs;
 mod stages;
+mod waiting;
 mod workers;
 
 pub use checks::Checked;

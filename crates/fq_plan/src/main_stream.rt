@@ -3,12 +3,12 @@ ghost use Rattle.std.specs.Prelude.{◌≡◌, ◌⊎◌, ◌++◌, ℕ, List, [
 ghost use Rattle.fq_column.specs.Frame.{Fields, Row};
 ghost use Rattle.fq_column.specs.Stream.{Stream, done, then_stream};
 ghost use Rattle.fq_plan.specs.Pipelines.{HasRun, PlanPart, meant};
-ghost use Rattle.fq_plan.specs.Gathering.{gathered_stream};
+ghost use Rattle.fq_plan.specs.Gathering.{added_stream, gathered_stream};
 ghost use Rattle.fq_plan.specs.Later.{later_steps};
 ghost use Rattle.fq_plan.specs.Meaning.{frame_or_fault};
 ghost use Rattle.fq_plan.specs.Sources.{first_fault};
 ghost use Rattle.fq_plan.specs.Stages.{Leads};
-ghost use Rattle.fq_plan.specs.Running.{IsUnder, passed_stream, rows_in};
+ghost use Rattle.fq_plan.specs.Running.{IsUnder, rows_in};
 ghost use Rattle.fq_plan.specs.declared.faults.Fault.{Fault as AnyFault};
 ghost use Rattle.fq_plan.specs.declared.faults.Fault.TheVariants as fault;
 
@@ -17,6 +17,7 @@ use crate::gathering::{Gathered, empty_batch};
 use crate::passed::Passed;
 use crate::pipeline::Pipeline;
 use crate::stages::Stage;
+use crate::workers::Worked;
 use fq_column::{Batch, Schema};
 use std::alloc::Global;
 use std::marker::Model;
@@ -88,13 +89,12 @@ impl<'a> MainStream<'a> {
         Ok(rows)
     }
 
-    /// Takes one more piece, and keeps what the operators pass on of it; or answers the fault in which all ends.
-    pub(crate) fn take(self, alloc: Global, came: Passed) -> Result<MainStream<'a>, Fault>
-        requires { IsUnder self.before came.batch }
+    /// Takes a worked item, and keeps what the operators pass on of it; or answers the fault in which all ends.
+    pub(crate) fn take(self, alloc: Global, out: Worked) -> Result<MainStream<'a>, Fault>
         ensures goes_on { IfOk result (λ s. (w : PlanPart) (taken : List Row) → HasRun self.entry.operators w taken self.entry.rows.rows → w.before ≡ self.entry.before → w.after ≡ self.entry.rows.fields →
-            (came.fault ≡ None) × HasRun s.operators w (taken ++ rows_in came.batch) s.rows.rows × (s.before ≡ self.entry.before) × (s.rows.fields ≡ self.entry.rows.fields)) }
+            ((added_stream self.entry.before out).fault ≡ None) × HasRun s.operators w (taken ++ (added_stream self.entry.before out).rows) s.rows.rows × (s.before ≡ self.entry.before) × (s.rows.fields ≡ self.entry.rows.fields)) }
         ensures ends { IfErr result (λ f. (f ≡ fault.Memory) ⊎ ((w : PlanPart) (taken : List Row) → HasRun self.entry.operators w taken self.entry.rows.rows → w.before ≡ self.entry.before →
-            (rest : Stream AnyFault) → (meant w (then_stream (then_stream (done taken) (passed_stream came)) rest)).fault ≡ Some f)) }
+            (rest : Stream AnyFault) → (meant w (then_stream (then_stream (done taken) (added_stream self.entry.before out)) rest)).fault ≡ Some f)) }
     {
         let MainStream {
             before,
@@ -103,6 +103,7 @@ impl<'a> MainStream<'a> {
         } = self;
         let mut pipeline = pipeline;
         let mut rows = rows;
+        let came = Passed::from_worked(out, &before);
         let passed = pipeline.push(alloc, came)?;
         add(&mut rows, passed)?;
         Ok(MainStream {

@@ -1,13 +1,11 @@
 // What a run starts from: the feeds of the files, and the sources with no rows.
-ghost use Rattle.std.specs.Prelude.{◌≡◌, ◌≤◌, None, [], ◌∷◌, ◌++◌, flat_map, map, replicate, vec_len, length, IfOk};
-ghost use Rattle.fq_expr.specs.Steps.{fields_after_all};
+ghost use Rattle.std.specs.Prelude.{◌≡◌, ◌≤◌, ◌++◌, flat_map, map, replicate, vec_len, length, IfOk};
 ghost use Rattle.fq_plan.specs.EngineRun.{no_rows, opened};
 
 use crate::feeds::FileFeed;
 use crate::gathering::Gathered;
 use crate::stages::CheckedSource;
 use fq_column::{Memory, Schema};
-use fq_expr::Front;
 use std::alloc::Global;
 use std::io::Read;
 
@@ -62,26 +60,13 @@ pub(crate) fn open_feeds<R: Read + Drop>(
     Ok(feeds)
 }
 
-/// The sources before the main one, and the main one with its columns after the leading steps; all with no rows.
-pub(crate) fn empty_sources(
-    alloc: Global,
-    joins: &[CheckedSource],
-    main_files: u16,
-    front: &Front,
-) -> Result<Vec<Gathered>, Memory>
-    ensures { IfOk result (λ sources. sources.items ≡ map (λ s. no_rows s.files s.schema) joins.now
-        ++ no_rows main_files (fields_after_all front.now.fields front.now.steps) ∷ []) }
+/// The sources before the main one, with no rows.
+pub(crate) fn empty_sources(alloc: Global, joins: &[CheckedSource]) -> Result<Vec<Gathered>, Memory>
+    ensures { IfOk result (λ sources. sources.items ≡ map (λ s. no_rows s.files s.schema) joins.now) }
 {
-    let mut sources = Vec::with_capacity(alloc, joins.len() + 1)?;
+    let mut sources = Vec::with_capacity(alloc, joins.len())?;
     for source in joins {
         sources.push(Gathered::new(alloc, source.files, source.schema.copy(alloc)?)?)?;
     }
-    let main = Gathered::new(alloc, main_files, front.schema().copy(alloc)?)?;
-    let piece = front.apply(alloc, main.batch)?;
-    sources.push(Gathered {
-        files: main_files,
-        batch: piece.batch,
-        fault: None,
-    })?;
     Ok(sources)
 }

@@ -1,6 +1,7 @@
 // Running operators one after the other.
 ghost use Rattle.std.specs.Prelude.{◌≡◌, ℕ, List, [], Ok, map, IfOk};
 ghost use Rattle.fq_column.specs.Frame.{Fields, Row};
+ghost use Rattle.fq_expr.specs.Steps.{fields_after_all};
 ghost use Rattle.fq_plan.specs.Pipelines.{HasFinished, HasPushed, HasRun, PlanPart};
 ghost use Rattle.fq_plan.specs.Stages.{Leads, Turns, stage_steps};
 ghost use Rattle.fq_plan.specs.Running.{IsUnder};
@@ -10,6 +11,7 @@ use crate::operators::Running;
 use crate::passed::Passed;
 use crate::stages::{Operator, Stage};
 use fq_column::{Batch, Memory, Schema, StepFault};
+use fq_expr::Front;
 use fq_ops::{group_schema, join_schema, roll_schema};
 use std::alloc::Global;
 
@@ -80,11 +82,7 @@ fn schema_after(
     ensures { IfOk result (λ s. (after : Fields) → Turns (map (λ f. f.fields) joins.now) stage.now.number schema stage.now.operator after → s ≡ after) }
 {
     match &stage.operator {
-        Operator::Rows(front) => {
-            let none = empty_batch(alloc, schema)?;
-            let (after, _) = front.apply(alloc, none)?.batch.into_parts();
-            Ok(after)
-        }
+        Operator::Rows(front) => schema_after_rows(alloc, front, schema),
         Operator::Join { source, on, how: _ } => {
             let right = joins[*source].schema();
             settled(join_schema(alloc, &schema, right, on.as_slice()))
@@ -109,6 +107,16 @@ fn schema_after(
             name.as_str(),
         )),
     }
+}
+
+/// The schema after row-wise steps, on rows of the schema that they take.
+pub(crate) fn schema_after_rows(alloc: Global, front: &Front, schema: Schema) -> Result<Schema, Memory>
+    requires { schema ≡ front.now.fields }
+    ensures { IfOk result (λ s. s ≡ fields_after_all front.now.fields front.now.steps) }
+{
+    let none = empty_batch(alloc, schema)?;
+    let (after, _) = front.apply(alloc, none)?.batch.into_parts();
+    Ok(after)
 }
 
 // A schema that is not refused, but where memory is.

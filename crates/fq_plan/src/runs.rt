@@ -3,19 +3,19 @@ ghost use Rattle.std.specs.Prelude.{◌≡◌, ◌≢◌, ◌≤◌, ◌⊎◌, 
 ghost use Rattle.std.specs.Io.KnownBytes.{Appends, Keeps};
 ghost use Rattle.fq_column.specs.Frame.{Frame};
 ghost use Rattle.fq_csv.specs.Printed.{printed};
-ghost use Rattle.fq_plan.specs.Kept.{shape, AreSound};
+ghost use Rattle.fq_plan.specs.GatheredRun.{HasGathered};
 ghost use Rattle.fq_plan.specs.Meaning.{meaning};
 ghost use Rattle.fq_plan.specs.Plan.{files_wanted};
-ghost use Rattle.fq_plan.specs.EngineRun.{Gives, nothing_taken};
 ghost use Rattle.fq_plan.specs.Run.{start_refusal, IsEngineFault, IsOfMeaning, IsRunFault, IsStartFault, Tell, trace_of};
 ghost use Rattle.fq_plan.specs.Sources.{file_streams};
 ghost use Rattle.fq_plan.specs.declared.faults.Fault.TheVariants as fault;
 
 use crate::checks::Checked;
 use crate::faults::Fault;
-use crate::finish::finish;
-use crate::gathering::Gathering;
 use crate::openings::{empty_sources, file_schemas, open_feeds};
+use crate::pipeline::schema_after_rows;
+use crate::run_tail::RunTail;
+use crate::waiting::Waiting;
 use crate::workers::Worked;
 use fq_column::Batch;
 use fq_csv::{MAX_BATCH_SIZE, print_frame};
@@ -142,11 +142,11 @@ impl Checked {
         ensures kind { IfErr result IsRunFault }
     {
         let (tail, report) = self.gather(rt, alloc, gate, inputs, batch_size, workers)?;
-        let frame = finish(alloc, self.stages.as_slice(), tail.sources)?;
+        let frame = tail.finish()?;
         Ok((frame, report))
     }
 
-    // What free threads gather of the files, with their report.
+    // What free threads make of the files, as far as the tail took it, with their report.
     fn gather<T: Threads + Wait + Sync, G: Gate<Worked> + Sync, R: Read + Drop + Send>(
         &self,
         rt: &T,
@@ -155,31 +155,24 @@ impl Checked {
         inputs: Vec<R>,
         batch_size: u32,
         workers: u16,
-    ) -> Result<(Gathering, Report), Fault>
+    ) -> Result<(RunTail<'_>, Report), Fault>
         requires inputs { vec_len inputs ≡ files_wanted self.now }
         requires batch_size { (1 ≤ batch_size) × (batch_size ≤ 65536) }
         requires workers { (1 ≤ workers) × (workers ≤ 16) }
-        ensures gives { (files : List (List ℕ)) → Tell R.remaining inputs.items files → IfOk result
-            (λ r. Gives self.now batch_size (file_streams self.now files) r.0 r.1.trace.items) }
-        ensures shapes { IfOk result (λ r. map shape r.0.sources.items ≡ map shape (nothing_taken self.now)) }
-        ensures sound { IfOk result (λ r. AreSound r.0.sources.items) }
+        ensures gathered { IfOk result (λ r. HasGathered R.remaining inputs.items self.entry.now batch_size r.0 r.1.trace.items) }
         ensures fault { IfErr result IsEngineFault }
     {
-        let Some((main, joins)) = self.sources.split_last() else {
+        let Some((_main, joins)) = self.sources.split_last() else {
             unreachable!()
         };
         let schemas = file_schemas(alloc, self.sources.as_slice())?;
         let feeds = open_feeds(alloc, schemas, inputs, batch_size)?;
-        let sources = empty_sources(alloc, joins, main.files, &self.leading.front)?;
-        let (tail, outcome) = run_lanes(
-            rt,
-            alloc,
-            feeds,
-            &self.leading,
-            gate,
-            Gathering { sources },
-            workers,
-        );
+        let front = &self.leading.front;
+        let before = schema_after_rows(alloc, front, front.schema().copy(alloc)?)?;
+        let sources = empty_sources(alloc, joins)?;
+        let waiting = Waiting::new(sources, before, self.stages.as_slice());
+        let tail = RunTail::new(alloc, self.leading.join_files, waiting);
+        let (tail, outcome) = run_lanes(rt, alloc, feeds, &self.leading, gate, tail, workers);
         Ok((tail, outcome?))
     }
 }

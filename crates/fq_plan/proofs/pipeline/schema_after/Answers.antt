@@ -9,10 +9,11 @@ use Rattle.fq_ops.specs.Join.{join_schema}
 use Rattle.fq_plan.proofs.StageTransforms.{judged-is, schema-after-join}
 use Rattle.fq_plan.proofs.pipeline.schema_after.Goals as goal
 
-pub returns-in_ok-apply-in-Rows : goal.returns-in_ok-apply-in-Rows
-returns-in_ok-apply-in-Rows c after t = let front = c.in-Rows.front in
+pub returns-in-Rows : goal.returns-in-Rows
+returns-in-Rows c = let front = c.in-Rows.front in
+    IfOk-weaker c.schema_after_rows.result _ _ (λ s e after t.
     let turns = subst (λ (o : Operator). Turns (map (λ (f : Frame). f.fields) c.args.joins.now) c.args.stage.now.number c.args.schema o after) c.in-Rows.is t in
-    c.into_parts-after.ensures.schema ∙ c.in_ok-apply-in-Rows.ensures.fields ∙ ap (λ (f : Fields). fields_after_all f front.steps) turns.0 ∙ fields-after-all c.args.schema after front.steps turns.2
+    e ∙ ap (λ (f : Fields). fields_after_all f front.steps) turns.0 ∙ fields-after-all c.args.schema after front.steps turns.2) c.schema_after_rows.ensures
 
 pub returns-in-Join : goal.returns-in-Join
 returns-in-Join c = let j = c.in-Join in let on = map string_bytes j.on.items in let right = c.index-joins-source.result in

@@ -1,25 +1,29 @@
-use Rattle.std.proofs.Common.{◌≡◌, ◌≤◌, ◌-◌, ℕ, List, Result, map, length, flat_map, replicate, ap, sym, ◌∙◌, subst, arith}
+use Rattle.std.proofs.Common.{◌≡◌, ◌≤◌, ◌-◌, ◌++◌, ◌∷◌, [], ℕ, List, Result, map, length, flat_map, replicate, refl, ap, sym, ◌∙◌, subst, arith}
 use denote.Param.Send.{IsSync, sendable}
 use Rattle.std.proofs.Crossing.{crosses}
 use Rattle.fq_expr.proofs.expressions.Expr.TheLaws.TheKnot as knot
 use Rattle.fq_plan.specs.contracts.workers.LeadingSteps.{the_row}
 use Rattle.std.specs.Prelude.{All, IfOk}
+use Rattle.std.proofs.lemmas.Result.{err_from_is_err_and}
+use Rattle.fq_column.specs.Frame.{Fields}
 use Rattle.fq_lanes.specs.Engine.{Finishes}
 use Rattle.fq_lanes.specs.declared.faults.RunFault.{RunFault}
+use Rattle.fq_lanes.specs.declared.faults.RunFault.TheVariants as engine
 use Rattle.fq_lanes.specs.declared.reports.Report.{Report}
+use Rattle.fq_plan.specs.EngineRun.{opened}
 use Rattle.fq_plan.specs.Feeding.{Feeding, MayCome}
-use Rattle.fq_plan.specs.Kept.{shape, AreSound, Takes}
+use Rattle.fq_plan.specs.GatheredRun.{HasGathered}
 use Rattle.fq_plan.specs.Plan.{Query, files_wanted}
-use Rattle.fq_plan.specs.EngineRun.{Gives, nothing_taken, opened}
-use Rattle.fq_plan.specs.Sources.{file_streams}
-use Rattle.fq_plan.specs.Stages.{query_of}
+use Rattle.fq_plan.specs.Run.{IsEngineFault, engine_fault}
+use Rattle.fq_plan.specs.Stages.{query_of, Leads}
+use Rattle.fq_plan.specs.Standing.{TailTakes}
 use Rattle.fq_plan.specs.Working.{work_on}
 use Rattle.fq_plan.specs.declared.gathering.Gathered.{Gathered}
 use Rattle.fq_plan.specs.declared.stages.CheckedSource.{CheckedSource}
-use Rattle.fq_plan.proofs.MeaningLemmas.{ran-gives}
-use Rattle.fq_plan.proofs.OutcomeLemmas.{sound-nothing}
-use Rattle.fq_plan.proofs.RunLemmas.{shape-kept, sound-kept}
-use Rattle.fq_plan.proofs.StartLemmas.{count-schemas, join-count, length-opened, nothing-is, opened-open, ran-over}
+use Rattle.fq_plan.specs.declared.stages.Stage.{Stage}
+use Rattle.fq_plan.proofs.GatheredLemmas.{has-gathered}
+use Rattle.fq_plan.proofs.OutcomeLemmas.{leads-over}
+use Rattle.fq_plan.proofs.StartLemmas.{count-schemas, join-count, length-opened, opened-open}
 use Rattle.fq_plan.proofs.checks.Checked.gather.Given.{Over}
 use Rattle.fq_plan.proofs.checks.Checked.gather.Goals as goal
 use Rattle.fq_plan.proofs.checks.Checked.gather.Goals.{In_ok-outcome}
@@ -48,55 +52,69 @@ run_lanes-tail-requires-clause-open g c κs within =
     subst (λ (fs : List Feeding). All (λ (f : Feeding). f.most ≤ 2147483648) fs) (sym c.in_ok-feeds.ensures)
     (opened-open (g.R.Read.remaining) c.args.batch_size 0 c.in_ok-schemas.schemas.items c.args.inputs.items)
 
--- the files before the main ones
-joins-are : (g : Over) (c : In_ok-outcome g) → c.self.inside.leading.join_files ≡ c.self.inside.inputs - c.in-Some.main.now.files
-joins-are g c =
-    let s = c.self.inside in
-    let parts = sym c.deref.ensures.value ∙ c.in-Some.ensures.cases.0 in
-    c.self.invariant.1 ∙ sym (join-count s.sources.items s.leading.front s.stages.items s.inputs c.self.invariant.0 c.in-Some.joins.now c.in-Some.main.now parts)
+-- the sources before the main one, and that one
+parts-are : (g : Over) (c : In_ok-outcome g) → c.self.inside.sources.items ≡ c.in-Some.joins.now ++ c.in-Some._main.now ∷ []
+parts-are g c = sym c.deref.ensures.value ∙ c.in-Some.ensures.cases.0
 
 -- what the threads did
 finished : (g : Over) (c : In_ok-outcome g) →
-    Finishes MayCome (λ file item out. out ≡ work_on c.self.inside.leading.front (c.self.inside.inputs - c.in-Some.main.now.files) file item) Takes
-    c.in_ok-feeds.feeds.items (record { sources = c.in_ok-sources.sources }) c.in_ok-outcome.field-0.trace.items c.run_lanes-tail.result.0
+    Finishes MayCome (λ file item out. out ≡ work_on c.self.inside.leading.front (c.self.inside.inputs - c.in-Some._main.now.files) file item) TailTakes
+    c.in_ok-feeds.feeds.items c.new-tail.result c.in_ok-outcome.field-0.trace.items c.run_lanes-tail.result.0
 finished g c =
-    let Done : ℕ → Report → Type 0 = λ joins report. Finishes MayCome (λ file item out. out ≡ work_on c.self.inside.leading.front joins file item) Takes
-    c.in_ok-feeds.feeds.items (record { sources = c.in_ok-sources.sources }) report.trace.items c.run_lanes-tail.result.0 in
-    subst (λ joins. Done joins c.in_ok-outcome.field-0) (joins-are g c)
-    (subst (λ (r : Result Report RunFault). IfOk r (Done c.self.inside.leading.join_files)) c.in_ok-outcome.was c.run_lanes-tail.ensures.done)
-
--- nothing was taken before
-nothing : (g : Over) (c : In_ok-outcome g) → c.in_ok-sources.sources.items ≡ nothing_taken (query_of c.self.inside.sources.items c.self.inside.leading.front c.self.inside.stages.items)
-nothing g c =
     let s = c.self.inside in
-    let parts = sym c.deref.ensures.value ∙ c.in-Some.ensures.cases.0 in
-    c.in_ok-sources.ensures ∙ nothing-is s.sources.items s.leading.front s.stages.items s.inputs c.self.invariant.0 c.in-Some.joins.now c.in-Some.main.now parts
+    let joins-are = c.self.invariant.1 ∙ sym (join-count s.sources.items s.leading.front s.stages.items s.inputs c.self.invariant.0 c.in-Some.joins.now c.in-Some._main.now (parts-are g c)) in
+    let Done : ℕ → Report → Type 0 = λ joins report. Finishes MayCome (λ file item out. out ≡ work_on c.self.inside.leading.front joins file item) TailTakes
+    c.in_ok-feeds.feeds.items c.new-tail.result report.trace.items c.run_lanes-tail.result.0 in
+    subst (λ joins. Done joins c.in_ok-outcome.field-0) joins-are
+    (subst (λ (r : Result Report RunFault). IfOk r (Done s.leading.join_files)) c.in_ok-outcome.was c.run_lanes-tail.ensures.done)
 
-pub returns-clause-gives : goal.returns-clause-gives
-returns-clause-gives g c files tell =
+pub new-waiting-requires : goal.new-waiting-requires
+new-waiting-requires g c =
     let s = c.self.inside in
+    let checked = c.self.invariant.0 in
     let parts = sym c.deref.ensures.value ∙ c.in-Some.ensures.cases.0 in
+    let joins = c.in-Some.joins.now in
+    let main = c.in-Some._main.now in (
+      length s.leading.front.steps,
+      (
+        checked.leads.1,
+        subst (λ (t : List Gathered × Fields × List Stage). Leads (map (λ (g : Gathered). g.batch.fields) t.0) (length s.leading.front.steps) t.1 t.2 checked.leads.1)
+            (λ i. (sym c.in_ok-sources.ensures i, sym c.in_ok-before.ensures i, sym c.as_slice-2.ensures.value i))
+            (leads-over s.sources.items s.leading.front s.stages.items s.inputs checked joins main parts),
+      ),
+    )
+
+pub returns-clause-gathered : goal.returns-clause-gathered
+returns-clause-gathered g c =
+    let s = c.self.inside in
+    let checked = c.self.invariant.0 in
+    let parts = parts-are g c in
+    let joins = c.in-Some.joins.now in
+    let main = c.in-Some._main.now in
     let count : length c.args.inputs.items ≡ files_wanted (query_of s.sources.items s.leading.front s.stages.items) = omega (arith, c.args.inputs.ok.0, c.requires.inputs, ap files_wanted c.self.view_is) in
-    let ran = ran-over s.sources.items s.leading.front s.stages.items s.inputs c.self.invariant.0 c.in-Some.joins.now c.in-Some.main.now parts (g.R.Read.remaining) c.args.batch_size c.args.inputs.items files
-    c.in_ok-feeds.feeds.items (record { sources = c.in_ok-sources.sources }) c.run_lanes-tail.result.0 c.in_ok-outcome.field-0.trace.items
-    (omega (arith, c.requires.batch_size.0)) count tell
+    subst (λ (p : Query). HasGathered g.R.Read.remaining c.args.inputs.items p c.args.batch_size c.run_lanes-tail.result.0 c.in_ok-outcome.field-0.trace.items) c.self.view_is
+    (has-gathered s.sources.items s.leading.front s.stages.items s.inputs checked joins main parts g.R.Read.remaining c.args.inputs.items c.args.batch_size c.in_ok-feeds.feeds.items
+    c.new-tail.result c.run_lanes-tail.result.0 c.in_ok-outcome.field-0.trace.items
+    (omega (arith, c.requires.batch_size.0)) count
     (c.in_ok-feeds.ensures ∙ ap (λ fss. opened (g.R.Read.remaining) c.args.batch_size 0 fss c.args.inputs.items) (c.in_ok-schemas.ensures ∙ ap (flat_map (λ (s : CheckedSource). replicate s.files s.schema)) c.as_slice.ensures.value))
-    c.in_ok-sources.ensures (finished g c) in
-    subst (λ (p : Query). Gives p c.args.batch_size (file_streams p files) c.run_lanes-tail.result.0 c.in_ok-outcome.field-0.trace.items) c.self.view_is
-    (ran-gives _ c.args.batch_size _ s.leading.front (s.inputs - c.in-Some.main.now.files) c.in_ok-feeds.feeds.items (record { sources = c.in_ok-sources.sources }) c.run_lanes-tail.result.0 c.in_ok-outcome.field-0.trace.items ran)
-
-pub returns-clause-shapes : goal.returns-clause-shapes
-returns-clause-shapes g c =
-    shape-kept (record { sources = c.in_ok-sources.sources }) (finished g c).2.0 c.run_lanes-tail.result.0 (finished g c).2.2
-    ∙ ap (map shape) (nothing g c ∙ ap nothing_taken c.self.view_is)
-
-pub returns-clause-sound : goal.returns-clause-sound
-returns-clause-sound g c =
-    sound-kept (record { sources = c.in_ok-sources.sources }) (finished g c).2.0 c.run_lanes-tail.result.0 (finished g c).2.2
-    (subst (λ (gs : List Gathered). AreSound gs) (sym (nothing g c)) (sound-nothing (query_of c.self.inside.sources.items c.self.inside.leading.front c.self.inside.stages.items)))
+    (c.new-tail.ensures.files ∙ c.self.invariant.1)
+    (c.new-tail.ensures.waits s.stages.items _ _ (record {
+      sources = c.new-waiting.ensures ∙ (λ i. record { joins = c.in_ok-sources.ensures i; before = c.in_ok-before.ensures i; stages = c.as_slice-2.ensures.value i });
+      nothing = refl;
+    }))
+    (finished g c))
 
 leading-sync : IsSync the_row
 leading-sync = search (crosses, knot.crosses, sendable) depth 60 fits 20000
 
 pub run_lanes-tail-requires-sync-W : goal.run_lanes-tail-requires-sync-W
 run_lanes-tail-requires-sync-W g c κs within = record { shared = leading-sync.shared }
+
+engine-fault : (f : RunFault) → IsEngineFault (engine_fault f)
+engine-fault engine.Memory = tt
+engine-fault (engine.Read file) = tt
+
+pub returns-in_err-outcome-clause-fault : goal.returns-in_err-outcome-clause-fault
+returns-in_err-outcome-clause-fault g c =
+    let exit = err_from_is_err_and c.from_residual-in_err-outcome.result c.from_residual-in_err-outcome.ensures.1 in
+    rw (exit.1, exit.2) (engine-fault c.in_err-outcome.field-0.0)

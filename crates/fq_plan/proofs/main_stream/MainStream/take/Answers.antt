@@ -1,9 +1,10 @@
 use Rattle.std.proofs.Common.{◌≡◌, ◌∙◌, ◌++◌, List, inl, inr, ap, sym, subst}
 use Rattle.std.proofs.lemmas.Result.{err_from_is_err_and}
 use Rattle.fq_column.specs.Frame.{Fields, Frame, Row}
-use Rattle.fq_column.specs.Stream.{Stream}
-use Rattle.fq_plan.specs.Pipelines.{HasPushed, HasRun, PlanPart}
-use Rattle.fq_plan.specs.Running.{IsUnder, rows_in}
+use Rattle.fq_column.specs.Stream.{Stream, done, then_stream}
+use Rattle.fq_plan.specs.Gathering.{added_stream}
+use Rattle.fq_plan.specs.Pipelines.{HasPushed, HasRun, PlanPart, meant}
+use Rattle.fq_plan.specs.Running.{IsUnder, passed_stream, rows_in}
 use Rattle.fq_plan.specs.Streaming.{Streaming}
 use Rattle.fq_plan.specs.declared.faults.Fault.{Fault}
 use Rattle.fq_plan.proofs.main_stream.MainStream.take.Goals as goal
@@ -11,9 +12,13 @@ use Rattle.fq_plan.proofs.main_stream.MainStream.take.Goals.{In_ok-passed}
 
 -- what was passed on of the piece, where these steps had run over those rows
 pushed : (c : In_ok-passed) (w : PlanPart) (taken : List Row) → HasRun c.self.inside.pipeline.operators.items w taken c.self.inside.rows.rows → w.before ≡ c.self.inside.before →
-    HasPushed c.push.new.self.operators.items w taken c.self.inside.rows.rows c.args.came c.in_ok-passed.passed
+    HasPushed c.push.new.self.operators.items w taken c.self.inside.rows.rows c.from_worked-came.result c.in_ok-passed.passed
 pushed c w taken run before =
-    c.in_ok-passed.ensures w taken c.self.inside.rows.rows run (subst (λ (f : Fields). IsUnder f c.args.came.batch) (sym (ap (λ (s : Streaming). s.before) c.self.view_is) ∙ sym before) c.requires)
+    c.in_ok-passed.ensures w taken c.self.inside.rows.rows run (subst (λ (f : Fields). IsUnder f c.from_worked-came.result.batch) (sym before) c.from_worked-came.ensures.columns)
+
+-- what came is what the item adds
+came-is : (c : In_ok-passed) → passed_stream c.from_worked-came.result ≡ added_stream c.args.self.before c.args.out
+came-is c = c.from_worked-came.ensures.stream ∙ ap (λ (s : Streaming). added_stream s.before c.args.out) c.self.view_is
 
 pub add-requires : goal.add-requires
 add-requires c =
@@ -28,9 +33,9 @@ invariant_of-result c =
     let on = ((pushed d i.0 i.1.0 i.1.1.0 i.1.1.1.0).goes_on c.in_ok-add.ensures.none).1 in (
       i.0,
       (
-        i.1.0 ++ rows_in c.args.came.batch,
+        i.1.0 ++ rows_in c.from_worked-came.result.batch,
         (
-          subst (λ (out : List Row). HasRun c.push.new.self.operators.items i.0 (i.1.0 ++ rows_in c.args.came.batch) out) (sym (ap (λ (f : Frame). f.rows) c.in_ok-add.ensures.rows)) on,
+          subst (λ (out : List Row). HasRun c.push.new.self.operators.items i.0 (i.1.0 ++ rows_in c.from_worked-came.result.batch) out) (sym (ap (λ (f : Frame). f.rows) c.in_ok-add.ensures.rows)) on,
           (i.1.1.1.0, i.1.1.1.1 ∙ sym (ap (λ (f : Frame). f.fields) c.in_ok-add.ensures.rows)),
         ),
       ),
@@ -41,9 +46,10 @@ returns-clause-goes_on c w taken run before after =
     let d = (goal.at.returns-clause-goes_on c).In_ok-passed in
     let inside = subst (λ (s : Streaming). HasRun s.operators w taken s.rows.rows) (sym c.self.view_is) run in
     let same = before ∙ sym (ap (λ (s : Streaming). s.before) c.self.view_is) in
-    let on = (pushed d w taken inside same).goes_on c.in_ok-add.ensures.none in (
-      on.0,
-      subst (λ (out : List Row). HasRun c.push.new.self.operators.items w (taken ++ rows_in c.args.came.batch) out) (sym (ap (λ (f : Frame). f.rows) c.in_ok-add.ensures.rows)) on.1,
+    let on = (pushed d w taken inside same).goes_on c.in_ok-add.ensures.none in
+    let came = came-is d in (
+      ap (λ (u : Stream Fault). u.fault) (sym came) ∙ on.0,
+      subst (λ (p : List Row × List Row). HasRun c.push.new.self.operators.items w (taken ++ p.0) p.1) (λ i. ((came i).rows, (sym c.in_ok-add.ensures.rows i).rows)) on.1,
       ap (λ (s : Streaming). s.before) c.self.view_is,
       ap (λ (f : Frame). f.fields) c.in_ok-add.ensures.rows ∙ ap (λ (s : Streaming). s.rows.fields) c.self.view_is,
     )
@@ -56,6 +62,7 @@ returns-in_err-add-clause-ends c =
       | inl e ↦ inr (λ w taken run before rest.
           let inside = subst (λ (s : Streaming). HasRun s.operators w taken s.rows.rows) (sym c.self.view_is) run in
           let same = before ∙ sym (ap (λ (s : Streaming). s.before) c.self.view_is) in
-          sym (ap (λ (v : Stream Fault). v.fault) ((pushed d w taken inside same).settled c.in_err-add.field-0.0 e rest)) ∙ e)
+          ap (λ (u : Stream Fault). (meant w (then_stream (then_stream (done taken) u) rest)).fault) (sym (came-is d))
+          ∙ sym (ap (λ (v : Stream Fault). v.fault) ((pushed d w taken inside same).settled c.in_err-add.field-0.0 e rest)) ∙ e)
       | inr memory ↦ inl memory
     ])

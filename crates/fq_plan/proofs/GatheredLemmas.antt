@@ -1,0 +1,81 @@
+-- What the engine of a checked plan leaves its tail with.
+use Rattle.std.proofs.Common.{◌≡◌, ℕ, suc, ◌+◌, ◌-◌, ◌<◌, ◌≤◌, List, [], ◌∷◌, ◌++◌, map, length, flat_map, replicate, Option, refl, ap, sym, ◌∙◌, subst, arith}
+use Rattle.fq_column.specs.Frame.{Fields}
+use Rattle.fq_expr.specs.Front.{NumberedSteps}
+use Rattle.fq_lanes.specs.Engine.{Finishes}
+use Rattle.fq_lanes.specs.Lists.{Each}
+use Rattle.fq_lanes.specs.Numbering.{numbered}
+use Rattle.fq_plan.specs.EngineRun.{Gives, opened}
+use Rattle.fq_plan.specs.Feeding.{Feeding, MayCome}
+use Rattle.fq_plan.specs.GatheredRun.{HasGathered}
+use Rattle.fq_plan.specs.Kept.{AreSound, Takes}
+use Rattle.fq_plan.specs.Plan.{files_wanted, join_files}
+use Rattle.fq_plan.specs.Run.{Tell}
+use Rattle.fq_plan.specs.Sources.{file_streams}
+use Rattle.fq_plan.specs.Stages.{IsChecked}
+use Rattle.fq_plan.specs.Standing.{TailTakes, Waits}
+use Rattle.fq_plan.specs.Working.{work_on}
+use Rattle.fq_plan.specs.declared.feeds.Scanned.{Scanned}
+use Rattle.fq_plan.specs.declared.gathering.Gathered.{Gathered}
+use Rattle.fq_plan.specs.declared.run_tail.RunTail.{RunTail}
+use Rattle.fq_plan.specs.declared.stages.CheckedSource.{CheckedSource}
+use Rattle.fq_plan.specs.declared.stages.Stage.{Stage}
+use Rattle.fq_plan.specs.declared.workers.Worked.{Worked}
+use Rattle.fq_plan.proofs.EngineLemmas.{answers_in}
+use Rattle.fq_plan.proofs.GatheringLemmas.{all_taken}
+use Rattle.fq_plan.proofs.LogLemmas.{InOrder, StandsFor, in-order, took-sources, whole-log, worked-order}
+use Rattle.fq_plan.proofs.MeaningLemmas.{ran-gives}
+use Rattle.fq_plan.proofs.OutcomeLemmas.{before_main, leads-over, main_one, outcome-is, sound-nothing}
+use Rattle.fq_plan.proofs.RunLemmas.{sound-kept}
+use Rattle.fq_plan.proofs.StartLemmas.{join-file-count, length-opened, nothing-is, plan, ran-over, wanted-is}
+
+each-length : {A B : Type 0} (R : A → B → Type 0) (xs : List A) (ys : List B) → Each R xs ys → length ys ≡ length xs
+each-length R [] [] h = refl
+each-length R [] (y ∷ ys) h = absurd h
+each-length R (x ∷ xs) [] h = absurd h
+each-length R (x ∷ xs) (y ∷ ys) h = ap suc (each-length R xs ys h.1)
+
+module _ (sources : List CheckedSource) (front : NumberedSteps) (stages : List Stage) (inputs : ℕ) (c : IsChecked sources front stages inputs) (joins : List CheckedSource) (main : CheckedSource) (parts : sources ≡ joins ++ main ∷ []) where
+  abbrev at_first : List Gathered
+  at_first = before_main sources front stages inputs c joins main parts ++ main_one sources front stages inputs c joins main parts ∷ []
+
+  pub has-gathered : {R : Type 0} (remaining : R → Option (List ℕ)) (readers : List R) (b : ℕ) (feeds : List Feeding) (first last : RunTail) (trace : List (ℕ × ℕ)) →
+      0 < b → length readers ≡ files_wanted (plan sources front stages inputs c) →
+      feeds ≡ opened remaining b 0 (flat_map (λ (s : CheckedSource). replicate s.files s.schema) sources) readers →
+      first.join_files ≡ join_files (plan sources front stages inputs c) →
+      Waits stages (before_main sources front stages inputs c joins main parts) (main_one sources front stages inputs c joins main parts) first →
+      Finishes MayCome (λ file item out. out ≡ work_on front (inputs - main.files) file item) TailTakes feeds first trace last →
+      HasGathered remaining readers (plan sources front stages inputs c) b last trace
+  has-gathered remaining readers b feeds first last trace some count feeds-are files waits finished =
+      let items : List (List Scanned) = finished.0 in
+      let log : List (ℕ × ℕ × Worked) = finished.2.0 in
+      let works : ℕ → Scanned → Worked → Type 0 = λ file item out. out ≡ work_on front (inputs - main.files) file item in
+      let high : ℕ = join_files (plan sources front stages inputs c) + main.files in
+      let file-count = files ∙ join-file-count sources front stages inputs c joins main parts in
+      let order : InOrder first.join_files high log =
+      worked-order first.join_files high works (numbered 0 items) log finished.2.1
+      (in-order first.join_files high 0 items (omega (
+        arith, each-length MayCome feeds items finished.1, ap length feeds-are, count, wanted-is sources front stages inputs c joins main parts,
+        length-opened remaining b 0 (flat_map (λ (s : CheckedSource). replicate s.files s.schema) sources) readers,
+      ))) in
+      let taken : List Gathered = all_taken (answers_in log) at_first in
+      let stood : StandsFor stages (length front.steps) c.leads.1 last taken =
+      whole-log stages (length front.steps) c.leads.1 high log first last (before_main sources front stages inputs c joins main parts) (main_one sources front stages inputs c joins main parts)
+      finished.2.2 order file-count (ap (λ n. n + main.files) (join-file-count sources front stages inputs c joins main parts)) (leads-over sources front stages inputs c joins main parts) waits in
+      let took : Finishes MayCome works Takes feeds at_first trace taken = (items, finished.1, (log, finished.2.1, took-sources log at_first, finished.2.3)) in
+      let gives : (files : List (List ℕ)) → Tell remaining readers files → Gives (plan sources front stages inputs c) b (file_streams (plan sources front stages inputs c) files) taken trace =
+      λ files tell. ran-gives (plan sources front stages inputs c) b (file_streams (plan sources front stages inputs c) files) front (inputs - main.files) feeds at_first taken trace
+      (ran-over sources front stages inputs c joins main parts remaining b readers files feeds at_first taken trace some count tell feeds-are refl took) in
+      record {
+        stages = stages;
+        n = length front.steps;
+        after = c.leads.1;
+        joins = stood.joins;
+        main = stood.main;
+        leads = stood.leads;
+        stands = stood.stands;
+        sound = subst AreSound stood.sources (sound-kept at_first log taken (took-sources log at_first)
+            (subst AreSound (sym (nothing-is sources front stages inputs c joins main parts)) (sound-nothing (plan sources front stages inputs c))));
+        outcome = λ files tell. outcome-is sources front stages inputs c stood.joins stood.main ∙ (gives files tell).outcome stood.joins stood.main stood.sources;
+        trace = λ files tell ok. (gives files tell).trace ok;
+      }

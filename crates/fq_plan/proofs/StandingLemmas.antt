@@ -1,0 +1,151 @@
+-- What the tail of a run stands for, after one more item of the main source and at the end.
+use Rattle.std.proofs.Common.{◌≡◌, ℕ, List, [], ◌++◌, map, is_some, Option, Some, None, Result, Ok, Err, inl, inr, refl, ap, sym, ◌∙◌, subst, cond}
+use Rattle.std.specs.Prelude.{◌⊎◌}
+use Rattle.fq_column.specs.Frame.{Fields, Frame, Row}
+use Rattle.fq_column.specs.Stream.{Stream, done, then_stream}
+use Rattle.fq_expr.proofs.StepLemmas.{then_stream-assoc}
+use Rattle.fq_plan.specs.Gathering.{added_stream, gathered, gathered_stream, with_stream}
+use Rattle.fq_plan.specs.Later.{later_steps}
+use Rattle.fq_plan.specs.Meaning.{frame_or_fault, outcome}
+use Rattle.fq_plan.specs.Outcome.{outcome_of_stages}
+use Rattle.fq_plan.specs.Pipelines.{HasRun, PlanPart, meant}
+use Rattle.fq_plan.specs.Sources.{first_fault}
+use Rattle.fq_plan.specs.Stages.{stage_steps}
+use Rattle.fq_plan.specs.Standing.{IsOneOf, IsOpened, IsSettled, IsStreaming, IsWaiting, LeadsOver}
+use Rattle.fq_plan.specs.Streaming.{Streaming}
+use Rattle.fq_plan.specs.WaitingSources.{WaitingSources}
+use Rattle.fq_plan.specs.declared.faults.Fault.{Fault}
+use Rattle.fq_plan.specs.declared.faults.Fault.TheVariants.{Memory}
+use Rattle.fq_plan.specs.declared.gathering.Gathered.{Gathered}
+use Rattle.fq_plan.specs.declared.stages.Stage.{Stage}
+use Rattle.fq_plan.specs.declared.workers.Worked.{Worked}
+use Rattle.fq_plan.proofs.FinishLemmas.{none-before}
+use Rattle.fq_plan.proofs.GatheringLemmas.{then-nothing}
+use Rattle.fq_plan.proofs.OutcomeOfPipeline.{fault-is}
+
+then-faultless : (u v : Stream Fault) → u.fault ≡ None → then_stream u v ≡ record { rows = u.rows ++ v.rows; fault = v.fault }
+then-faultless u v e = ap (λ (o : Option Fault). cond (is_some o) u (record { rows = u.rows ++ v.rows; fault = v.fault })) e
+
+module _ (stages : List Stage) (n : ℕ) (after : Fields) (joins : List Gathered) (main : Gathered) where
+  abbrev later : PlanPart
+  later = later_steps n stages joins main.batch.fields after
+
+  -- the stages as they start on whole sources
+  abbrev pub HasStarted : Streaming → Type 0
+  HasStarted s = (first_fault (map gathered_stream joins) ≡ None) × (HasRun s.operators (later_steps n stages joins main.batch.fields after) [] s.rows.rows × ((s.before ≡ main.batch.fields) × (s.rows.fields ≡ after)))
+
+  pub streams-start : (s : Streaming) → gathered_stream main ≡ done [] → HasStarted s → IsStreaming stages n after joins main s
+  streams-start s nothing started = record {
+    none = started.0;
+    faultless = ap (λ (u : Stream Fault). u.fault) nothing;
+    before = started.1.1.0;
+    after_is = started.1.1.1;
+    run = subst (λ (rows : List Row). HasRun s.operators later rows s.rows.rows) (sym (ap (λ (u : Stream Fault). u.rows) nothing)) started.1.0;
+  }
+
+  -- a source before the main one ends in a fault
+  pub settled-start : (f : Fault) → first_fault (map gathered_stream joins) ≡ Some f → IsSettled stages n after joins main f
+  settled-start f e rest =
+      let main' : Gathered = with_stream main (then_stream (gathered_stream main) rest) in
+      ap (λ (o : Option Fault). elim o as (λ _. Result Frame Fault) [
+        | Some f ↦ Err f
+        | None ↦ outcome (map (λ (g : Gathered). g.batch) joins) n main'.batch.fields (stage_steps stages) (gathered_stream main')
+      ]) e
+
+  -- the outcome of what streams
+  pub streaming-outcome : LeadsOver stages n after joins main → (s : Streaming) → IsStreaming stages n after joins main s →
+      outcome_of_stages n stages joins main ≡ frame_or_fault after (meant later (done main.batch.rows))
+  streaming-outcome leads s i =
+      none-before joins main n stages after i.none leads
+      ∙ ap (λ (o : Option Fault). frame_or_fault after (meant later (let u : Stream Fault = record { rows = main.batch.rows; fault = o } in u))) i.faultless
+
+  pub settled-outcome : (f : Fault) → IsSettled stages n after joins main f → outcome_of_stages n stages joins main ≡ Err f
+  settled-outcome f settled = ap (λ (u : Stream Fault). outcome_of_stages n stages joins (with_stream main u)) (sym (then-nothing (gathered_stream main))) ∙ settled (done [])
+
+  -- ---- what was taken out
+
+  pub opened-stream : (s : Streaming) (w : Option WaitingSources) (kept : Option Streaming) (o : Option Fault) → IsOpened stages n after joins main (Ok (Some s)) w kept o → IsStreaming stages n after joins main s
+  opened-stream s None None None h = h
+  opened-stream s None None (Some f) h = absurd h
+  opened-stream s None (Some t) o h = absurd h
+  opened-stream s (Some x) kept o h = absurd h
+
+  pub opened-fault : (f : Fault) (w : Option WaitingSources) (kept : Option Streaming) (o : Option Fault) → IsOpened stages n after joins main (Err f) w kept o → (f ≡ Memory) ⊎ IsSettled stages n after joins main f
+  opened-fault f None None None h = h
+  opened-fault f None None (Some g) h = absurd h
+  opened-fault f None (Some t) o h = absurd h
+  opened-fault f (Some x) kept o h = absurd h
+
+  pub opened-none : (w : Option WaitingSources) (kept : Option Streaming) (o : Option Fault) (f : Fault) → IsOpened stages n after joins main (Ok None) w kept o → o ≡ Some f → IsSettled stages n after joins main f
+  opened-none None None None f h e = absurd h
+  opened-none None None (Some g) f h e = let same : g ≡ f = cc e in subst (IsSettled stages n after joins main) same h
+  opened-none None (Some t) o f h e = absurd h
+  opened-none (Some x) kept o f h e = absurd h
+
+  -- ---- one more item of the main source
+  module _ (out : Worked) where
+    abbrev added : Stream Fault
+    added = added_stream main.batch.fields out
+
+    -- what a piece that was taken leaves
+    abbrev pub HasGoneOn : Streaming → Streaming → Type 0
+    HasGoneOn s t = (w : PlanPart) (taken : List Row) → HasRun s.operators w taken s.rows.rows → w.before ≡ s.before → w.after ≡ s.rows.fields →
+        ((added_stream s.before out).fault ≡ None) × HasRun t.operators w (taken ++ (added_stream s.before out).rows) t.rows.rows × (t.before ≡ s.before) × (t.rows.fields ≡ s.rows.fields)
+
+    pub streams-on : (s t : Streaming) → IsStreaming stages n after joins main s → HasGoneOn s t → IsStreaming stages n after joins (gathered main out) t
+    streams-on s t i goes = record {
+      none = i.none;
+      faultless = ap (λ (u : Stream Fault). u.fault) joined ∙ here.0;
+      before = on.2 ∙ i.before;
+      after_is = on.3 ∙ i.after_is;
+      run = subst (λ (rows : List Row). HasRun t.operators later rows t.rows.rows) (sym (ap (λ (u : Stream Fault). u.rows) joined)) here.1;
+    }
+      where
+        on : ((added_stream s.before out).fault ≡ None) × HasRun t.operators later (main.batch.rows ++ (added_stream s.before out).rows) t.rows.rows × (t.before ≡ s.before) × (t.rows.fields ≡ s.rows.fields)
+        on = goes later main.batch.rows i.run (sym i.before) (sym i.after_is)
+
+        here : (added.fault ≡ None) × HasRun t.operators later (main.batch.rows ++ added.rows) t.rows.rows
+        here = subst (λ (f : Fields). ((added_stream f out).fault ≡ None) × HasRun t.operators later (main.batch.rows ++ (added_stream f out).rows) t.rows.rows) i.before (on.0, on.1)
+
+        joined : then_stream (gathered_stream main) added ≡ record { rows = main.batch.rows ++ added.rows; fault = added.fault }
+        joined = then-faultless (gathered_stream main) added i.faultless
+
+    -- a fault of the operators ends all
+    abbrev pub HasEndedIn : Streaming → Fault → Type 0
+    HasEndedIn s f = (w : PlanPart) (taken : List Row) → HasRun s.operators w taken s.rows.rows → w.before ≡ s.before → (rest : Stream Fault) →
+        (meant w (then_stream (then_stream (done taken) (added_stream s.before out)) rest)).fault ≡ Some f
+
+    pub settled-by : LeadsOver stages n after joins main → (s : Streaming) (f : Fault) → IsStreaming stages n after joins main s → HasEndedIn s f → IsSettled stages n after joins (gathered main out) f
+    settled-by leads s f i ends rest =
+        let v : Stream Fault = then_stream (gathered_stream (gathered main out)) rest in
+        none-before joins (with_stream (gathered main out) v) n stages after i.none leads
+        ∙ fault-is after (meant later v) f
+        (ap (λ (o : Option Fault). (meant later (then_stream (then_stream (let u : Stream Fault = record { rows = main.batch.rows; fault = o } in u) added) rest)).fault) i.faultless
+        ∙ ap (λ (g : Fields). (meant later (then_stream (then_stream (done main.batch.rows) (added_stream g out)) rest)).fault) (sym i.before)
+        ∙ ends later main.batch.rows i.run (sym i.before) rest)
+
+    pub settled-on : (f : Fault) → IsSettled stages n after joins main f → IsSettled stages n after joins (gathered main out) f
+    settled-on f settled rest =
+        ap (λ (u : Stream Fault). outcome_of_stages n stages joins (with_stream main u)) (then_stream-assoc (gathered_stream main) added rest)
+        ∙ settled (then_stream added rest)
+
+    -- what was taken out, and then the item
+    pub err-on : (f : Fault) (w : Option WaitingSources) (kept : Option Streaming) (o : Option Fault) → IsOpened stages n after joins main (Err f) w kept o → IsOpened stages n after joins (gathered main out) (Err f) w kept o
+    err-on f None None None (inl memory) = inl memory
+    err-on f None None None (inr settled) = inr (settled-on f settled)
+    err-on f None None (Some g) h = absurd h
+    err-on f None (Some t) o h = absurd h
+    err-on f (Some x) kept o h = absurd h
+
+    pub none-on : (w : Option WaitingSources) (kept : Option Streaming) (o : Option Fault) → IsOpened stages n after joins main (Ok None) w kept o → IsOpened stages n after joins (gathered main out) (Ok None) w kept o
+    none-on None None None h = absurd h
+    none-on None None (Some g) h = settled-on g h
+    none-on None (Some t) o h = absurd h
+    none-on (Some x) kept o h = absurd h
+
+    pub stream-on : (s : Streaming) (r : Result (Option Streaming) Fault) (w : Option WaitingSources) (kept : Option Streaming) (o : Option Fault) → IsOpened stages n after joins main (Ok (Some s)) w kept o →
+        (IsStreaming stages n after joins main s → IsOpened stages n after joins (gathered main out) r None None None) → IsOpened stages n after joins (gathered main out) r w kept o
+    stream-on s r None None None h made = made h
+    stream-on s r None None (Some f) h made = absurd h
+    stream-on s r None (Some t) o h made = absurd h
+    stream-on s r (Some x) kept o h made = absurd h

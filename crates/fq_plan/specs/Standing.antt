@@ -1,0 +1,71 @@
+-- What the tail of a run stands for: sources as far as their items came, of which the last is the main one.
+use Rattle.std.specs.Prelude.{◌≡◌, ◌⊎◌, ◌<◌, ◌≤◌, ℕ, List, [], map, Option, Some, None, Result, Ok, Err}
+use Rattle.fq_column.specs.Frame.{Fields}
+use Rattle.fq_column.specs.Stream.{Stream, done, then_stream}
+use Rattle.fq_plan.specs.Gathering.{gathered, gathered_stream, taken_in, with_stream}
+use Rattle.fq_plan.specs.Later.{later_steps}
+use Rattle.fq_plan.specs.Outcome.{outcome_of_stages}
+use Rattle.fq_plan.specs.Pipelines.{HasRun}
+use Rattle.fq_plan.specs.Sources.{first_fault}
+use Rattle.fq_plan.specs.Stages.{Leads}
+use Rattle.fq_plan.specs.Streaming.{Streaming}
+use Rattle.fq_plan.specs.WaitingSources.{WaitingSources}
+use Rattle.fq_plan.specs.declared.faults.Fault.{Fault}
+use Rattle.fq_plan.specs.declared.faults.Fault.TheVariants.{Memory}
+use Rattle.fq_plan.specs.declared.gathering.Gathered.{Gathered}
+use Rattle.fq_plan.specs.declared.run_tail.RunTail.{RunTail}
+use Rattle.fq_plan.specs.declared.stages.Stage.{Stage}
+use Rattle.fq_plan.specs.declared.workers.Worked.{Worked}
+
+-- the sources before the main one are these, whose rows may still come, and the main one has none
+pub record IsWaiting (stages : List Stage) (joins : List Gathered) (main : Gathered) (w : WaitingSources) : Type 0 where
+  pub sources : w ≡ record { joins = joins; before = main.batch.fields; stages = stages }
+  pub nothing : gathered_stream main ≡ done []
+
+-- below, the stages' first step is step n, and they take the main source's columns to some columns
+module _ (stages : List Stage) (n : ℕ) (after : Fields) (joins : List Gathered) (main : Gathered) where
+  abbrev pub LeadsOver : Type 0
+  LeadsOver = Leads (map (λ g. g.batch.fields) joins) n main.batch.fields stages after
+
+  -- the stages have run over the main source's rows
+  pub record IsStreaming (s : Streaming) : Type 0 where
+    pub none : first_fault (map gathered_stream joins) ≡ None
+    pub faultless : main.fault ≡ None
+    pub before : s.before ≡ main.batch.fields
+    pub after_is : s.rows.fields ≡ after
+    pub run : HasRun s.operators (later_steps n stages joins main.batch.fields after) main.batch.rows s.rows.rows
+
+  -- all ends in this fault, whatever still comes of the main source
+  abbrev pub IsSettled : Fault → Type 0
+  IsSettled f = (rest : Stream Fault) → outcome_of_stages n stages joins (with_stream main (then_stream (gathered_stream main) rest)) ≡ Err f
+
+  -- one of the three
+  abbrev pub IsOneOf : Option WaitingSources → Option Streaming → Option Fault → Type 0
+  IsOneOf (Some w) None None = IsWaiting stages joins main w
+  IsOneOf None (Some s) None = IsStreaming s
+  IsOneOf None None (Some f) = IsSettled f
+  IsOneOf _ _ _ = ⊥
+
+  abbrev pub Stands : RunTail → Type 0
+  Stands t = IsOneOf t.waiting t.stream t.fault
+
+  -- the stream that was taken out, or the fault that is kept or comes instead
+  abbrev pub IsOpened : Result (Option Streaming) Fault → Option WaitingSources → Option Streaming → Option Fault → Type 0
+  IsOpened (Ok (Some s)) None None None = IsStreaming s
+  IsOpened (Ok None) None None (Some f) = IsSettled f
+  IsOpened (Err f) None None None = (f ≡ Memory) ⊎ IsSettled f
+  IsOpened _ _ _ _ = ⊥
+
+  abbrev pub HasOpened : Result (Option Streaming) Fault → RunTail → Type 0
+  HasOpened r t = IsOpened r t.waiting t.stream t.fault
+
+-- nothing of the main source has come
+abbrev pub Waits : List Stage → List Gathered → Gathered → RunTail → Type 0
+Waits stages joins main t = (w : WaitingSources) × (t.waiting ≡ Some w) × (t.stream ≡ None) × (t.fault ≡ None) × IsWaiting stages joins main w
+
+-- an item of a source before the main one is taken while nothing of the main source has come, or one of the main source
+pub record TailTakes (old : RunTail) (file serial : ℕ) (out : Worked) (new : RunTail) : Type 0 where
+  pub same : new.join_files ≡ old.join_files
+  pub before_main : file < old.join_files → (stages : List Stage) (joins : List Gathered) (main : Gathered) → Waits stages joins main old → Waits stages (taken_in file out joins) main new
+  pub on_main : old.join_files ≤ file → (stages : List Stage) (n : ℕ) (after : Fields) (joins : List Gathered) (main : Gathered) → LeadsOver stages n after joins main → Stands stages n after joins main old →
+      Stands stages n after joins (gathered main out) new
