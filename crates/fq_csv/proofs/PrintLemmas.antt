@@ -1,11 +1,11 @@
 -- A record that is written field by field, and rows that are written one after the other.
-use Rattle.std.specs.Prelude.{◌==◌, ◌&&◌, ◌||◌, flat_map, not, slice_get, slice_index_or}
+use Rattle.std.specs.Prelude.{◌==◌, ◌&&◌, ◌||◌, not, slice_get, slice_index_or}
 use Rattle.std.proofs.Common.{◌≡◌, ◌<◌, ◌+◌, ◌++◌, ◌∙◌, ℕ, zero, suc, List, [], ◌∷◌, Option, Some, length, map, take, get_or, refl, sym, ap, subst, arith}
 use Rattle.std.specs.Io.KnownBytes.{Appends}
-use Rattle.csv.specs.Writing.{default_writer, field_text, fields_written, has_written, is_blank, next_sep, row_body, row_text, text_written, writer_setup}
+use Rattle.csv.specs.Writing.{default_writer, field_text, fields_written, has_written, is_blank, next_sep, row_body, text_written, writer_setup}
 use Rattle.csv.specs.declared.writer.Writer.{Writer}
 use Rattle.csv.proofs.WriteFacts.{appends-more, appends-none, blank-step, row-step}
-use Rattle.fq_column.specs.Frame.{Frame, IsFrame, Row, column_at, names_of, value_at}
+use Rattle.fq_column.specs.Frame.{Frame, IsFrame, Row, column_at, value_at}
 use Rattle.fq_csv.specs.Printed.{cell_text}
 use Rattle.fq_csv.specs.Writing.{IsBetween, PutsField}
 use lib.Pointwise.{pointwise_long}
@@ -56,9 +56,3 @@ pub cell-of_column : (rows : List Row) (r i : ℕ) → r < length rows → value
 cell-of_column [] r i h = absurd (omega (arith, h))
 cell-of_column (row ∷ rows) zero i h = refl
 cell-of_column (row ∷ rows) (suc r) i h = cell-of_column rows r i (omega (arith, h))
-
--- ---- one row after the other
-
--- the names and the first n rows of a frame
-abbrev pub printed_to : Frame → ℕ → List ℕ
-printed_to f n = row_text default_writer (names_of f.fields) ++ flat_map (λ row. row_text default_writer (map cell_text row)) (take n f.rows)

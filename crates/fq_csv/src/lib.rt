@@ -19,6 +19,6 @@ mod stages;
 pub use faults::ScanFault;
 pub use frames::scan_all;
 pub use laws::scan_laws;
-pub use printing::{WriteFault, print_frame, write_frame};
+pub use printing::{WriteFault, print_frame, print_names, print_rows, write_frame};
 pub use scanners::{MAX_BATCH_SIZE, MAX_ROWS, Scanner};
 pub use scans::Scan;

@@ -1,9 +1,9 @@
 // Batches as CSV text.
-ghost use Rattle.std.specs.Prelude.{◌≡◌, ◌<◌, ◌^◌, [], slice_index_or, map, length, IfOk, OnOk};
-ghost use Rattle.std.specs.Io.KnownBytes.{Appends};
+ghost use Rattle.std.specs.Prelude.{◌≡◌, ◌<◌, ◌^◌, [], slice_index_or, map, length, Ok, IfOk, OnOk};
+ghost use Rattle.std.specs.Io.KnownBytes.{Appends, Keeps};
 ghost use Rattle.csv.specs.Writing.{default_writer, fields_written, has_written, tail_text, text_written, writer_setup};
 ghost use Rattle.fq_column.specs.Frame.{IsFrame, names_of, value_at};
-ghost use Rattle.fq_csv.specs.Printed.{cell_text, printed};
+ghost use Rattle.fq_csv.specs.Printed.{cell_text, printed, printed_names, printed_rows};
 ghost use Rattle.fq_csv.specs.Writing.{IsBetween, PutsField, PutsRecord};
 
 use csv::{Writer, WriterBuilder};
@@ -20,10 +20,21 @@ pub struct WriteFault;
 pub fn print_frame(alloc: Global, batch: &Batch) -> Result<Vec<u8>, Memory>
     ensures { IfOk result (λ text. text.items ≡ printed batch.now) }
 {
-    match write_frame(Vec::new(alloc), batch) {
-        Ok(text) => Ok(text),
-        Err(WriteFault) => Err(Memory),
-    }
+    in_memory(write_frame(Vec::new(alloc), batch))
+}
+
+/// The CSV text of the names of columns, the first line of each frame of them.
+pub fn print_names(alloc: Global, schema: &Schema) -> Result<Vec<u8>, Memory>
+    ensures { IfOk result (λ text. text.items ≡ printed_names schema.now) }
+{
+    in_memory(write_names(Vec::new(alloc), schema))
+}
+
+/// The CSV text of the rows of a batch, without the names of its columns.
+pub fn print_rows(alloc: Global, batch: &Batch) -> Result<Vec<u8>, Memory>
+    ensures { IfOk result (λ text. text.items ≡ printed_rows batch.now.rows) }
+{
+    in_memory(write_rows(Vec::new(alloc), batch))
 }
 
 /// Writes the CSV text of a batch after what a writer holds, and hands the writer back; takes no memory of its own.
@@ -32,19 +43,53 @@ pub fn print_frame(alloc: Global, batch: &Batch) -> Result<Vec<u8>, Memory>
 pub fn write_frame<W: Write + Drop>(out: W, batch: &Batch) -> Result<W, WriteFault>
     ensures { IfOk result (λ after. Appends (W.contents out) (W.contents after) (printed batch.now)) }
 {
+    let out = write_names(out, batch.schema())?;
+    write_rows(out, batch)
+}
+
+// Writes the names of columns after what a writer holds.
+fn write_names<W: Write + Drop>(out: W, schema: &Schema) -> Result<W, WriteFault>
+    ensures { IfOk result (λ after. Appends (W.contents out) (W.contents after) (printed_names schema.now)) }
+{
     let mut writer = WriterBuilder::new().from_writer(out);
-    write_names(&mut writer, batch.schema())?;
+    put_names(&mut writer, schema)?;
+    writer_back(writer)
+}
+
+// Writes the rows of a batch after what a writer holds.
+fn write_rows<W: Write + Drop>(out: W, batch: &Batch) -> Result<W, WriteFault>
+    ensures { IfOk result (λ after. Appends (W.contents out) (W.contents after) (printed_rows batch.now.rows)) }
+{
+    let mut writer = WriterBuilder::new().from_writer(out);
     for row in 0..batch.rows() {
         write_row(&mut writer, batch, row)?;
     }
+    writer_back(writer)
+}
+
+// The writer of a CSV writer, to which all is written.
+fn writer_back<W: Write + Drop>(writer: Writer<W>) -> Result<W, WriteFault>
+    requires { IsBetween writer }
+    ensures { IfOk result (λ after. Keeps (text_written W.contents writer) (W.contents after)) }
+{
     match writer.into_inner() {
         Ok(out) => Ok(out),
         Err(_) => Err(WriteFault),
     }
 }
 
+// A text that was written in memory, where a writer fails for want of it alone.
+fn in_memory(written: Result<Vec<u8>, WriteFault>) -> Result<Vec<u8>, Memory>
+    ensures { IfOk result (λ text. written ≡ Ok text) }
+{
+    match written {
+        Ok(text) => Ok(text),
+        Err(WriteFault) => Err(Memory),
+    }
+}
+
 // Writes the names of a schema as a record.
-fn write_names<W: Write + Drop>(writer: &mut Writer<W>, schema: &Schema) -> Result<(), WriteFault>
+fn put_names<W: Write + Drop>(writer: &mut Writer<W>, schema: &Schema) -> Result<(), WriteFault>
     requires { IsBetween writer.old }
     ensures { OnOk result (PutsRecord W.contents writer.old writer.new (names_of schema.now)) }
 {

@@ -1,6 +1,5 @@
 -- What the engine of a checked plan leaves its tail with.
-use Rattle.std.proofs.Common.{◌≡◌, ℕ, suc, ◌+◌, ◌-◌, ◌<◌, ◌≤◌, List, [], ◌∷◌, ◌++◌, map, length, flat_map, replicate, Option, refl, ap, sym, ◌∙◌, subst, arith}
-use Rattle.fq_column.specs.Frame.{Fields}
+use Rattle.std.proofs.Common.{◌≡◌, ℕ, suc, ◌+◌, ◌-◌, ◌<◌, List, [], ◌∷◌, ◌++◌, length, flat_map, replicate, Option, refl, ap, sym, ◌∙◌, subst, arith}
 use Rattle.fq_expr.specs.Front.{NumberedSteps}
 use Rattle.fq_lanes.specs.Engine.{Finishes}
 use Rattle.fq_lanes.specs.Lists.{Each}
@@ -55,7 +54,11 @@ module _ (sources : List CheckedSource) (front : NumberedSteps) (stages : List S
       let order : InOrder first.join_files high log =
       worked-order first.join_files high works (numbered 0 items) log finished.2.1
       (in-order first.join_files high 0 items (omega (
-        arith, each-length MayCome feeds items finished.1, ap length feeds-are, count, wanted-is sources front stages inputs c joins main parts,
+        arith,
+        each-length MayCome feeds items finished.1,
+        ap length feeds-are,
+        count,
+        wanted-is sources front stages inputs c joins main parts,
         length-opened remaining b 0 (flat_map (λ (s : CheckedSource). replicate s.files s.schema) sources) readers,
       ))) in
       let taken : List Gathered = all_taken (answers_in log) at_first in

@@ -1,5 +1,5 @@
 -- What the stages of a checked plan make of what its run gathered is the outcome that the plan's steps have, or a fault of a run.
-use Rattle.std.proofs.Common.{◌≡◌, ℕ, List, [], ◌∷◌, ◌++◌, map, length, Option, Some, None, Result, Ok, Err, refl, ap, sym, ◌∙◌, subst}
+use Rattle.std.proofs.Common.{◌≡◌, ℕ, List, [], ◌∷◌, ◌++◌, map, length, Option, Some, None, Result, Ok, Err, sym, subst}
 use Rattle.std.specs.Prelude.{IfErr}
 use Rattle.fq_column.specs.Frame.{Fields, Frame}
 use Rattle.fq_column.specs.Stream.{Stream}

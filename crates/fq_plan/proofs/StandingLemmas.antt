@@ -1,17 +1,20 @@
 -- What the tail of a run stands for, after one more item of the main source and at the end.
-use Rattle.std.proofs.Common.{◌≡◌, ℕ, List, [], ◌++◌, map, is_some, Option, Some, None, Result, Ok, Err, inl, inr, refl, ap, sym, ◌∙◌, subst, cond}
+use Rattle.std.proofs.Common.{◌≡◌, ℕ, List, [], ◌++◌, map, is_some, Option, Some, None, Result, Ok, Err, inl, inr, ap, sym, ◌∙◌, subst, cond, append_assoc}
 use Rattle.std.specs.Prelude.{◌⊎◌}
+use Rattle.std.proofs.lemmas.Grind.{flat_map-append}
 use Rattle.fq_column.specs.Frame.{Fields, Frame, Row}
 use Rattle.fq_column.specs.Stream.{Stream, done, then_stream}
+use Rattle.fq_csv.specs.Printed.{printed, printed_names, printed_rows}
 use Rattle.fq_expr.proofs.StepLemmas.{then_stream-assoc}
 use Rattle.fq_plan.specs.Gathering.{added_stream, gathered, gathered_stream, with_stream}
+use Rattle.fq_plan.specs.GoingOn.{HasGoneOn}
 use Rattle.fq_plan.specs.Later.{later_steps}
 use Rattle.fq_plan.specs.Meaning.{frame_or_fault, outcome}
 use Rattle.fq_plan.specs.Outcome.{outcome_of_stages}
 use Rattle.fq_plan.specs.Pipelines.{HasRun, PlanPart, meant}
 use Rattle.fq_plan.specs.Sources.{first_fault}
 use Rattle.fq_plan.specs.Stages.{stage_steps}
-use Rattle.fq_plan.specs.Standing.{IsOneOf, IsOpened, IsSettled, IsStreaming, IsWaiting, LeadsOver}
+use Rattle.fq_plan.specs.Standing.{IsOpened, IsSettled, IsStreaming, LeadsOver}
 use Rattle.fq_plan.specs.Streaming.{Streaming}
 use Rattle.fq_plan.specs.WaitingSources.{WaitingSources}
 use Rattle.fq_plan.specs.declared.faults.Fault.{Fault}
@@ -26,21 +29,28 @@ use Rattle.fq_plan.proofs.OutcomeOfPipeline.{fault-is}
 then-faultless : (u v : Stream Fault) → u.fault ≡ None → then_stream u v ≡ record { rows = u.rows ++ v.rows; fault = v.fault }
 then-faultless u v e = ap (λ (o : Option Fault). cond (is_some o) u (record { rows = u.rows ++ v.rows; fault = v.fault })) e
 
+-- the text of more rows
+pub printed-more : (fields : Fields) (rows more : List Row) → printed (record { fields = fields; rows = rows }) ++ printed_rows more ≡ printed (record { fields = fields; rows = rows ++ more })
+printed-more fields rows more =
+    append_assoc (printed_names fields) (printed_rows rows) (printed_rows more)
+    ∙ ap (λ text. printed_names fields ++ text) (sym (flat_map-append _ rows more))
+
 module _ (stages : List Stage) (n : ℕ) (after : Fields) (joins : List Gathered) (main : Gathered) where
   abbrev later : PlanPart
   later = later_steps n stages joins main.batch.fields after
 
   -- the stages as they start on whole sources
   abbrev pub HasStarted : Streaming → Type 0
-  HasStarted s = (first_fault (map gathered_stream joins) ≡ None) × (HasRun s.operators (later_steps n stages joins main.batch.fields after) [] s.rows.rows × ((s.before ≡ main.batch.fields) × (s.rows.fields ≡ after)))
+  HasStarted s = (first_fault (map gathered_stream joins) ≡ None) × (HasRun s.operators (later_steps n stages joins main.batch.fields after) [] [] × ((s.before ≡ main.batch.fields) × (s.text ≡ printed (record { fields = after; rows = [] }))))
 
   pub streams-start : (s : Streaming) → gathered_stream main ≡ done [] → HasStarted s → IsStreaming stages n after joins main s
   streams-start s nothing started = record {
     none = started.0;
     faultless = ap (λ (u : Stream Fault). u.fault) nothing;
     before = started.1.1.0;
-    after_is = started.1.1.1;
-    run = subst (λ (rows : List Row). HasRun s.operators later rows s.rows.rows) (sym (ap (λ (u : Stream Fault). u.rows) nothing)) started.1.0;
+    out = [];
+    run = subst (λ (rows : List Row). HasRun s.operators later rows []) (sym (ap (λ (u : Stream Fault). u.rows) nothing)) started.1.0;
+    text = started.1.1.1;
   }
 
   -- a source before the main one ends in a fault
@@ -87,32 +97,26 @@ module _ (stages : List Stage) (n : ℕ) (after : Fields) (joins : List Gathered
     abbrev added : Stream Fault
     added = added_stream main.batch.fields out
 
-    -- what a piece that was taken leaves
-    abbrev pub HasGoneOn : Streaming → Streaming → Type 0
-    HasGoneOn s t = (w : PlanPart) (taken : List Row) → HasRun s.operators w taken s.rows.rows → w.before ≡ s.before → w.after ≡ s.rows.fields →
-        ((added_stream s.before out).fault ≡ None) × HasRun t.operators w (taken ++ (added_stream s.before out).rows) t.rows.rows × (t.before ≡ s.before) × (t.rows.fields ≡ s.rows.fields)
-
-    pub streams-on : (s t : Streaming) → IsStreaming stages n after joins main s → HasGoneOn s t → IsStreaming stages n after joins (gathered main out) t
-    streams-on s t i goes = record {
+    -- a piece was taken
+    pub streams-on : (s t : Streaming) (i : IsStreaming stages n after joins main s) → HasGoneOn s out later main.batch.rows i.out t → IsStreaming stages n after joins (gathered main out) t
+    streams-on s t i on = record {
       none = i.none;
       faultless = ap (λ (u : Stream Fault). u.fault) joined ∙ here.0;
-      before = on.2 ∙ i.before;
-      after_is = on.3 ∙ i.after_is;
-      run = subst (λ (rows : List Row). HasRun t.operators later rows t.rows.rows) (sym (ap (λ (u : Stream Fault). u.rows) joined)) here.1;
+      before = on.before ∙ i.before;
+      out = i.out ++ on.more;
+      run = subst (λ (rows : List Row). HasRun t.operators later rows (i.out ++ on.more)) (sym (ap (λ (u : Stream Fault). u.rows) joined)) here.1;
+      text = on.text ∙ ap (λ text. text ++ printed_rows on.more) i.text ∙ printed-more after i.out on.more;
     }
       where
-        on : ((added_stream s.before out).fault ≡ None) × HasRun t.operators later (main.batch.rows ++ (added_stream s.before out).rows) t.rows.rows × (t.before ≡ s.before) × (t.rows.fields ≡ s.rows.fields)
-        on = goes later main.batch.rows i.run (sym i.before) (sym i.after_is)
-
-        here : (added.fault ≡ None) × HasRun t.operators later (main.batch.rows ++ added.rows) t.rows.rows
-        here = subst (λ (f : Fields). ((added_stream f out).fault ≡ None) × HasRun t.operators later (main.batch.rows ++ (added_stream f out).rows) t.rows.rows) i.before (on.0, on.1)
+        here : (added.fault ≡ None) × HasRun t.operators later (main.batch.rows ++ added.rows) (i.out ++ on.more)
+        here = subst (λ (f : Fields). ((added_stream f out).fault ≡ None) × HasRun t.operators later (main.batch.rows ++ (added_stream f out).rows) (i.out ++ on.more)) i.before (on.faultless, on.run)
 
         joined : then_stream (gathered_stream main) added ≡ record { rows = main.batch.rows ++ added.rows; fault = added.fault }
         joined = then-faultless (gathered_stream main) added i.faultless
 
     -- a fault of the operators ends all
     abbrev pub HasEndedIn : Streaming → Fault → Type 0
-    HasEndedIn s f = (w : PlanPart) (taken : List Row) → HasRun s.operators w taken s.rows.rows → w.before ≡ s.before → (rest : Stream Fault) →
+    HasEndedIn s f = (w : PlanPart) (taken passed : List Row) → HasRun s.operators w taken passed → w.before ≡ s.before → (rest : Stream Fault) →
         (meant w (then_stream (then_stream (done taken) (added_stream s.before out)) rest)).fault ≡ Some f
 
     pub settled-by : LeadsOver stages n after joins main → (s : Streaming) (f : Fault) → IsStreaming stages n after joins main s → HasEndedIn s f → IsSettled stages n after joins (gathered main out) f
@@ -122,7 +126,7 @@ module _ (stages : List Stage) (n : ℕ) (after : Fields) (joins : List Gathered
         ∙ fault-is after (meant later v) f
         (ap (λ (o : Option Fault). (meant later (then_stream (then_stream (let u : Stream Fault = record { rows = main.batch.rows; fault = o } in u) added) rest)).fault) i.faultless
         ∙ ap (λ (g : Fields). (meant later (then_stream (then_stream (done main.batch.rows) (added_stream g out)) rest)).fault) (sym i.before)
-        ∙ ends later main.batch.rows i.run (sym i.before) rest)
+        ∙ ends later main.batch.rows i.out i.run (sym i.before) rest)
 
     pub settled-on : (f : Fault) → IsSettled stages n after joins main f → IsSettled stages n after joins (gathered main out) f
     settled-on f settled rest =

@@ -26,3 +26,5 @@ pub mod Later
 pub mod WaitingSources
 pub mod Standing
 pub mod GatheredRun
+pub mod PrintedText
+pub mod GoingOn

@@ -1,7 +1,8 @@
 -- What the tail of a run stands for: sources as far as their items came, of which the last is the main one.
 use Rattle.std.specs.Prelude.{◌≡◌, ◌⊎◌, ◌<◌, ◌≤◌, ℕ, List, [], map, Option, Some, None, Result, Ok, Err}
-use Rattle.fq_column.specs.Frame.{Fields}
+use Rattle.fq_column.specs.Frame.{Fields, Row}
 use Rattle.fq_column.specs.Stream.{Stream, done, then_stream}
+use Rattle.fq_csv.specs.Printed.{printed}
 use Rattle.fq_plan.specs.Gathering.{gathered, gathered_stream, taken_in, with_stream}
 use Rattle.fq_plan.specs.Later.{later_steps}
 use Rattle.fq_plan.specs.Outcome.{outcome_of_stages}
@@ -32,8 +33,9 @@ module _ (stages : List Stage) (n : ℕ) (after : Fields) (joins : List Gathered
     pub none : first_fault (map gathered_stream joins) ≡ None
     pub faultless : main.fault ≡ None
     pub before : s.before ≡ main.batch.fields
-    pub after_is : s.rows.fields ≡ after
-    pub run : HasRun s.operators (later_steps n stages joins main.batch.fields after) main.batch.rows s.rows.rows
+    pub out : List Row
+    pub run : HasRun s.operators (later_steps n stages joins main.batch.fields after) main.batch.rows out
+    pub text : s.text ≡ printed (record { fields = after; rows = out })
 
   -- all ends in this fault, whatever still comes of the main source
   abbrev pub IsSettled : Fault → Type 0

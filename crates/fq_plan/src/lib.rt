@@ -16,6 +16,7 @@ mod operators;
 mod passed;
 mod pipeline;
 mod plans;
+mod printed_text;
 mod reading;
 mod run_tail;
 mod runs;

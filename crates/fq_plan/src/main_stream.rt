@@ -2,32 +2,36 @@
 ghost use Rattle.std.specs.Prelude.{◌≡◌, ◌⊎◌, ◌++◌, ℕ, List, [], map, Some, None, Err, IfOk, IfErr, OnOk};
 ghost use Rattle.fq_column.specs.Frame.{Fields, Row};
 ghost use Rattle.fq_column.specs.Stream.{Stream, done, then_stream};
+ghost use Rattle.fq_csv.specs.Printed.{printed, printed_rows};
+ghost use Rattle.fq_plan.specs.GoingOn.{HasGoneOn};
 ghost use Rattle.fq_plan.specs.Pipelines.{HasRun, PlanPart, meant};
 ghost use Rattle.fq_plan.specs.Gathering.{added_stream, gathered_stream};
 ghost use Rattle.fq_plan.specs.Later.{later_steps};
 ghost use Rattle.fq_plan.specs.Meaning.{frame_or_fault};
 ghost use Rattle.fq_plan.specs.Sources.{first_fault};
 ghost use Rattle.fq_plan.specs.Stages.{Leads};
-ghost use Rattle.fq_plan.specs.Running.{IsUnder, rows_in};
+ghost use Rattle.fq_plan.specs.PrintedText.{Prints, text_of};
+ghost use Rattle.fq_plan.specs.Running.{rows_in};
 ghost use Rattle.fq_plan.specs.declared.faults.Fault.{Fault as AnyFault};
 ghost use Rattle.fq_plan.specs.declared.faults.Fault.TheVariants as fault;
 
 use crate::faults::Fault;
-use crate::gathering::{Gathered, empty_batch};
+use crate::gathering::Gathered;
 use crate::passed::Passed;
 use crate::pipeline::Pipeline;
+use crate::printed_text::PrintedText;
 use crate::stages::Stage;
 use crate::workers::Worked;
 use fq_column::{Batch, Schema};
 use std::alloc::Global;
 use std::marker::Model;
 
-/// Running operators, and the rows that they have passed on.
+/// Running operators, and the text of the rows that they have passed on.
 #[derive(Drop)]
 pub(crate) struct MainStream<'a> {
     before: Schema,
     pipeline: Pipeline<'a>,
-    rows: Batch,
+    text: PrintedText,
 }
 
 impl<'a> Model for MainStream<'a> {
@@ -43,10 +47,11 @@ impl<'a> Model for MainStream<'a> {
     ghost use Rattle.std.specs.Prelude.{◌≡◌, List};
     ghost use Rattle.fq_column.specs.Frame.{Row};
     ghost use Rattle.fq_plan.specs.Pipelines.{HasRun, PlanPart};
+    ghost use Rattle.fq_plan.specs.PrintedText.{text_of};
 
-    ghost view = { λ s. record { before = s.before; operators = s.pipeline.operators.items; rows = s.rows } };
+    ghost view = { λ s. record { before = s.before; operators = s.pipeline.operators.items; text = text_of s.text } };
 
-    ghost invariant = { λ s. (w : PlanPart) × ((taken : List Row) × (HasRun s.pipeline.operators.items w taken s.rows.rows × ((w.before ≡ s.before) × (w.after ≡ s.rows.fields)))) };
+    ghost invariant = { λ s. (w : PlanPart) × ((taken : List Row) × ((out : List Row) × (HasRun s.pipeline.operators.items w taken out × (w.before ≡ s.before)))) };
 }
 
 impl<'a> MainStream<'a> {
@@ -59,75 +64,71 @@ impl<'a> MainStream<'a> {
     ) -> Result<MainStream<'a>, Fault>
         requires { (n : ℕ) × ((after : Fields) × Leads (map (λ g. g.batch.fields) joins.items) n before stages.now after) }
         ensures started { IfOk result (λ s. (n : ℕ) (after : Fields) → Leads (map (λ g. g.batch.fields) joins.items) n before stages.entry.now after →
-            (first_fault (map gathered_stream joins.items) ≡ None) × (HasRun s.operators (later_steps n stages.entry.now joins.items before after) [] s.rows.rows × ((s.before ≡ before) × (s.rows.fields ≡ after)))) }
+            (first_fault (map gathered_stream joins.items) ≡ None) × (HasRun s.operators (later_steps n stages.entry.now joins.items before after) [] [] × ((s.before ≡ before) × (s.text ≡ printed (record { fields = after; rows = [] }))))) }
         ensures refused { IfErr result (λ f. (first_fault (map gathered_stream joins.items) ≡ Some f) ⊎ (f ≡ fault.Memory)) }
     {
         let batches = whole_batches(alloc, joins)?;
         let (pipeline, after) = Pipeline::start(alloc, batches.as_slice(), &before, stages)?;
-        let rows = empty_batch(alloc, after)?;
+        let text = PrintedText::new(alloc, &after)?;
         Ok(MainStream {
             before,
             pipeline,
-            rows,
+            text,
         })
     }
 
-    /// The frame of all that the operators have passed on, and of what is left; or the fault in which it ends.
-    pub(crate) fn finish(self, alloc: Global) -> Result<Batch, Fault>
-        ensures { (w : PlanPart) (taken : List Row) → HasRun self.entry.operators w taken self.entry.rows.rows → w.after ≡ self.entry.rows.fields →
-            (result ≡ frame_or_fault w.after (meant w (done taken))) ⊎ (result ≡ Err fault.Memory) }
+    /// The text of the frame of all that the operators have passed on, and of what is left; or the fault in which it ends.
+    pub(crate) fn finish(self, alloc: Global) -> Result<PrintedText, Fault>
+        ensures { (w : PlanPart) (taken out : List Row) → HasRun self.entry.operators w taken out → self.entry.text ≡ printed (record { fields = w.after; rows = out }) →
+            Prints (frame_or_fault w.after (meant w (done taken))) result }
     {
         let MainStream {
             before: _,
             pipeline,
-            rows,
+            text,
         } = self;
         let mut pipeline = pipeline;
-        let mut rows = rows;
+        let mut text = text;
         let passed = pipeline.finish(alloc)?;
-        add(&mut rows, passed)?;
-        Ok(rows)
+        add(alloc, &mut text, passed)?;
+        Ok(text)
     }
 
     /// Takes a worked item, and keeps what the operators pass on of it; or answers the fault in which all ends.
-    pub(crate) fn take(self, alloc: Global, out: Worked) -> Result<MainStream<'a>, Fault>
-        ensures goes_on { IfOk result (λ s. (w : PlanPart) (taken : List Row) → HasRun self.entry.operators w taken self.entry.rows.rows → w.before ≡ self.entry.before → w.after ≡ self.entry.rows.fields →
-            ((added_stream self.entry.before out).fault ≡ None) × HasRun s.operators w (taken ++ (added_stream self.entry.before out).rows) s.rows.rows × (s.before ≡ self.entry.before) × (s.rows.fields ≡ self.entry.rows.fields)) }
-        ensures ends { IfErr result (λ f. (f ≡ fault.Memory) ⊎ ((w : PlanPart) (taken : List Row) → HasRun self.entry.operators w taken self.entry.rows.rows → w.before ≡ self.entry.before →
-            (rest : Stream AnyFault) → (meant w (then_stream (then_stream (done taken) (added_stream self.entry.before out)) rest)).fault ≡ Some f)) }
+    pub(crate) fn take(self, alloc: Global, item: Worked) -> Result<MainStream<'a>, Fault>
+        ensures goes_on { IfOk result (λ s. (w : PlanPart) (taken out : List Row) → HasRun self.entry.operators w taken out → w.before ≡ self.entry.before → HasGoneOn self.entry item w taken out s) }
+        ensures ends { IfErr result (λ f. (f ≡ fault.Memory) ⊎ ((w : PlanPart) (taken out : List Row) → HasRun self.entry.operators w taken out → w.before ≡ self.entry.before →
+            (rest : Stream AnyFault) → (meant w (then_stream (then_stream (done taken) (added_stream self.entry.before item)) rest)).fault ≡ Some f)) }
     {
         let MainStream {
             before,
             pipeline,
-            rows,
+            text,
         } = self;
         let mut pipeline = pipeline;
-        let mut rows = rows;
-        let came = Passed::from_worked(out, &before);
+        let mut text = text;
+        let came = Passed::from_worked(item, &before);
         let passed = pipeline.push(alloc, came)?;
-        add(&mut rows, passed)?;
+        add(alloc, &mut text, passed)?;
         Ok(MainStream {
             before,
             pipeline,
-            rows,
+            text,
         })
     }
 }
 
-// Adds the rows that were passed on, or answers the fault that ends them.
-fn add(rows: &mut Batch, passed: Passed) -> Result<(), Fault>
-    requires { IsUnder rows.old.fields passed.batch }
+// Prints the rows that were passed on, or answers the fault that ends them.
+fn add(alloc: Global, text: &mut PrintedText, passed: Passed) -> Result<(), Fault>
     ensures none { OnOk result (passed.fault ≡ None) }
-    ensures rows { OnOk result (rows.new ≡ record { fields = rows.old.fields; rows = rows.old.rows ++ rows_in passed.batch }) }
+    ensures text { OnOk result (text_of text.new ≡ text_of text.old ++ printed_rows (rows_in passed.batch)) }
     ensures fault { IfErr result (λ f. (passed.fault ≡ Some f) ⊎ (f ≡ fault.Memory)) }
 {
     if let Some(fault) = passed.fault {
         return Err(fault);
     }
-    match passed.batch {
-        Some(batch) if rows.rows() == 0 => *rows = batch,
-        Some(batch) => rows.extend(batch)?,
-        None => {}
+    if let Some(batch) = passed.batch {
+        text.print(alloc, &batch)?;
     }
     Ok(())
 }

@@ -110,7 +110,11 @@ fn schema_after(
 }
 
 /// The schema after row-wise steps, on rows of the schema that they take.
-pub(crate) fn schema_after_rows(alloc: Global, front: &Front, schema: Schema) -> Result<Schema, Memory>
+pub(crate) fn schema_after_rows(
+    alloc: Global,
+    front: &Front,
+    schema: Schema,
+) -> Result<Schema, Memory>
     requires { schema ≡ front.now.fields }
     ensures { IfOk result (λ s. s ≡ fields_after_all front.now.fields front.now.steps) }
 {

@@ -1,19 +1,19 @@
 // The tail of a run: worked items go through the steps after the leading ones as they come.
-ghost use Rattle.std.specs.Prelude.{◌≡◌, ◌⊎◌, ℕ, List, Err, OnOk};
+ghost use Rattle.std.specs.Prelude.{◌≡◌, ℕ, List, OnOk};
 ghost use Rattle.fq_column.specs.Frame.{Fields};
 ghost use Rattle.fq_plan.specs.Gathering.{gathered, taken_in};
 ghost use Rattle.fq_plan.specs.Outcome.{outcome_of_stages};
-ghost use Rattle.fq_plan.specs.Stages.{Leads};
+ghost use Rattle.fq_plan.specs.PrintedText.{Prints};
 ghost use Rattle.fq_plan.specs.Standing.{HasOpened, IsWaiting, LeadsOver, Stands, TailTakes, Waits};
-ghost use Rattle.fq_plan.specs.declared.faults.Fault.TheVariants as fault;
 ghost use Rattle.fq_plan.specs.declared.gathering.Gathered.{Gathered as Source};
 ghost use Rattle.fq_plan.specs.declared.stages.Stage.{Stage};
 
 use crate::faults::Fault;
 use crate::main_stream::MainStream;
+use crate::printed_text::PrintedText;
 use crate::waiting::Waiting;
 use crate::workers::Worked;
-use fq_column::{Batch, Memory};
+use fq_column::Memory;
 use fq_lanes::Tail;
 use std::alloc::Global;
 
@@ -64,11 +64,11 @@ impl<'a> RunTail<'a> {
         }
     }
 
-    /// The frame of all that was taken, or the fault in which it ends.
-    pub(crate) fn finish(self) -> Result<Batch, Fault>
+    /// The text of the frame of all that was taken, or the fault in which it ends.
+    pub(crate) fn finish(self) -> Result<PrintedText, Fault>
         requires { (stages : List Stage) × ((n : ℕ) × ((after : Fields) × ((joins : List Source) × ((main : Source) × (LeadsOver stages n after joins main × Stands stages n after joins main self))))) }
         ensures { (stages : List Stage) (n : ℕ) (after : Fields) (joins : List Source) (main : Source) → LeadsOver stages n after joins main → Stands stages n after joins main self.entry →
-            (result ≡ outcome_of_stages n stages joins main) ⊎ (result ≡ Err fault.Memory) }
+            Prints (outcome_of_stages n stages joins main) result }
     {
         let mut tail = self;
         match tail.open()? {
@@ -81,23 +81,23 @@ impl<'a> RunTail<'a> {
     }
 
     // Takes a worked item of a source before the main one.
-    fn take_before_main(&mut self, file: u16, out: Worked) -> Result<(), Memory>
+    fn take_before_main(&mut self, file: u16, item: Worked) -> Result<(), Memory>
         ensures same { OnOk result (self.new.join_files ≡ self.old.join_files) }
-        ensures waits { OnOk result ((stages : List Stage) (joins : List Source) (main : Source) → Waits stages joins main self.old → Waits stages (taken_in file out joins) main self.new) }
+        ensures waits { OnOk result ((stages : List Stage) (joins : List Source) (main : Source) → Waits stages joins main self.old → Waits stages (taken_in file item joins) main self.new) }
     {
         if let Some(waiting) = self.waiting.take() {
-            self.waiting = Some(waiting.take(file, out)?);
+            self.waiting = Some(waiting.take(file, item)?);
         }
         Ok(())
     }
 
     // Takes a worked item of the main source.
-    fn take_main(&mut self, out: Worked) -> Result<(), Memory>
+    fn take_main(&mut self, item: Worked) -> Result<(), Memory>
         ensures same { OnOk result (self.new.join_files ≡ self.old.join_files) }
         ensures stands { OnOk result ((stages : List Stage) (n : ℕ) (after : Fields) (joins : List Source) (main : Source) → LeadsOver stages n after joins main → Stands stages n after joins main self.old →
-            Stands stages n after joins (gathered main out) self.new) }
+            Stands stages n after joins (gathered main item) self.new) }
     {
-        match self.pass(out) {
+        match self.pass(item) {
             Ok(stream) => self.stream = stream,
             Err(Fault::Memory) => return Err(Memory),
             Err(fault) => self.fault = Some(fault),
@@ -106,13 +106,13 @@ impl<'a> RunTail<'a> {
     }
 
     // Takes the main source's rows out of the tail, and passes a worked item on to them, where no fault has ended all.
-    fn pass(&mut self, out: Worked) -> Result<Option<MainStream<'a>>, Fault>
+    fn pass(&mut self, item: Worked) -> Result<Option<MainStream<'a>>, Fault>
         ensures same { self.new.join_files ≡ self.old.join_files }
         ensures opened { (stages : List Stage) (n : ℕ) (after : Fields) (joins : List Source) (main : Source) → LeadsOver stages n after joins main → Stands stages n after joins main self.old →
-            HasOpened stages n after joins (gathered main out) result self.new }
+            HasOpened stages n after joins (gathered main item) result self.new }
     {
         match self.open()? {
-            Some(stream) => Ok(Some(stream.take(self.alloc, out)?)),
+            Some(stream) => Ok(Some(stream.take(self.alloc, item)?)),
             None => Ok(None),
         }
     }

@@ -6,6 +6,7 @@ ghost use Rattle.fq_csv.specs.Printed.{printed};
 ghost use Rattle.fq_plan.specs.GatheredRun.{HasGathered};
 ghost use Rattle.fq_plan.specs.Meaning.{meaning};
 ghost use Rattle.fq_plan.specs.Plan.{files_wanted};
+ghost use Rattle.fq_plan.specs.PrintedText.{text_of};
 ghost use Rattle.fq_plan.specs.Run.{start_refusal, IsEngineFault, IsOfMeaning, IsRunFault, IsStartFault, Tell, trace_of};
 ghost use Rattle.fq_plan.specs.Sources.{file_streams};
 ghost use Rattle.fq_plan.specs.declared.faults.Fault.TheVariants as fault;
@@ -14,11 +15,11 @@ use crate::checks::Checked;
 use crate::faults::Fault;
 use crate::openings::{empty_sources, file_schemas, open_feeds};
 use crate::pipeline::schema_after_rows;
+use crate::printed_text::PrintedText;
 use crate::run_tail::RunTail;
 use crate::waiting::Waiting;
 use crate::workers::Worked;
-use fq_column::Batch;
-use fq_csv::{MAX_BATCH_SIZE, print_frame};
+use fq_csv::MAX_BATCH_SIZE;
 use fq_lanes::{Gate, NoGate, Report, run_lanes};
 use std::alloc::Global;
 use std::io::{Read, Write};
@@ -112,15 +113,12 @@ impl Checked {
         if !(1..=MAX_BATCH_SIZE).contains(&batch_size) || !(1..=MAX_WORKERS).contains(&workers) {
             return Err(Fault::Setting);
         }
-        let (frame, report) = self.outcome(rt, alloc, gate, inputs, batch_size, workers)?;
-        let text = print_frame(alloc, &frame)?;
-        match out.write_all(text.as_slice()) {
-            Ok(()) => Ok(report),
-            Err(_) => Err(Fault::Write),
-        }
+        let (text, report) = self.outcome(rt, alloc, gate, inputs, batch_size, workers)?;
+        text.write_to(out)?;
+        Ok(report)
     }
 
-    // The frame of a run that may start, with its report, or the fault before anything is written.
+    // The text of the frame of a run that may start, with its report, or the fault before anything is written.
     fn outcome<T: Threads + Wait + Sync, G: Gate<Worked> + Sync, R: Read + Drop + Send>(
         &self,
         rt: &T,
@@ -129,12 +127,12 @@ impl Checked {
         inputs: Vec<R>,
         batch_size: u32,
         workers: u16,
-    ) -> Result<(Batch, Report), Fault>
+    ) -> Result<(PrintedText, Report), Fault>
         requires inputs { vec_len inputs ≡ files_wanted self.now }
         requires batch_size { (1 ≤ batch_size) × (batch_size ≤ 65536) }
         requires workers { (1 ≤ workers) × (workers ≤ 16) }
         ensures frame { (files : List (List ℕ)) → Tell R.remaining inputs.items files → IfOk result
-            (λ r. meaning self.now (file_streams self.now files) ≡ Ok r.0) }
+            (λ r. (frame : Frame) × (meaning self.now (file_streams self.now files) ≡ Ok frame) × (text_of r.0 ≡ printed frame)) }
         ensures trace { (files : List (List ℕ)) → Tell R.remaining inputs.items files → IfOk result
             (λ r. r.1.trace.items ≡ trace_of batch_size (file_streams self.now files)) }
         ensures fault { (files : List (List ℕ)) → Tell R.remaining inputs.items files → IfErr result
@@ -142,8 +140,8 @@ impl Checked {
         ensures kind { IfErr result IsRunFault }
     {
         let (tail, report) = self.gather(rt, alloc, gate, inputs, batch_size, workers)?;
-        let frame = tail.finish()?;
-        Ok((frame, report))
+        let text = tail.finish()?;
+        Ok((text, report))
     }
 
     // What free threads make of the files, as far as the tail took it, with their report.

@@ -1,6 +1,7 @@
 // The sources before the main one, while their rows come.
 ghost use Rattle.std.specs.Prelude.{◌≡◌, ◌⊎◌, ℕ, [], map, Some, None, IfOk, IfErr};
 ghost use Rattle.fq_column.specs.Frame.{Fields};
+ghost use Rattle.fq_csv.specs.Printed.{printed};
 ghost use Rattle.fq_plan.specs.Gathering.{gathered_stream, taken_in};
 ghost use Rattle.fq_plan.specs.Later.{later_steps};
 ghost use Rattle.fq_plan.specs.Pipelines.{HasRun};
@@ -58,8 +59,8 @@ impl<'a> Waiting<'a> {
     }
 
     /// Takes a worked item of one of the sources.
-    pub(crate) fn take(self, file: u16, out: Worked) -> Result<Waiting<'a>, Memory>
-        ensures { IfOk result (λ w. w ≡ record { joins = taken_in file out self.entry.joins; before = self.entry.before; stages = self.entry.stages }) }
+    pub(crate) fn take(self, file: u16, item: Worked) -> Result<Waiting<'a>, Memory>
+        ensures { IfOk result (λ w. w ≡ record { joins = taken_in file item self.entry.joins; before = self.entry.before; stages = self.entry.stages }) }
     {
         let Waiting {
             joins,
@@ -67,7 +68,7 @@ impl<'a> Waiting<'a> {
             stages,
         } = self;
         let mut joins = joins;
-        take_in(joins.as_mut_slice(), file, out)?;
+        take_in(joins.as_mut_slice(), file, item)?;
         Ok(Waiting {
             joins,
             before,
@@ -78,7 +79,7 @@ impl<'a> Waiting<'a> {
     /// The steps over the sources, which are whole; or the first fault of these.
     pub(crate) fn start(self, alloc: Global) -> Result<MainStream<'a>, Fault>
         ensures started { IfOk result (λ s. (n : ℕ) (after : Fields) → Leads (map (λ g. g.batch.fields) self.entry.joins) n self.entry.before self.entry.stages after →
-            (first_fault (map gathered_stream self.entry.joins) ≡ None) × (HasRun s.operators (later_steps n self.entry.stages self.entry.joins self.entry.before after) [] s.rows.rows × ((s.before ≡ self.entry.before) × (s.rows.fields ≡ after)))) }
+            (first_fault (map gathered_stream self.entry.joins) ≡ None) × (HasRun s.operators (later_steps n self.entry.stages self.entry.joins self.entry.before after) [] [] × ((s.before ≡ self.entry.before) × (s.text ≡ printed (record { fields = after; rows = [] }))))) }
         ensures refused { IfErr result (λ f. (first_fault (map gathered_stream self.entry.joins) ≡ Some f) ⊎ (f ≡ fault.Memory)) }
     {
         let Waiting {

@@ -2,55 +2,56 @@ use Rattle.std.proofs.Common.{◌≡◌, ℕ, List, Result, Ok, Err, inl, inr, r
 use Rattle.std.specs.Prelude.{IfErr, IsOk}
 use Rattle.std.proofs.lemmas.Result.{err_from_is_err_and}
 use Rattle.fq_column.specs.Frame.{Frame}
+use Rattle.fq_csv.specs.Printed.{printed}
 use Rattle.fq_lanes.specs.declared.reports.Report.{Report}
-use Rattle.fq_plan.specs.GatheredRun.{HasGathered}
 use Rattle.fq_plan.specs.Meaning.{meaning}
+use Rattle.fq_plan.specs.PrintedText.{text_of}
 use Rattle.fq_plan.specs.Run.{IsOfMeaning, IsRunFault, Tell}
 use Rattle.fq_plan.specs.Sources.{file_streams}
 use Rattle.fq_plan.specs.declared.faults.Fault.{Fault}
+use Rattle.fq_plan.specs.declared.printed_text.PrintedText.{PrintedText}
 use Rattle.fq_plan.proofs.OutcomeLemmas.{sound-outcome}
 use Rattle.fq_plan.proofs.checks.Checked.outcome.Given.{Over}
 use Rattle.fq_plan.proofs.checks.Checked.outcome.Goals as goal
-use Rattle.fq_plan.proofs.checks.Checked.outcome.Goals.{In_ok-frame}
+use Rattle.fq_plan.proofs.checks.Checked.outcome.Goals.{In_ok-text}
 
 pub finish-requires : goal.finish-requires
 finish-requires g c = let all = c.in_ok-tail.ensures.gathered in (all.stages, (all.n, (all.after, (all.joins, (all.main, (all.leads, all.stands))))))
 
-pub returns-in_err-frame-clause-fault : goal.returns-in_err-frame-clause-fault
-returns-in_err-frame-clause-fault g c files tell =
+pub returns-in_err-text-clause-fault : goal.returns-in_err-text-clause-fault
+returns-in_err-text-clause-fault g c files tell =
     let all = c.in_ok-tail.ensures.gathered in
-    let p = err_from_is_err_and c.from_residual-in_err-frame.result c.from_residual-in_err-frame.ensures.1 in
-    let base : IsOfMeaning c.in_err-frame.field-0.0 → meaning c.args.self.now (file_streams c.args.self.now files) ≡ Err c.in_err-frame.field-0.0 =
-    elim (c.in_err-frame.ensures all.stages all.n all.after all.joins all.main all.leads all.stands) [
-      | inl made ↦ λ _. sym (all.outcome files tell) ∙ sym made
-      | inr memory ↦ λ h. absurd (subst (λ (r : Result Frame Fault). IfErr r IsOfMeaning) memory h)
+    let p = err_from_is_err_and c.from_residual-in_err-text.result c.from_residual-in_err-text.ensures.1 in
+    let base : IsOfMeaning c.in_err-text.field-0.0 → meaning c.args.self.now (file_streams c.args.self.now files) ≡ Err c.in_err-text.field-0.0 =
+    elim (c.in_err-text.ensures all.stages all.n all.after all.joins all.main all.leads all.stands) [
+      | inl memory ↦ λ h. absurd (subst IsOfMeaning memory h)
+      | inr made ↦ λ _. sym (all.outcome files tell) ∙ made
     ] in
-    subst (λ (r : Result (Frame × Report) Fault). IfErr r (λ f. IsOfMeaning f → meaning c.args.self.now (file_streams c.args.self.now files) ≡ Err f)) (sym p.1)
+    subst (λ (r : Result (PrintedText × Report) Fault). IfErr r (λ f. IsOfMeaning f → meaning c.args.self.now (file_streams c.args.self.now files) ≡ Err f)) (sym p.1)
     (subst (λ (f : Fault). IsOfMeaning f → meaning c.args.self.now (file_streams c.args.self.now files) ≡ Err f) (sym p.2) base)
 
-pub returns-in_err-frame-clause-kind : goal.returns-in_err-frame-clause-kind
-returns-in_err-frame-clause-kind g c =
+pub returns-in_err-text-clause-kind : goal.returns-in_err-text-clause-kind
+returns-in_err-text-clause-kind g c =
     let all = c.in_ok-tail.ensures.gathered in
-    let p = err_from_is_err_and c.from_residual-in_err-frame.result c.from_residual-in_err-frame.ensures.1 in
-    let base : IsRunFault c.in_err-frame.field-0.0 =
-    elim (c.in_err-frame.ensures all.stages all.n all.after all.joins all.main all.leads all.stands) [
-      | inl made ↦ subst (λ (r : Result Frame Fault). IfErr r IsRunFault) (sym made) (sound-outcome all.n all.stages all.joins all.main all.sound)
-      | inr memory ↦ subst (λ (r : Result Frame Fault). IfErr r IsRunFault) (sym memory) tt
+    let p = err_from_is_err_and c.from_residual-in_err-text.result c.from_residual-in_err-text.ensures.1 in
+    let base : IsRunFault c.in_err-text.field-0.0 =
+    elim (c.in_err-text.ensures all.stages all.n all.after all.joins all.main all.leads all.stands) [
+      | inl memory ↦ subst IsRunFault (sym memory) tt
+      | inr made ↦ subst (λ (r : Result Frame Fault). IfErr r IsRunFault) made (sound-outcome all.n all.stages all.joins all.main all.sound)
     ] in
-    subst (λ (r : Result (Frame × Report) Fault). IfErr r IsRunFault) (sym p.1) (subst IsRunFault (sym p.2) base)
+    subst (λ (r : Result (PrintedText × Report) Fault). IfErr r IsRunFault) (sym p.1) (subst IsRunFault (sym p.2) base)
 
--- the frame is the meaning
-framed : (g : Over) (c : In_ok-frame g) (files : List (List ℕ)) → Tell g.R.Read.remaining c.args.inputs.items files → meaning c.args.self.now (file_streams c.args.self.now files) ≡ Ok c.in_ok-frame.frame
+-- the text is that of the meaning
+framed : (g : Over) (c : In_ok-text g) (files : List (List ℕ)) → Tell g.R.Read.remaining c.args.inputs.items files →
+    (frame : Frame) × (meaning c.args.self.now (file_streams c.args.self.now files) ≡ Ok frame) × (text_of c.in_ok-text.text ≡ printed frame)
 framed g c files tell =
     let all = c.in_ok-tail.ensures.gathered in
-    elim (c.in_ok-frame.ensures all.stages all.n all.after all.joins all.main all.leads all.stands) [
-      | inl made ↦ sym (all.outcome files tell) ∙ sym made
-      | inr memory ↦ absurd (cc memory)
-    ]
+    let made = c.in_ok-text.ensures all.stages all.n all.after all.joins all.main all.leads all.stands in
+    (made.0, sym (all.outcome files tell) ∙ made.1, made.2)
 
 pub returns-clause-frame : goal.returns-clause-frame
 returns-clause-frame g c files tell = framed g c files tell
 
 pub returns-clause-trace : goal.returns-clause-trace
 returns-clause-trace g c files tell =
-    c.in_ok-tail.ensures.gathered.trace files tell (subst (λ (r : Result Frame Fault). IsOk r) (sym (framed g c files tell)) refl)
+    c.in_ok-tail.ensures.gathered.trace files tell (subst (λ (r : Result Frame Fault). IsOk r) (sym (framed g c files tell).1) refl)

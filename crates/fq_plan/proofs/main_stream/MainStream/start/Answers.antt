@@ -1,13 +1,14 @@
-use Rattle.std.proofs.Common.{◌≡◌, ◌∙◌, ℕ, List, [], map, ap, sym, refl, subst}
-use Rattle.fq_column.specs.Frame.{Fields, Frame, Row}
+use Rattle.std.proofs.Common.{◌≡◌, ◌∙◌, ℕ, List, [], map, append-nil, ap, sym, refl, subst}
+use Rattle.fq_column.specs.Frame.{Fields, Frame}
+use Rattle.fq_csv.specs.Printed.{printed, printed_names}
 use Rattle.fq_plan.specs.Later.{later_steps}
+use Rattle.fq_plan.specs.PrintedText.{text_of}
 use Rattle.fq_plan.specs.Pipelines.{HasRun, PlanPart}
 use Rattle.fq_plan.specs.Stages.{Leads, stage_steps}
 use Rattle.fq_plan.specs.declared.gathering.Gathered.{Gathered}
-use Rattle.fq_plan.specs.declared.stages.Stage.{Stage}
 use Rattle.fq_plan.proofs.FinishLemmas.{over-batches}
 use Rattle.fq_plan.proofs.main_stream.MainStream.start.Goals as goal
-use Rattle.fq_plan.proofs.main_stream.MainStream.start.Goals.{In_ok-rows}
+use Rattle.fq_plan.proofs.main_stream.MainStream.start.Goals.{In_ok-text}
 
 pub start-requires : goal.start-requires
 start-requires c =
@@ -15,24 +16,23 @@ start-requires c =
     (r.0, (r.1.0, over-batches c.args.joins.items c.as_slice.result.now r.0 c.args.before r.1.0 c.args.stages.now (c.as_slice.ensures.value ∙ c.in_ok-batches.ensures.batches) r.1.1))
 
 -- the operators have taken no row
-fresh : (c : In_ok-rows) (n : ℕ) (after : Fields) → Leads (map (λ (g : Gathered). g.batch.fields) c.args.joins.items) n c.args.before c.args.stages.now after →
-    HasRun c.in_ok-pipeline.pipeline.operators.items (later_steps n c.args.stages.now c.args.joins.items c.args.before after) [] c.in_ok-rows.rows.rows × (c.in_ok-rows.rows.fields ≡ after)
+fresh : (c : In_ok-text) (n : ℕ) (after : Fields) → Leads (map (λ (g : Gathered). g.batch.fields) c.args.joins.items) n c.args.before c.args.stages.now after →
+    HasRun c.in_ok-pipeline.pipeline.operators.items (later_steps n c.args.stages.now c.args.joins.items c.args.before after) [] [] × (text_of c.in_ok-text.text ≡ printed (record { fields = after; rows = [] }))
 fresh c n after leads =
     let batches = c.as_slice.ensures.value ∙ c.in_ok-batches.ensures.batches in
     let made = c.in_ok-pipeline.ensures n after (over-batches c.args.joins.items c.as_slice.result.now n c.args.before after c.args.stages.now batches leads) in (
-      subst (λ (out : List Row). HasRun c.in_ok-pipeline.pipeline.operators.items (later_steps n c.args.stages.now c.args.joins.items c.args.before after) [] out) (sym (ap (λ (f : Frame). f.rows) c.in_ok-rows.ensures))
-          (subst (λ (js : List Frame). HasRun c.in_ok-pipeline.pipeline.operators.items (let w : PlanPart = record { joins = js; n = n; before = c.args.before; steps = stage_steps c.args.stages.now; after = after } in w) [] []) batches made.1),
-      ap (λ (f : Frame). f.fields) c.in_ok-rows.ensures ∙ made.0,
+      subst (λ (js : List Frame). HasRun c.in_ok-pipeline.pipeline.operators.items (let w : PlanPart = record { joins = js; n = n; before = c.args.before; steps = stage_steps c.args.stages.now; after = after } in w) [] []) batches made.1,
+      c.in_ok-text.ensures ∙ ap printed_names made.0 ∙ sym (append-nil (printed_names after)),
     )
 
 pub invariant_of-result : goal.invariant_of-result
 invariant_of-result c =
-    let d = (goal.at.invariant_of-result c).In_ok-rows in
-    let r = c.requires in let f = fresh d r.0 r.1.0 r.1.1 in
-    (later_steps r.0 c.args.stages.now c.args.joins.items c.args.before r.1.0, ([], (f.0, (refl, sym f.1))))
+    let d = (goal.at.invariant_of-result c).In_ok-text in
+    let r = c.requires in
+    (later_steps r.0 c.args.stages.now c.args.joins.items c.args.before r.1.0, ([], ([], ((fresh d r.0 r.1.0 r.1.1).0, refl))))
 
 pub returns-clause-started : goal.returns-clause-started
 returns-clause-started c n after leads =
-    let d = (goal.at.returns-clause-started c).In_ok-rows in
+    let d = (goal.at.returns-clause-started c).In_ok-text in
     let f = fresh d n after leads in
     (c.in_ok-batches.ensures.none, (f.0, (refl, f.1)))

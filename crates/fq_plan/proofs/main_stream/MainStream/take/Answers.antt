@@ -1,7 +1,8 @@
 use Rattle.std.proofs.Common.{◌≡◌, ◌∙◌, ◌++◌, List, inl, inr, ap, sym, subst}
 use Rattle.std.proofs.lemmas.Result.{err_from_is_err_and}
-use Rattle.fq_column.specs.Frame.{Fields, Frame, Row}
+use Rattle.fq_column.specs.Frame.{Fields, Row}
 use Rattle.fq_column.specs.Stream.{Stream, done, then_stream}
+use Rattle.fq_csv.specs.Printed.{printed_rows}
 use Rattle.fq_plan.specs.Gathering.{added_stream}
 use Rattle.fq_plan.specs.Pipelines.{HasPushed, HasRun, PlanPart, meant}
 use Rattle.fq_plan.specs.Running.{IsUnder, passed_stream, rows_in}
@@ -11,58 +12,46 @@ use Rattle.fq_plan.proofs.main_stream.MainStream.take.Goals as goal
 use Rattle.fq_plan.proofs.main_stream.MainStream.take.Goals.{In_ok-passed}
 
 -- what was passed on of the piece, where these steps had run over those rows
-pushed : (c : In_ok-passed) (w : PlanPart) (taken : List Row) → HasRun c.self.inside.pipeline.operators.items w taken c.self.inside.rows.rows → w.before ≡ c.self.inside.before →
-    HasPushed c.push.new.self.operators.items w taken c.self.inside.rows.rows c.from_worked-came.result c.in_ok-passed.passed
-pushed c w taken run before =
-    c.in_ok-passed.ensures w taken c.self.inside.rows.rows run (subst (λ (f : Fields). IsUnder f c.from_worked-came.result.batch) (sym before) c.from_worked-came.ensures.columns)
+pushed : (c : In_ok-passed) (w : PlanPart) (taken out : List Row) → HasRun c.self.inside.pipeline.operators.items w taken out → w.before ≡ c.self.inside.before →
+    HasPushed c.push.new.self.operators.items w taken out c.from_worked-came.result c.in_ok-passed.passed
+pushed c w taken out run before =
+    c.in_ok-passed.ensures w taken out run (subst (λ (f : Fields). IsUnder f c.from_worked-came.result.batch) (sym before) c.from_worked-came.ensures.columns)
 
 -- what came is what the item adds
-came-is : (c : In_ok-passed) → passed_stream c.from_worked-came.result ≡ added_stream c.args.self.before c.args.out
-came-is c = c.from_worked-came.ensures.stream ∙ ap (λ (s : Streaming). added_stream s.before c.args.out) c.self.view_is
-
-pub add-requires : goal.add-requires
-add-requires c =
-    let d = (goal.at.add-requires c).In_ok-passed in
-    let i = c.self.invariant in
-    subst (λ (f : Fields). IsUnder f c.in_ok-passed.passed.batch) i.1.1.1.1 (pushed d i.0 i.1.0 i.1.1.0 i.1.1.1.0).columns
+came-is : (c : In_ok-passed) → passed_stream c.from_worked-came.result ≡ added_stream c.args.self.before c.args.item
+came-is c = c.from_worked-came.ensures.stream ∙ ap (λ (s : Streaming). added_stream s.before c.args.item) c.self.view_is
 
 pub invariant_of-result : goal.invariant_of-result
 invariant_of-result c =
     let d = (goal.at.invariant_of-result c).In_ok-passed in
     let i = c.self.invariant in
-    let on = ((pushed d i.0 i.1.0 i.1.1.0 i.1.1.1.0).goes_on c.in_ok-add.ensures.none).1 in (
-      i.0,
-      (
-        i.1.0 ++ rows_in c.from_worked-came.result.batch,
-        (
-          subst (λ (out : List Row). HasRun c.push.new.self.operators.items i.0 (i.1.0 ++ rows_in c.from_worked-came.result.batch) out) (sym (ap (λ (f : Frame). f.rows) c.in_ok-add.ensures.rows)) on,
-          (i.1.1.1.0, i.1.1.1.1 ∙ sym (ap (λ (f : Frame). f.fields) c.in_ok-add.ensures.rows)),
-        ),
-      ),
-    )
+    let on = ((pushed d i.0 i.1.0 i.1.1.0 i.1.1.1.0 i.1.1.1.1).goes_on c.in_ok-add.ensures.none).1 in
+    (i.0, (i.1.0 ++ rows_in c.from_worked-came.result.batch, (i.1.1.0 ++ rows_in c.in_ok-passed.passed.batch, (on, i.1.1.1.1))))
 
 pub returns-clause-goes_on : goal.returns-clause-goes_on
-returns-clause-goes_on c w taken run before after =
+returns-clause-goes_on c w taken out run before =
     let d = (goal.at.returns-clause-goes_on c).In_ok-passed in
-    let inside = subst (λ (s : Streaming). HasRun s.operators w taken s.rows.rows) (sym c.self.view_is) run in
+    let inside = subst (λ (s : Streaming). HasRun s.operators w taken out) (sym c.self.view_is) run in
     let same = before ∙ sym (ap (λ (s : Streaming). s.before) c.self.view_is) in
-    let on = (pushed d w taken inside same).goes_on c.in_ok-add.ensures.none in
-    let came = came-is d in (
-      ap (λ (u : Stream Fault). u.fault) (sym came) ∙ on.0,
-      subst (λ (p : List Row × List Row). HasRun c.push.new.self.operators.items w (taken ++ p.0) p.1) (λ i. ((came i).rows, (sym c.in_ok-add.ensures.rows i).rows)) on.1,
-      ap (λ (s : Streaming). s.before) c.self.view_is,
-      ap (λ (f : Frame). f.fields) c.in_ok-add.ensures.rows ∙ ap (λ (s : Streaming). s.rows.fields) c.self.view_is,
-    )
+    let on = (pushed d w taken out inside same).goes_on c.in_ok-add.ensures.none in
+    let came = came-is d in
+    let more = rows_in c.in_ok-passed.passed.batch in record {
+      more = more;
+      faultless = ap (λ (u : Stream Fault). u.fault) (sym came) ∙ on.0;
+      run = subst (λ (u : Stream Fault). HasRun c.push.new.self.operators.items w (taken ++ u.rows) (out ++ more)) came on.1;
+      text = c.in_ok-add.ensures.text ∙ ap (λ (s : Streaming). s.text ++ printed_rows more) c.self.view_is;
+      before = ap (λ (s : Streaming). s.before) c.self.view_is;
+    }
 
 pub returns-in_err-add-clause-ends : goal.returns-in_err-add-clause-ends
 returns-in_err-add-clause-ends c =
     let d = (goal.at.returns-in_err-add-clause-ends c).In_ok-passed in
     let exit = err_from_is_err_and c.from_residual-in_err-add.result c.from_residual-in_err-add.ensures.1 in
     rw (exit.1, exit.2) (elim c.in_err-add.ensures.fault [
-      | inl e ↦ inr (λ w taken run before rest.
-          let inside = subst (λ (s : Streaming). HasRun s.operators w taken s.rows.rows) (sym c.self.view_is) run in
+      | inl e ↦ inr (λ w taken out run before rest.
+          let inside = subst (λ (s : Streaming). HasRun s.operators w taken out) (sym c.self.view_is) run in
           let same = before ∙ sym (ap (λ (s : Streaming). s.before) c.self.view_is) in
           ap (λ (u : Stream Fault). (meant w (then_stream (then_stream (done taken) u) rest)).fault) (sym (came-is d))
-          ∙ sym (ap (λ (v : Stream Fault). v.fault) ((pushed d w taken inside same).settled c.in_err-add.field-0.0 e rest)) ∙ e)
+          ∙ sym (ap (λ (v : Stream Fault). v.fault) ((pushed d w taken out inside same).settled c.in_err-add.field-0.0 e rest)) ∙ e)
       | inr memory ↦ inl memory
     ])

@@ -1,4 +1,4 @@
-use Rattle.std.proofs.Common.{◌≡◌, ◌++◌, ◌≤◌, List, length, map, take, drop, arith, append-nil, ap, sym, ◌∙◌, subst}
+use Rattle.std.proofs.Common.{◌≡◌, ◌++◌, List, length, map, take, drop, arith, append-nil, ap, sym, ◌∙◌, subst}
 use Rattle.std.proofs.lemmas.List.{drop_all, take_all}
 use Rattle.fq_column.specs.Frame.{Fields}
 use Rattle.fq_plan.specs.Gathering.{taken_in}
@@ -12,10 +12,15 @@ invariant_of-result c =
     let i = c.self.invariant in
     let s = c.self.inside in
     let new = c.take_in.new.sources in
-    let now : new ≡ taken_in c.args.file c.args.out s.joins.items = c.in_ok-take_in.ensures ∙ ap (taken_in c.args.file c.args.out) c.as_mut_slice.ensures.value in
-    let long : length new ≡ length s.joins.items = ap length now ∙ length-taken c.args.file c.args.out s.joins.items in
+    let now : new ≡ taken_in c.args.file c.args.item s.joins.items = c.in_ok-take_in.ensures ∙ ap (taken_in c.args.file c.args.item) c.as_mut_slice.ensures.value in
+    let long : length new ≡ length s.joins.items = ap length now ∙ length-taken c.args.file c.args.item s.joins.items in
     let whole : take s.joins.len (new ++ drop (length new) s.joins.items) ≡ new =
     ap (λ (gs : List Gathered). take s.joins.len (new ++ gs)) (drop_all (length new) s.joins.items (omega (arith, long)))
-    ∙ ap (take s.joins.len) (append-nil new) ∙ take_all s.joins.len new (omega (arith, long)) in
-    (i.0, (i.1.0, subst (λ (fs : List Fields). Leads fs i.0 s.before s.stages.now i.1.0)
-        (sym (ap (map (λ (g : Gathered). g.batch.fields)) (whole ∙ now) ∙ columns-taken c.args.file c.args.out s.joins.items)) i.1.1))
+    ∙ ap (take s.joins.len) (append-nil new) ∙ take_all s.joins.len new (omega (arith, long)) in (
+      i.0,
+      (
+        i.1.0,
+        subst (λ (fs : List Fields). Leads fs i.0 s.before s.stages.now i.1.0)
+            (sym (ap (map (λ (g : Gathered). g.batch.fields)) (whole ∙ now) ∙ columns-taken c.args.file c.args.item s.joins.items)) i.1.1,
+      ),
+    )

@@ -2,7 +2,7 @@ use Rattle.std.proofs.Common.{◌<◌, ◌∙◌, Some, ap, arith, length, sym}
 use Rattle.std.proofs.lemmas.List.{length-map}
 use Rattle.fq_column.specs.Frame.{names_of}
 use Rattle.fq_csv.proofs.PrintLemmas.{HasPut-more, HasPut-start, name-field}
-use Rattle.fq_csv.proofs.printing.write_names.Goals as goal
+use Rattle.fq_csv.proofs.printing.put_names.Goals as goal
 
 pub loop-i-init : goal.loop-i-init
 loop-i-init g c = HasPut-start g.W.Write.contents c.args.writer.now (names_of c.args.schema.now) c.requires
