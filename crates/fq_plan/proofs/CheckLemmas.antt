@@ -171,8 +171,8 @@ module _ (joins : List Fields) where
   stages-passed n fields (s ∷ stages) rest after h =
       let steps = operator_steps s.operator in
       ap (λ ss. refusal_in (judged_steps joins n fields ss)) (append_assoc steps (stage_steps stages) rest)
-      ∙ operator-passed n fields s.operator (stage_steps stages ++ rest) h.0 h.2
-      ∙ stages-passed (n + length steps) h.0 stages rest after h.3
+      ∙ operator-passed n fields s.operator (stage_steps stages ++ rest) s.after h.1
+      ∙ stages-passed (n + length steps) s.after stages rest after h.2
       ∙ ap (λ m. refusal_in (judged_steps joins m after rest)) (omega (arith, length-append steps (stage_steps stages)))
 
   pub stages-refused : (n : ℕ) (fields : Fields) (stages : List Stage) (s : PlanStep) (rest : List PlanStep) (mid : Fields) (code : StepFault) → Leads joins n fields stages mid →
@@ -182,19 +182,17 @@ module _ (joins : List Fields) where
       (stages-passed n fields stages (s ∷ rest) mid h ∙ ap refusal_in (step-refused (n + length (stage_steps stages)) mid s rest code e))
 
   -- one more stage
-  pub leads-further : (n : ℕ) (fields : Fields) (stages : List Stage) (mid : Fields) (s : Stage) (m : ℕ) (after : Fields) → Leads joins n fields stages mid →
-      m ≡ n + length (stage_steps stages) → s.number ≡ m → Turns joins m mid s.operator after → Leads joins n fields (stages ++ s ∷ []) after
-  leads-further n fields [] mid s m after h q number turns =
+  pub leads-further : (n : ℕ) (fields : Fields) (stages : List Stage) (mid : Fields) (s : Stage) (m : ℕ) → Leads joins n fields stages mid →
+      m ≡ n + length (stage_steps stages) → s.number ≡ m → Turns joins m mid s.operator s.after → Leads joins n fields (stages ++ s ∷ []) s.after
+  leads-further n fields [] mid s m h q number turns =
       let here : m ≡ n = omega (arith, q) in (
-        after,
         number ∙ here,
-        subst (λ k. Turns joins k fields s.operator after) here (subst (λ f. Turns joins m f s.operator after) (sym h) turns),
+        subst (λ k. Turns joins k fields s.operator s.after) here (subst (λ f. Turns joins m f s.operator s.after) (sym h) turns),
         refl,
       )
-  leads-further n fields (x ∷ stages) mid s m after h q number turns =
+  leads-further n fields (x ∷ stages) mid s m h q number turns =
       let steps = operator_steps x.operator in (
         h.0,
         h.1,
-        h.2,
-        leads-further (n + length steps) h.0 stages mid s m after h.3 (omega (arith, q, length-append steps (stage_steps stages))) number turns,
+        leads-further (n + length steps) x.after stages mid s m h.2 (omega (arith, q, length-append steps (stage_steps stages))) number turns,
       )

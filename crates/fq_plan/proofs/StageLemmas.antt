@@ -244,9 +244,9 @@ module _ (joins : List Frame) (fields : Fields) (stage : Stage) (rest : List Sta
       ((after : Fields) → Turns joined stage.number fields stage.operator after → (mid.0 ≡ after) × (mid ≡ apply_plan_steps joins stage.number fields (operator_steps stage.operator) u)) →
       ((m : ℕ) (after : Fields) → Leads joined m mid.0 rest after → s ≡ apply_plan_steps joins m mid.0 (stage_steps rest) mid.1) →
       s ≡ apply_plan_steps joins n fields (stage_steps (stage ∷ rest)) u
-  stages-lead n after (f, same, turns, leads) one more =
+  stages-lead n after (same, turns, leads) one more =
       let steps = operator_steps stage.operator in
-      let r = one f (subst (λ m. Turns joined m fields stage.operator f) (sym same) turns) in
+      let r = one stage.after (subst (λ m. Turns joined m fields stage.operator stage.after) (sym same) turns) in
       let at_n : mid ≡ apply_plan_steps joins n fields steps u = r.1 ∙ ap (λ m. apply_plan_steps joins m fields steps u) same in
       more (n + length steps) after (subst (λ g. Leads joined (n + length steps) g rest after) (sym r.0) leads)
       ∙ ap (λ (p : Fields × Stream Fault). apply_plan_steps joins (n + length steps) p.0 (stage_steps rest) p.1) at_n

@@ -1,5 +1,5 @@
 -- The transforms of a plan's stages do the stages' steps.
-use Rattle.std.proofs.Common.{◌≡◌, ℕ, ◌+◌, List, [], ◌∷◌, ◌++◌, map, length, Option, Some, None, Result, Ok, Err, pos, refl, ap, sym, ◌∙◌, subst, get_or, string_bytes, suc, ◌<◌, drop, arith, append-nil, append_assoc, IsOk, inl, inr}
+use Rattle.std.proofs.Common.{◌≡◌, ℕ, ◌+◌, List, [], ◌∷◌, ◌++◌, map, length, Option, Some, None, Result, Ok, Err, pos, refl, ap, sym, ◌∙◌, subst, get_or, string_bytes, suc, ◌<◌, drop, arith, append-nil, append_assoc, IsOk}
 use Rattle.std.proofs.Math.Seq.{drop-cons}
 use Rattle.std.specs.Prelude.{is_ok, option_map, nat_lt, not, ◌==◌, slice_get, slice_index_or}
 use Rattle.std.proofs.lemmas.Option.{get_or_from_slice_get, slice_get-map}
@@ -12,7 +12,7 @@ use Rattle.fq_column.specs.Lists.{is_distinct}
 use Rattle.fq_ops.specs.Fields.{refusals}
 use Rattle.fq_ops.proofs.RefusalLemmas.{join-output}
 use Rattle.fq_column.specs.declared.faults.StepFault.TheVariants.{DoubleName, NoColumn, NoSuchSource, Samples, TooMany, Window, WrongKind}
-use Rattle.fq_column.specs.Refusal.{IsJudgement, and_then, first_refusal, refuse_if, unless_refused}
+use Rattle.fq_column.specs.Refusal.{and_then, first_refusal, refuse_if, unless_refused}
 use Rattle.fq_column.specs.Schema.{kind_named}
 use Rattle.fq_column.specs.Stream.{Stream, done, then_stream}
 use Rattle.fq_expr.specs.Steps.{apply_steps, fields_after_all}
@@ -23,7 +23,7 @@ use Rattle.fq_ops.specs.Roll.{is_from_to, roll_stream}
 use Rattle.fq_plan.specs.Judged.{judged_step}
 use Rattle.fq_ops.specs.Aggregate.{Output}
 use Rattle.fq_ops.specs.declared.joins.How.{How}
-use Rattle.fq_plan.specs.Transforms.{Chain, Transform, given, given_all, group_transform, join_transform, roll_transform, whole, whole_all}
+use Rattle.fq_plan.specs.Transforms.{Chain, Transform, given_all, group_transform, join_transform, roll_transform, whole, whole_all}
 use Rattle.fq_plan.specs.Pipelines.{HasRun}
 use Rattle.fq_plan.specs.Running.{HasGrouped, HasJoined, HasSummed, HasTaken, HaveTaken}
 use Rattle.fq_plan.specs.declared.operators.Running.{Running}
@@ -145,17 +145,17 @@ module _ (joins : List Frame) where
 
   pub chain-of : (n : ℕ) (fields after : Fields) (stages : List Stage) → Leads columns n fields stages after → Chain fields (transforms_of joins fields stages) after
   chain-of n fields after [] leads = leads
-  chain-of n fields after (s ∷ stages) (mid, same, turns, leads) =
-      let is = transform-is s.number fields mid s.operator (subst (λ k. Turns columns k fields s.operator mid) (sym same) turns) in
-      (is.takes, subst (λ (f : Fields). Chain f (transforms_of joins f stages) after) (sym is.gives) (chain-of (n + length (operator_steps s.operator)) mid after stages leads))
+  chain-of n fields after (s ∷ stages) (same, turns, leads) =
+      let is = transform-is s.number fields s.after s.operator (subst (λ k. Turns columns k fields s.operator s.after) (sym same) turns) in
+      (is.takes, subst (λ (f : Fields). Chain f (transforms_of joins f stages) after) (sym is.gives) (chain-of (n + length (operator_steps s.operator)) s.after after stages leads))
 
   pub starts-of : (n : ℕ) (fields after : Fields) (stages : List Stage) → Leads columns n fields stages after → given_all (transforms_of joins fields stages) (done []) ≡ done []
   starts-of n fields after [] leads = refl
-  starts-of n fields after (s ∷ stages) (mid, same, turns, leads) =
-      let is = transform-is s.number fields mid s.operator (subst (λ k. Turns columns k fields s.operator mid) (sym same) turns) in
+  starts-of n fields after (s ∷ stages) (same, turns, leads) =
+      let is = transform-is s.number fields s.after s.operator (subst (λ k. Turns columns k fields s.operator s.after) (sym same) turns) in
       ap (λ (a : Stream Fault). given_all (transforms_of joins (transform_of joins s.number fields s.operator).gives stages) (then_stream a (done []))) is.starts
       ∙ ap (λ (f : Fields). given_all (transforms_of joins f stages) (done [])) is.gives
-      ∙ starts-of (n + length (operator_steps s.operator)) mid after stages leads
+      ∙ starts-of (n + length (operator_steps s.operator)) s.after after stages leads
 
   abbrev last : Fields → List Transform → Fields
   last fields [] = fields
@@ -227,25 +227,23 @@ module _ (joins : List Frame) (before : Fields) (stages : List Stage) (after : F
   started-start n leads = record { n = n; leads = leads; closes = λ qs h. h }
 
   abbrev pub turns-next : (operators : List Running) (fields : Fields) (s : Stage) (rest : List Stage) → StartedSoFar joins before stages after operators fields (s ∷ rest) →
-      (mid : Fields) × Turns (map (λ f. f.fields) joins) s.number fields s.operator mid
-  turns-next operators fields s rest so_far = (so_far.leads.0, subst (λ k. Turns (map (λ f. f.fields) joins) k fields s.operator so_far.leads.0) (sym so_far.leads.1) so_far.leads.2)
+      Turns (map (λ f. f.fields) joins) s.number fields s.operator s.after
+  turns-next operators fields s rest so_far = subst (λ k. Turns (map (λ f. f.fields) joins) k fields s.operator s.after) (sym so_far.leads.0) so_far.leads.1
 
-  pub started-step : (operators : List Running) (fields next : Fields) (s : Stage) (rest : List Stage) (r : Running) → StartedSoFar joins before stages after operators fields (s ∷ rest) →
-      ((mid : Fields) → Turns (map (λ f. f.fields) joins) s.number fields s.operator mid → HasTaken r (transform_of joins s.number fields s.operator) []) →
-      ((mid : Fields) → Turns (map (λ f. f.fields) joins) s.number fields s.operator mid → next ≡ mid) →
-      StartedSoFar joins before stages after (operators ++ r ∷ []) next rest
-  started-step operators fields next s rest r so_far taken same =
+  pub started-step : (operators : List Running) (fields : Fields) (s : Stage) (rest : List Stage) (r : Running) → StartedSoFar joins before stages after operators fields (s ∷ rest) →
+      (Turns (map (λ f. f.fields) joins) s.number fields s.operator s.after → HasTaken r (transform_of joins s.number fields s.operator) []) →
+      StartedSoFar joins before stages after (operators ++ r ∷ []) s.after rest
+  started-step operators fields s rest r so_far taken =
       let t = turns-next operators fields s rest so_far in
       let m = transform_of joins s.number fields s.operator in
-      let is = transform-is joins s.number fields t.0 s.operator t.1 in
-      let to : next ≡ t.0 = same t.0 t.1 in record {
+      let is = transform-is joins s.number fields s.after s.operator t in record {
         n = so_far.n + length (operator_steps s.operator);
-        leads = subst (λ (f : Fields). Leads (map (λ f. f.fields) joins) (so_far.n + length (operator_steps s.operator)) f rest after) (sym to) so_far.leads.3;
+        leads = so_far.leads.2;
         closes = λ qs h. subst (λ (rs : List Running). HaveTaken rs (transforms_of joins before stages) []) (sym (append_assoc operators (r ∷ []) qs))
             (so_far.closes (r ∷ qs) (
-              taken t.0 t.1,
+              taken t,
               subst (λ (l : List Row). HaveTaken qs (transforms_of joins m.gives rest) l) (ap (λ (a : Stream Fault). a.rows) (sym is.starts))
-                  (subst (λ (f : Fields). HaveTaken qs (transforms_of joins f rest) []) (to ∙ sym is.gives) h),
+                  (subst (λ (f : Fields). HaveTaken qs (transforms_of joins f rest) []) (sym is.gives) h),
             ));
       }
 
@@ -265,16 +263,3 @@ module _ (joins : List Frame) (before : Fields) (stages : List Stage) (after : F
   -- along the list of stages
   pub stage-next : (i : ℕ) (s : Stage) → i < length stages → s ≡ get_or stages i s → drop i stages ≡ s ∷ drop (i + 1) stages
   stage-next i s h is = drop-cons stages i s h ∙ (λ k. sym is k ∷ drop (let e : suc i ≡ i + 1 = omega arith in e k) stages)
-
--- ---- the schema after a join
-
-pub schema-after-join : (joins : List Frame) (fields after : Fields) (source : ℕ) (on names : List Name) (how : How) (right : Frame) (next : Fields) → right ≡ get_or joins source right → names ≡ on →
-    judged_step (map (λ (f : Frame). f.fields) joins) fields (join (pos source) on how) ≡ Ok after → join_schema fields right.fields names ≡ Ok next → next ≡ after
-schema-after-join joins fields after source on names how right next is e t given =
-    let found = source-of joins source on fields after t in
-    let same : right ≡ found.0 = is ∙ get_or_from_slice_get joins source found.0 right found.1 in
-    ok-is next after (sym given ∙ (λ i. join_schema fields (same i).fields (e i)) ∙ found.2)
-
-pub judged-is : (expected answer : Result Fields StepFault) (next : Fields) → IsJudgement expected answer → answer ≡ Ok next → expected ≡ Ok next
-judged-is expected answer next (inl is) e = sym is ∙ e
-judged-is expected answer next (inr memory) e = absurd (cc)

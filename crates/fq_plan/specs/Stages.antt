@@ -41,11 +41,11 @@ module _ (joins : List Fields) where
   Turns n fields (RollingSum column window min_samples name) after =
       judged_step joins fields (rolling_sum (string_bytes column) (pos window) (pos min_samples) (string_bytes name)) ≡ Ok after
 
-  -- so do stages, one after the other, each with the number of its first step
+  -- so do stages, one after the other, each with the number of its first step and the columns that it leaves
   abbrev pub Leads : ℕ → Fields → List Stage → Fields → Type 0
   Leads n fields [] after = fields ≡ after
   Leads n fields (s ∷ stages) after =
-      (mid : Fields) × (s.number ≡ n) × Turns n fields s.operator mid × Leads (n + length (operator_steps s.operator)) mid stages after
+      (s.number ≡ n) × Turns n fields s.operator s.after × Leads (n + length (operator_steps s.operator)) s.after stages after
 
 -- the plan is not refused, and each operator has the number and the columns of its steps
 pub record IsChecked (sources : List CheckedSource) (front : NumberedSteps) (stages : List Stage) (inputs : ℕ) : Type 0 where

@@ -8,7 +8,7 @@ use crate::faults::{CheckFault, Place};
 use crate::plans::Plan;
 use crate::stages::{CheckedSource, Stage};
 use crate::workers::LeadingSteps;
-use fq_column::StepFault;
+use fq_column::{Schema, StepFault};
 use fq_expr::Front;
 use std::alloc::Global;
 use std::marker::Model;
@@ -22,8 +22,12 @@ use steps::{check_leading, check_stages, split_leading};
 /// A plan that the check does not refuse.
 #[derive(Drop)]
 pub struct Checked {
-    pub(crate) sources: Vec<CheckedSource>,
+    /// The sources before the main one.
+    pub(crate) joins: Vec<CheckedSource>,
+    pub(crate) main: CheckedSource,
     pub(crate) leading: LeadingSteps,
+    /// The main source's columns after the leading steps.
+    pub(crate) after_leading: Schema,
     pub(crate) stages: Vec<Stage>,
     pub(crate) inputs: u16,
 }
@@ -38,14 +42,16 @@ impl Model for Checked {
 
     ghost coded = { Prim.hlevel (codes, expression_code (Prim.hlevel codes)) };
 
-    ghost use Rattle.std.specs.Prelude.{◌≡◌};
+    ghost use Rattle.std.specs.Prelude.{◌≡◌, ◌++◌, ◌∷◌, []};
+    ghost use Rattle.fq_expr.specs.Steps.{fields_after_all};
     ghost use Rattle.fq_plan.specs.Plan.{join_files};
     ghost use Rattle.fq_plan.specs.Stages.{IsChecked, query_of};
 
-    ghost view = { λ c. query_of c.sources.items c.leading.front c.stages.items };
+    ghost view = { λ c. query_of (c.joins.items ++ c.main ∷ []) c.leading.front c.stages.items };
 
-    ghost invariant = { λ c. IsChecked c.sources.items c.leading.front c.stages.items c.inputs
-        × (c.leading.join_files ≡ join_files (query_of c.sources.items c.leading.front c.stages.items)) };
+    ghost invariant = { λ c. IsChecked (c.joins.items ++ c.main ∷ []) c.leading.front c.stages.items c.inputs
+        × (c.leading.join_files ≡ join_files (query_of (c.joins.items ++ c.main ∷ []) c.leading.front c.stages.items))
+        × (c.after_leading ≡ fields_after_all c.leading.front.fields c.leading.front.steps) };
 }
 
 impl Plan {
@@ -77,23 +83,33 @@ fn check_plan(alloc: Global, plan: Plan, place: &mut Place) -> Result<Checked, S
 {
     let Plan { sources, steps } = plan;
     let inputs = count_files(&sources);
-    let sources = check_sources(alloc, sources, place)?;
-    let Some((main, joins)) = sources.split_last() else {
+    let mut joins = check_sources(alloc, sources, place)?;
+    let Some(main) = joins.pop() else {
         unreachable!()
     };
     let (leading, rest) = split_leading(alloc, steps)?;
     let front_schema = main.schema.copy(alloc)?;
     let schema = check_leading(alloc, &main.schema, leading.as_slice(), place)?;
-    let stages = check_stages(alloc, joins, leading.len() as u16, schema, rest, place)?;
+    let after_leading = schema.copy(alloc)?;
+    let stages = check_stages(
+        alloc,
+        joins.as_slice(),
+        leading.len() as u16,
+        schema,
+        rest,
+        place,
+    )?;
     let front = Front::new(alloc, leading, front_schema, 0)?;
     let join_files = inputs - main.files;
     Ok(Checked {
-        sources,
+        joins,
+        main,
         leading: LeadingSteps {
             alloc,
             front,
             join_files,
         },
+        after_leading,
         stages,
         inputs,
     })

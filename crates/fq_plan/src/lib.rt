@@ -5,7 +5,6 @@
 #![tactic(auto)]
 
 mod checks;
-mod engine_run;
 mod faults;
 mod feeds;
 mod gathering;

@@ -1,5 +1,5 @@
 // What a run starts from: the feeds of the files, and the sources with no rows.
-ghost use Rattle.std.specs.Prelude.{◌≡◌, ◌≤◌, ◌++◌, flat_map, map, replicate, vec_len, length, IfOk};
+ghost use Rattle.std.specs.Prelude.{◌≡◌, ◌≤◌, ◌++◌, ◌∷◌, [], flat_map, map, replicate, vec_len, length, IfOk};
 ghost use Rattle.fq_plan.specs.EngineRun.{no_rows, opened};
 
 use crate::feeds::FileFeed;
@@ -10,13 +10,18 @@ use std::alloc::Global;
 use std::io::Read;
 
 /// The columns of each file, in argument order.
-pub(crate) fn file_schemas(alloc: Global, sources: &[CheckedSource]) -> Result<Vec<Schema>, Memory>
-    ensures { IfOk result (λ schemas. schemas.items ≡ flat_map (λ s. replicate s.files s.schema) sources.now) }
+pub(crate) fn file_schemas(
+    alloc: Global,
+    joins: &[CheckedSource],
+    main: &CheckedSource,
+) -> Result<Vec<Schema>, Memory>
+    ensures { IfOk result (λ schemas. schemas.items ≡ flat_map (λ s. replicate s.files s.schema) (joins.now ++ main.now ∷ [])) }
 {
     let mut schemas = Vec::new(alloc);
-    for source in sources {
+    for source in joins {
         push_copies(alloc, &mut schemas, &source.schema, source.files)?;
     }
+    push_copies(alloc, &mut schemas, &main.schema, main.files)?;
     Ok(schemas)
 }
 

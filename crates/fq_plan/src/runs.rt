@@ -14,7 +14,6 @@ ghost use Rattle.fq_plan.specs.declared.faults.Fault.TheVariants as fault;
 use crate::checks::Checked;
 use crate::faults::Fault;
 use crate::openings::{empty_sources, file_schemas, open_feeds};
-use crate::pipeline::schema_after_rows;
 use crate::printed_text::PrintedText;
 use crate::run_tail::RunTail;
 use crate::waiting::Waiting;
@@ -160,14 +159,11 @@ impl Checked {
         ensures gathered { IfOk result (λ r. HasGathered R.remaining inputs.items self.entry.now batch_size r.0 r.1.trace.items) }
         ensures fault { IfErr result IsEngineFault }
     {
-        let Some((_main, joins)) = self.sources.split_last() else {
-            unreachable!()
-        };
-        let schemas = file_schemas(alloc, self.sources.as_slice())?;
+        let joins = self.joins.as_slice();
+        let schemas = file_schemas(alloc, joins, &self.main)?;
         let feeds = open_feeds(alloc, schemas, inputs, batch_size)?;
-        let front = &self.leading.front;
-        let before = schema_after_rows(alloc, front, front.schema().copy(alloc)?)?;
         let sources = empty_sources(alloc, joins)?;
+        let before = self.after_leading.copy(alloc)?;
         let waiting = Waiting::new(sources, before, self.stages.as_slice());
         let tail = RunTail::new(alloc, self.leading.join_files, waiting);
         let (tail, outcome) = run_lanes(rt, alloc, feeds, &self.leading, gate, tail, workers);

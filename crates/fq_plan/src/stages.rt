@@ -35,9 +35,10 @@ pub enum Operator {
     },
 }
 
-/// An operator, and the number of its first step in the plan.
+/// An operator, the number of its first step in the plan, and the schema of the rows that it leaves.
 #[derive(Drop)]
 pub struct Stage {
     pub(crate) number: u16,
     pub(crate) operator: Operator,
+    pub(crate) after: Schema,
 }

@@ -80,8 +80,12 @@ pub fn check_stages(
         let number = first + stages.len() as u16;
         *place = Place::Step(number);
         let (operator, after) = check_step(alloc, joins, number, schema, step)?;
-        stages.push(Stage { number, operator })?;
-        schema = after;
+        schema = after.copy(alloc)?;
+        stages.push(Stage {
+            number,
+            operator,
+            after,
+        })?;
     }
     Ok(stages)
 }

@@ -1,5 +1,5 @@
 use Rattle.std.proofs.Common.{◌≡◌, ◌+◌, ◌-◌, ℕ, [], ◌∷◌, ◌++◌, Ok, List, map, length, ap, sym, ◌∙◌, subst, inl, inr, arith}
-use Rattle.std.specs.Prelude.{sum_by}
+use Rattle.std.specs.Prelude.{Option, option_to_list, sum_by}
 use Rattle.std.proofs.lemmas.List.{length-map}
 use Rattle.std.proofs.lemmas.Result.{err_from_is_err_and}
 use Rattle.fq_column.specs.Frame.{Fields}
@@ -7,16 +7,19 @@ use Rattle.fq_expr.specs.Front.{NumberedSteps}
 use Rattle.fq_expr.specs.Kinds.{steps_schema}
 use Rattle.fq_expr.specs.Meaning.{step_of}
 use Rattle.fq_expr.specs.declared.steps.RowStep.{RowStep}
+use Rattle.fq_expr.specs.Steps.{fields_after_all}
 use Rattle.fq_plan.specs.Judged.{IsPlaceOf, checked, judged_steps, source_refusal}
 use Rattle.fq_plan.specs.Plan.{Source, PlanStep, Query, IsWithinLimits, join_files, row_wise}
 use Rattle.fq_plan.specs.Stages.{checked_fields, checked_source_data, query_of, stage_steps, IsChecked, Leads}
 use Rattle.fq_plan.specs.View.{plan_step_of, source_data}
 use Rattle.fq_plan.proofs.PreparedLemmas.{checked-is, leading-refuses, prepared, stages-refuse, steps-are}
 use Rattle.fq_plan.specs.declared.faults.Place.{Place}
+use Rattle.fq_plan.specs.declared.stages.CheckedSource.{CheckedSource}
+use Rattle.fq_plan.proofs.StageLemmas.{fields-after-all}
 use Rattle.fq_plan.proofs.SplitLemmas.{few-split, length-split}
 use Rattle.fq_plan.proofs.StartLemmas.{join-count, wanted-is}
 use Rattle.fq_plan.proofs.checks.check_plan.Goals as goal
-use Rattle.fq_plan.proofs.checks.check_plan.Goals.{In_ok-sources, In_ok-leading, In_ok-schema, In_ok-stages}
+use Rattle.fq_plan.proofs.checks.check_plan.Goals.{In_ok-joins, In_ok-leading, In_ok-schema, In_ok-stages}
 
 pub check_leading-requires : goal.check_leading-requires
 check_leading-requires c =
@@ -49,41 +52,42 @@ new-requires-clause-numbers c =
 pub returns-in_err-schema-clause-refused : goal.returns-in_err-schema-clause-refused
 returns-in_err-schema-clause-refused c =
     let exit = err_from_is_err_and c.from_residual-in_err-schema.result c.from_residual-in_err-schema.ensures.1 in
-    let sources = c.in_ok-sources.sources.items in
+    let sources = c.in_ok-joins.joins.items in
     let steps = map plan_step_of c.plan.inside.steps.items in
-    let parts = sym c.deref-2.ensures.value ∙ c.in-Some.ensures.cases.0 in
+    let parts = c.pop.ensures.items ∙ ap (λ (o : Option CheckedSource). c.pop.new.self.items ++ option_to_list o) c.in-Some.is in
     let of_sources : List Source → Query = λ ss. record { sources = ss; steps = steps } in
-    let passed = ap (source_refusal 0) c.in_ok-sources.ensures.sources ∙ c.in_ok-sources.ensures.passed in
+    let passed = ap (source_refusal 0) c.in_ok-joins.ensures.sources ∙ c.in_ok-joins.ensures.passed in
     rw (exit.1, exit.2) (elim c.in_err-schema.ensures.refused [
       | inl e ↦ inl (
-          ap checked (sym c.plan.view_is ∙ ap of_sources (sym c.in_ok-sources.ensures.sources))
-          ∙ leading-refuses sources c.in-Some.joins.now c.in-Some.main.now parts steps (map step_of c.in_ok-leading.leading.items) c.in_ok-leading.ensures.leading _ passed
-          (λ joins rest. ap (λ (ss : List RowStep). judged_steps joins 0 c.in-Some.main.now.schema (map row_wise (map step_of ss) ++ rest)) (sym c.as_slice.ensures.value) ∙ e joins rest))
+          ap checked (sym c.plan.view_is ∙ ap of_sources (sym c.in_ok-joins.ensures.sources))
+          ∙ leading-refuses sources c.pop.new.self.items c.in-Some.main parts steps (map step_of c.in_ok-leading.leading.items) c.in_ok-leading.ensures.leading _ passed
+          (λ joins rest. ap (λ (ss : List RowStep). judged_steps joins 0 c.in-Some.main.schema (map row_wise (map step_of ss) ++ rest)) (sym c.as_slice.ensures.value) ∙ e joins rest))
       | inr memory ↦ inr memory
     ])
 
 pub returns-in_err-stages-clause-refused : goal.returns-in_err-stages-clause-refused
 returns-in_err-stages-clause-refused c =
     let exit = err_from_is_err_and c.from_residual-in_err-stages.result c.from_residual-in_err-stages.ensures.1 in
-    let sources = c.in_ok-sources.sources.items in
+    let sources = c.in_ok-joins.joins.items in
     let steps = map plan_step_of c.plan.inside.steps.items in
     let leading = map step_of c.in_ok-leading.leading.items in
     let rest = map plan_step_of c.in_ok-leading.rest.items in
-    let parts = sym c.deref-2.ensures.value ∙ c.in-Some.ensures.cases.0 in
+    let parts = c.pop.ensures.items ∙ ap (λ (o : Option CheckedSource). c.pop.new.self.items ++ option_to_list o) c.in-Some.is in
     let of_sources : List Source → Query = λ ss. record { sources = ss; steps = steps } in
-    let passed = ap (source_refusal 0) c.in_ok-sources.ensures.sources ∙ c.in_ok-sources.ensures.passed in
-    let to_mid = ap (λ (ss : List RowStep). steps_schema c.in-Some.main.now.schema (map step_of ss)) (sym c.as_slice.ensures.value) ∙ c.in_ok-schema.ensures.ok in
+    let passed = ap (source_refusal 0) c.in_ok-joins.ensures.sources ∙ c.in_ok-joins.ensures.passed in
+    let to_mid = ap (λ (ss : List RowStep). steps_schema c.in-Some.main.schema (map step_of ss)) (sym c.as_slice.ensures.value) ∙ c.in_ok-schema.ensures.ok in
     let count : length leading ≡ c.len.result = omega (arith, length-map c.in_ok-leading.leading.items step_of, c.in_ok-leading.leading.ok.0, c.len.ensures) in
     rw (exit.1, exit.2) (elim c.in_err-stages.ensures.refused [
       | inl e ↦ inl (
-          ap checked (sym c.plan.view_is ∙ ap of_sources (sym c.in_ok-sources.ensures.sources))
-          ∙ stages-refuse sources c.in-Some.joins.now c.in-Some.main.now parts steps leading c.in_ok-leading.ensures.leading rest c.in_ok-schema.schema _ passed c.in_ok-leading.ensures.rest to_mid
-          (ap (λ n. judged_steps (checked_fields c.in-Some.joins.now) n c.in_ok-schema.schema rest) count ∙ e))
+          ap checked (sym c.plan.view_is ∙ ap of_sources (sym c.in_ok-joins.ensures.sources))
+          ∙ stages-refuse sources c.pop.new.self.items c.in-Some.main parts steps leading c.in_ok-leading.ensures.leading rest c.in_ok-schema.schema _ passed c.in_ok-leading.ensures.rest to_mid
+          (ap (λ n. judged_steps (checked_fields c.pop.new.self.items) n c.in_ok-schema.schema rest) count
+          ∙ ap (λ (js : List CheckedSource). judged_steps (checked_fields js) c.len.result c.in_ok-schema.schema rest) (sym c.as_slice-2.ensures.value) ∙ e))
       | inr memory ↦ inr memory
     ])
 
 front_of : goal.In_ok-front → NumberedSteps
-front_of c = record { steps = map step_of c.in_ok-leading.leading.items; fields = c.in-Some.main.now.schema; first = 0 }
+front_of c = record { steps = map step_of c.in_ok-leading.leading.items; fields = c.in-Some.main.schema; first = 0 }
 
 front-is : (c : goal.In_ok-front) → c.in_ok-front.front ≡ front_of c
 unfolding front_of
@@ -91,53 +95,62 @@ front-is c =
     let chain : Fields → NumberedSteps = λ fields. record { steps = map step_of c.in_ok-leading.leading.items; fields = fields; first = 0 } in
     c.in_ok-front.ensures ∙ ap chain c.in_ok-front_schema.ensures
 
-parts_of : (c : goal.In_ok-front) → c.in_ok-sources.sources.items ≡ c.in-Some.joins.now ++ c.in-Some.main.now ∷ []
-parts_of c = sym c.deref-2.ensures.value ∙ c.in-Some.ensures.cases.0
+parts_of : (c : goal.In_ok-front) → c.in_ok-joins.joins.items ≡ c.pop.new.self.items ++ c.in-Some.main ∷ []
+parts_of c = c.pop.ensures.items ∙ ap (λ (o : Option CheckedSource). c.pop.new.self.items ++ option_to_list o) c.in-Some.is
 
-is-prepared : (c : goal.In_ok-front) → IsChecked c.in_ok-sources.sources.items (front_of c) c.in_ok-stages.stages.items c.count_files-inputs.result
+is-prepared : (c : goal.In_ok-front) → IsChecked c.in_ok-joins.joins.items (front_of c) c.in_ok-stages.stages.items c.count_files-inputs.result
 unfolding front_of
 is-prepared c =
     let steps = map plan_step_of c.plan.inside.steps.items in
     let leading = map step_of c.in_ok-leading.leading.items in
-    let joins = checked_fields c.in-Some.joins.now in
+    let joins = checked_fields c.pop.new.self.items in
     let stages = c.in_ok-stages.stages.items in
-    let leads = c.in_ok-stages.ensures.leads in
+    let leads = subst (λ (js : List CheckedSource). (after : Fields) × Leads (checked_fields js) c.len.result c.in_ok-schema.schema stages after) c.as_slice-2.ensures.value c.in_ok-stages.ensures.leads in
     let count : c.len.result ≡ length leading = omega (arith, length-map c.in_ok-leading.leading.items step_of, c.in_ok-leading.leading.ok.0, c.len.ensures) in
     let of_sources : List Source → Query = λ ss. record { sources = ss; steps = steps } in
-    prepared c.in_ok-sources.sources.items c.in-Some.joins.now c.in-Some.main.now (parts_of c) steps leading c.in_ok-leading.ensures.leading
-    stages c.in_ok-schema.schema leads.0 (c.in_ok-stages.ensures.steps ∙ c.in_ok-leading.ensures.rest) (ap (source_refusal 0) c.in_ok-sources.ensures.sources ∙ c.in_ok-sources.ensures.passed)
-    (ap (λ (ss : List RowStep). steps_schema c.in-Some.main.now.schema (map step_of ss)) (sym c.as_slice.ensures.value) ∙ c.in_ok-schema.ensures.ok)
+    prepared c.in_ok-joins.joins.items c.pop.new.self.items c.in-Some.main (parts_of c) steps leading c.in_ok-leading.ensures.leading
+    stages c.in_ok-schema.schema leads.0 (c.in_ok-stages.ensures.steps ∙ c.in_ok-leading.ensures.rest) (ap (source_refusal 0) c.in_ok-joins.ensures.sources ∙ c.in_ok-joins.ensures.passed)
+    (ap (λ (ss : List RowStep). steps_schema c.in-Some.main.schema (map step_of ss)) (sym c.as_slice.ensures.value) ∙ c.in_ok-schema.ensures.ok)
     (subst (λ n. Leads joins n c.in_ok-schema.schema stages leads.0) count leads.1)
     c.count_files-inputs.result
-    (subst IsWithinLimits (ap of_sources (sym c.in_ok-sources.ensures.sources)) c.plan.invariant)
-    (c.count_files-inputs.ensures ∙ ap (λ ss. sum_by (λ (s : Source). s.files) (map source_data ss)) c.deref.ensures.value ∙ ap (sum_by (λ (s : Source). s.files)) (sym c.in_ok-sources.ensures.sources))
+    (subst IsWithinLimits (ap of_sources (sym c.in_ok-joins.ensures.sources)) c.plan.invariant)
+    (c.count_files-inputs.ensures ∙ ap (λ ss. sum_by (λ (s : Source). s.files) (map source_data ss)) c.deref.ensures.value ∙ ap (sum_by (λ (s : Source). s.files)) (sym c.in_ok-joins.ensures.sources))
 
 pub overflow_sub-join_files : goal.overflow_sub-join_files
-overflow_sub-join_files c = omega (arith, (is-prepared c).inputs_wanted, wanted-is c.in_ok-sources.sources.items (front_of c) c.in_ok-stages.stages.items c.count_files-inputs.result (is-prepared c) c.in-Some.joins.now c.in-Some.main.now (parts_of c))
+overflow_sub-join_files c = omega (arith, (is-prepared c).inputs_wanted, wanted-is c.in_ok-joins.joins.items (front_of c) c.in_ok-stages.stages.items c.count_files-inputs.result (is-prepared c) c.pop.new.self.items c.in-Some.main (parts_of c))
 
 pub invariant_of-result : goal.invariant_of-result
+unfolding front_of
 invariant_of-result c =
-    let sources = c.in_ok-sources.sources.items in
+    let sources = c.in_ok-joins.joins.items in
     let stages = c.in_ok-stages.stages.items in
     let inputs = c.count_files-inputs.result in
-    subst (λ front. IsChecked sources front stages inputs × (inputs - c.in-Some.main.now.files ≡ join_files (query_of sources front stages))) (sym (front-is c))
-    (is-prepared c, join-count sources (front_of c) stages inputs (is-prepared c) c.in-Some.joins.now c.in-Some.main.now (parts_of c))
+    let leading = map step_of c.in_ok-leading.leading.items in
+    let after = c.in_ok-after_leading.after_leading in
+    subst (λ ss. IsChecked ss c.in_ok-front.front stages inputs × (inputs - c.in-Some.main.files ≡ join_files (query_of ss c.in_ok-front.front stages)) × (after ≡ fields_after_all c.in_ok-front.front.fields c.in_ok-front.front.steps)) (parts_of c)
+    (subst (λ front. IsChecked sources front stages inputs × (inputs - c.in-Some.main.files ≡ join_files (query_of sources front stages)) × (after ≡ fields_after_all front.fields front.steps)) (sym (front-is c)) (
+      is-prepared c,
+      join-count sources (front_of c) stages inputs (is-prepared c) c.pop.new.self.items c.in-Some.main (parts_of c),
+      c.in_ok-after_leading.ensures ∙ sym (fields-after-all c.in-Some.main.schema c.in_ok-schema.schema leading
+          (ap (λ (ss : List RowStep). steps_schema c.in-Some.main.schema (map step_of ss)) (sym c.as_slice.ensures.value) ∙ c.in_ok-schema.ensures.ok)),
+    ))
 
-passes : (c : goal.In_ok-front) → checked (query_of c.in_ok-sources.sources.items (front_of c) c.in_ok-stages.stages.items) ≡ Ok (query_of c.in_ok-sources.sources.items (front_of c) c.in_ok-stages.stages.items)
-passes c = checked-is c.in_ok-sources.sources.items (front_of c) c.in_ok-stages.stages.items c.count_files-inputs.result (is-prepared c)
+passes : (c : goal.In_ok-front) → checked (query_of c.in_ok-joins.joins.items (front_of c) c.in_ok-stages.stages.items) ≡ Ok (query_of c.in_ok-joins.joins.items (front_of c) c.in_ok-stages.stages.items)
+passes c = checked-is c.in_ok-joins.joins.items (front_of c) c.in_ok-stages.stages.items c.count_files-inputs.result (is-prepared c)
 
 pub returns-clause-ok : goal.returns-clause-ok
 unfolding front_of
 returns-clause-ok c =
-    let sources = c.in_ok-sources.sources.items in
+    let sources = c.in_ok-joins.joins.items in
     let stages = c.in_ok-stages.stages.items in
     let steps = map plan_step_of c.plan.inside.steps.items in
     let of_sources : List Source → Query = λ ss. record { sources = ss; steps = steps } in
     let of_steps : List PlanStep → Query = λ ss. record { sources = map checked_source_data sources; steps = ss } in
-    ap checked (sym c.plan.view_is ∙ ap of_sources (sym c.in_ok-sources.ensures.sources))
+    ap checked (sym c.plan.view_is ∙ ap of_sources (sym c.in_ok-joins.ensures.sources))
     ∙ ap checked (ap of_steps (sym (steps-are steps (map step_of c.in_ok-leading.leading.items) c.in_ok-leading.ensures.leading (stage_steps stages) (c.in_ok-stages.ensures.steps ∙ c.in_ok-leading.ensures.rest))))
     ∙ passes c
     ∙ ap (λ front. Ok (query_of sources front stages)) (sym (front-is c))
+    ∙ ap (λ ss. Ok (query_of ss c.in_ok-front.front stages)) (parts_of c)
 
 -- ---- the place at which the check stands
 
@@ -145,10 +158,10 @@ returns-clause-ok c =
 among : (s n t : ℕ) (old new : Place) → s ≡ n → ((steps : ℕ) → IsPlaceOf n steps old → IsPlaceOf n steps new) → IsPlaceOf s t old → IsPlaceOf s t new
 among s n t old new e moves h = subst (λ m. IsPlaceOf m t new) (sym e) (moves t (subst (λ m. IsPlaceOf m t old) e h))
 
-after-sources : (c : In_ok-sources) → IsPlaceOf (length c.args.plan.sources) (length c.args.plan.steps) c.check_sources.new.place
+after-sources : (c : In_ok-joins) → IsPlaceOf (length c.args.plan.sources) (length c.args.plan.steps) c.check_sources.new.place
 after-sources c =
     among (length c.args.plan.sources) (length c.plan.inside.sources.items) (length c.args.plan.steps) c.args.place.now c.check_sources.new.place
-    (ap (λ (q : Query). length q.sources) (sym c.plan.view_is) ∙ length-map c.plan.inside.sources.items source_data) c.in_ok-sources.ensures.place c.requires
+    (ap (λ (q : Query). length q.sources) (sym c.plan.view_is) ∙ length-map c.plan.inside.sources.items source_data) c.in_ok-joins.ensures.place c.requires
 
 -- as many steps as the leading ones and the rest
 all-steps : (c : In_ok-leading) → length c.in_ok-leading.leading.items + length c.in_ok-leading.rest.items ≡ length c.args.plan.steps
@@ -159,7 +172,7 @@ all-steps c =
 after-leading : (c : In_ok-schema) → IsPlaceOf (length c.args.plan.sources) (length c.args.plan.steps) c.check_leading.new.place
 after-leading c =
     let d = goal.at.In_ok-schema c in
-    c.in_ok-schema.ensures.place _ _ (omega (arith, ap length c.as_slice.ensures.value, all-steps d.In_ok-leading)) (after-sources d.In_ok-sources)
+    c.in_ok-schema.ensures.place _ _ (omega (arith, ap length c.as_slice.ensures.value, all-steps d.In_ok-leading)) (after-sources d.In_ok-joins)
 
 -- and so after the stages
 after-stages : (c : In_ok-stages) → IsPlaceOf (length c.args.plan.sources) (length c.args.plan.steps) c.check_stages.new.place
@@ -167,21 +180,24 @@ after-stages c =
     let d = goal.at.In_ok-stages c in
     c.in_ok-stages.ensures.place _ _ (omega (arith, c.len.ensures, c.in_ok-leading.leading.ok.0, all-steps d.In_ok-leading)) (after-leading d.In_ok-schema)
 
-pub returns-in_err-sources-clause-place : goal.returns-in_err-sources-clause-place
-returns-in_err-sources-clause-place c =
+pub returns-in_err-joins-clause-place : goal.returns-in_err-joins-clause-place
+returns-in_err-joins-clause-place c =
     among (length c.args.plan.sources) (length c.plan.inside.sources.items) (length c.args.plan.steps) c.args.place.now c.check_sources.new.place
-    (ap (λ (q : Query). length q.sources) (sym c.plan.view_is) ∙ length-map c.plan.inside.sources.items source_data) c.in_err-sources.ensures.place c.requires
+    (ap (λ (q : Query). length q.sources) (sym c.plan.view_is) ∙ length-map c.plan.inside.sources.items source_data) c.in_err-joins.ensures.place c.requires
 
 pub returns-in_err-leading-clause-place : goal.returns-in_err-leading-clause-place
-returns-in_err-leading-clause-place c = after-sources (goal.at.returns-in_err-leading-clause-place c).In_ok-sources
+returns-in_err-leading-clause-place c = after-sources (goal.at.returns-in_err-leading-clause-place c).In_ok-joins
 
 pub returns-in_err-front_schema-clause-place : goal.returns-in_err-front_schema-clause-place
-returns-in_err-front_schema-clause-place c = after-sources (goal.at.returns-in_err-front_schema-clause-place c).In_ok-sources
+returns-in_err-front_schema-clause-place c = after-sources (goal.at.returns-in_err-front_schema-clause-place c).In_ok-joins
 
 pub returns-in_err-schema-clause-place : goal.returns-in_err-schema-clause-place
 returns-in_err-schema-clause-place c =
     let d = goal.at.returns-in_err-schema-clause-place c in
-    c.in_err-schema.ensures.place _ _ (omega (arith, ap length c.as_slice.ensures.value, all-steps d.In_ok-leading)) (after-sources d.In_ok-sources)
+    c.in_err-schema.ensures.place _ _ (omega (arith, ap length c.as_slice.ensures.value, all-steps d.In_ok-leading)) (after-sources d.In_ok-joins)
+
+pub returns-in_err-after_leading-clause-place : goal.returns-in_err-after_leading-clause-place
+returns-in_err-after_leading-clause-place c = after-leading (goal.at.returns-in_err-after_leading-clause-place c).In_ok-schema
 
 pub returns-in_err-stages-clause-place : goal.returns-in_err-stages-clause-place
 returns-in_err-stages-clause-place c =

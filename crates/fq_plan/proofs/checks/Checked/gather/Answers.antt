@@ -10,7 +10,7 @@ use Rattle.fq_lanes.specs.Engine.{Finishes}
 use Rattle.fq_lanes.specs.declared.faults.RunFault.{RunFault}
 use Rattle.fq_lanes.specs.declared.faults.RunFault.TheVariants as engine
 use Rattle.fq_lanes.specs.declared.reports.Report.{Report}
-use Rattle.fq_plan.specs.EngineRun.{opened}
+use Rattle.fq_plan.specs.EngineRun.{no_rows, opened}
 use Rattle.fq_plan.specs.Feeding.{Feeding, MayCome}
 use Rattle.fq_plan.specs.GatheredRun.{HasGathered}
 use Rattle.fq_plan.specs.Plan.{Query, files_wanted}
@@ -26,13 +26,13 @@ use Rattle.fq_plan.proofs.OutcomeLemmas.{leads-over}
 use Rattle.fq_plan.proofs.StartLemmas.{count-schemas, join-count, length-opened, opened-open}
 use Rattle.fq_plan.proofs.checks.Checked.gather.Given.{Over}
 use Rattle.fq_plan.proofs.checks.Checked.gather.Goals as goal
-use Rattle.fq_plan.proofs.checks.Checked.gather.Goals.{In_ok-outcome}
+use Rattle.fq_plan.proofs.checks.Checked.gather.Goals.{After-as_slice, In_ok-outcome}
 
 pub open_feeds-requires-clause-one_each : goal.open_feeds-requires-clause-one_each
 open_feeds-requires-clause-one_each g c =
     let s = c.self.inside in
-    let schemas = c.in_ok-schemas.ensures ∙ ap (flat_map (λ (s : CheckedSource). replicate s.files s.schema)) c.as_slice.ensures.value in
-    let count = ap length schemas ∙ count-schemas s.sources.items s.leading.front s.stages.items s.inputs c.self.invariant.0 ∙ ap files_wanted c.self.view_is in
+    let schemas = c.in_ok-schemas.ensures ∙ ap (λ (js : List CheckedSource). flat_map (λ (s : CheckedSource). replicate s.files s.schema) (js ++ c.self.inside.main ∷ [])) c.as_slice-joins.ensures.value in
+    let count = ap length schemas ∙ count-schemas (s.joins.items ++ s.main ∷ []) s.leading.front s.stages.items s.inputs c.self.invariant.0 ∙ ap files_wanted c.self.view_is in
     omega (arith, count, c.requires.inputs, c.in_ok-schemas.schemas.ok.0)
 
 pub run_lanes-tail-requires-clause-feeds : goal.run_lanes-tail-requires-clause-feeds
@@ -52,35 +52,34 @@ run_lanes-tail-requires-clause-open g c κs within =
     subst (λ (fs : List Feeding). All (λ (f : Feeding). f.most ≤ 2147483648) fs) (sym c.in_ok-feeds.ensures)
     (opened-open (g.R.Read.remaining) c.args.batch_size 0 c.in_ok-schemas.schemas.items c.args.inputs.items)
 
--- the sources before the main one, and that one
-parts-are : (g : Over) (c : In_ok-outcome g) → c.self.inside.sources.items ≡ c.in-Some.joins.now ++ c.in-Some._main.now ∷ []
-parts-are g c = sym c.deref.ensures.value ∙ c.in-Some.ensures.cases.0
-
 -- what the threads did
 finished : (g : Over) (c : In_ok-outcome g) →
-    Finishes MayCome (λ file item out. out ≡ work_on c.self.inside.leading.front (c.self.inside.inputs - c.in-Some._main.now.files) file item) TailTakes
+    Finishes MayCome (λ file item out. out ≡ work_on c.self.inside.leading.front (c.self.inside.inputs - c.self.inside.main.files) file item) TailTakes
     c.in_ok-feeds.feeds.items c.new-tail.result c.in_ok-outcome.field-0.trace.items c.run_lanes-tail.result.0
 finished g c =
     let s = c.self.inside in
-    let joins-are = c.self.invariant.1 ∙ sym (join-count s.sources.items s.leading.front s.stages.items s.inputs c.self.invariant.0 c.in-Some.joins.now c.in-Some._main.now (parts-are g c)) in
+    let joins-are = c.self.invariant.1 ∙ sym (join-count (s.joins.items ++ s.main ∷ []) s.leading.front s.stages.items s.inputs c.self.invariant.0 c.self.inside.joins.items c.self.inside.main refl) in
     let Done : ℕ → Report → Type 0 = λ joins report. Finishes MayCome (λ file item out. out ≡ work_on c.self.inside.leading.front joins file item) TailTakes
     c.in_ok-feeds.feeds.items c.new-tail.result report.trace.items c.run_lanes-tail.result.0 in
     subst (λ joins. Done joins c.in_ok-outcome.field-0) joins-are
     (subst (λ (r : Result Report RunFault). IfOk r (Done s.leading.join_files)) c.in_ok-outcome.was c.run_lanes-tail.ensures.done)
 
+-- the sources before the main one, of which nothing was taken
+sources-are : (g : Over) (c : After-as_slice g) → c.in_ok-sources.sources.items ≡ map (λ (s : CheckedSource). no_rows s.files s.schema) c.self.inside.joins.items
+sources-are g c = c.in_ok-sources.ensures ∙ ap (map (λ (s : CheckedSource). no_rows s.files s.schema)) c.as_slice-joins.ensures.value
+
 pub new-waiting-requires : goal.new-waiting-requires
 new-waiting-requires g c =
     let s = c.self.inside in
     let checked = c.self.invariant.0 in
-    let parts = sym c.deref.ensures.value ∙ c.in-Some.ensures.cases.0 in
-    let joins = c.in-Some.joins.now in
-    let main = c.in-Some._main.now in (
+    let joins = s.joins.items in
+    let main = s.main in (
       length s.leading.front.steps,
       (
         checked.leads.1,
         subst (λ (t : List Gathered × Fields × List Stage). Leads (map (λ (g : Gathered). g.batch.fields) t.0) (length s.leading.front.steps) t.1 t.2 checked.leads.1)
-            (λ i. (sym c.in_ok-sources.ensures i, sym c.in_ok-before.ensures i, sym c.as_slice-2.ensures.value i))
-            (leads-over s.sources.items s.leading.front s.stages.items s.inputs checked joins main parts),
+            (λ i. (sym (sources-are g c) i, sym (c.in_ok-before.ensures ∙ c.self.invariant.2) i, sym c.as_slice.ensures.value i))
+            (leads-over (s.joins.items ++ s.main ∷ []) s.leading.front s.stages.items s.inputs checked joins main refl),
       ),
     )
 
@@ -88,18 +87,17 @@ pub returns-clause-gathered : goal.returns-clause-gathered
 returns-clause-gathered g c =
     let s = c.self.inside in
     let checked = c.self.invariant.0 in
-    let parts = parts-are g c in
-    let joins = c.in-Some.joins.now in
-    let main = c.in-Some._main.now in
-    let count : length c.args.inputs.items ≡ files_wanted (query_of s.sources.items s.leading.front s.stages.items) = omega (arith, c.args.inputs.ok.0, c.requires.inputs, ap files_wanted c.self.view_is) in
+    let joins = s.joins.items in
+    let main = s.main in
+    let count : length c.args.inputs.items ≡ files_wanted (query_of (s.joins.items ++ s.main ∷ []) s.leading.front s.stages.items) = omega (arith, c.args.inputs.ok.0, c.requires.inputs, ap files_wanted c.self.view_is) in
     subst (λ (p : Query). HasGathered g.R.Read.remaining c.args.inputs.items p c.args.batch_size c.run_lanes-tail.result.0 c.in_ok-outcome.field-0.trace.items) c.self.view_is
-    (has-gathered s.sources.items s.leading.front s.stages.items s.inputs checked joins main parts g.R.Read.remaining c.args.inputs.items c.args.batch_size c.in_ok-feeds.feeds.items
+    (has-gathered (s.joins.items ++ s.main ∷ []) s.leading.front s.stages.items s.inputs checked joins main refl g.R.Read.remaining c.args.inputs.items c.args.batch_size c.in_ok-feeds.feeds.items
     c.new-tail.result c.run_lanes-tail.result.0 c.in_ok-outcome.field-0.trace.items
     (omega (arith, c.requires.batch_size.0)) count
-    (c.in_ok-feeds.ensures ∙ ap (λ fss. opened (g.R.Read.remaining) c.args.batch_size 0 fss c.args.inputs.items) (c.in_ok-schemas.ensures ∙ ap (flat_map (λ (s : CheckedSource). replicate s.files s.schema)) c.as_slice.ensures.value))
+    (c.in_ok-feeds.ensures ∙ ap (λ fss. opened (g.R.Read.remaining) c.args.batch_size 0 fss c.args.inputs.items) (c.in_ok-schemas.ensures ∙ ap (λ (js : List CheckedSource). flat_map (λ (s : CheckedSource). replicate s.files s.schema) (js ++ c.self.inside.main ∷ [])) c.as_slice-joins.ensures.value))
     (c.new-tail.ensures.files ∙ c.self.invariant.1)
     (c.new-tail.ensures.waits s.stages.items _ _ (record {
-      sources = c.new-waiting.ensures ∙ (λ i. record { joins = c.in_ok-sources.ensures i; before = c.in_ok-before.ensures i; stages = c.as_slice-2.ensures.value i });
+      sources = c.new-waiting.ensures ∙ (λ i. record { joins = sources-are g (goal.at.returns-clause-gathered g c).After-as_slice i; before = (c.in_ok-before.ensures ∙ c.self.invariant.2) i; stages = c.as_slice.ensures.value i });
       nothing = refl;
     }))
     (finished g c))

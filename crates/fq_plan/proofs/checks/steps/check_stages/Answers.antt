@@ -1,6 +1,7 @@
 use Rattle.std.proofs.Common.{◌≡◌, ◌<◌, ◌≤◌, ℕ, refl, List, ◌++◌, ◌∷◌, [], ◌+◌, Err, map, length, ap, sym, ◌∙◌, subst, inl, inr, arith, append_assoc, length-append}
 use Rattle.std.proofs.lemmas.List.{length-map, map-append}
 use Rattle.std.proofs.lemmas.Result.{err_from_is_err_and}
+use Rattle.fq_column.specs.Frame.{Fields}
 use Rattle.fq_plan.specs.Judged.{judged_steps, refused_at}
 use Rattle.fq_plan.specs.Stages.{checked_fields, stage_steps, Leads}
 use Rattle.fq_plan.specs.View.{plan_step_of}
@@ -57,7 +58,7 @@ loop-step-preserved c =
     let step = c.in-Some.step in
     let stages = c.loop-step.stages.items in
     let number = c.args.first + c.len-in-loop-step.result in
-    let stage : Stage = record { number = number; operator = c.in_ok-operator.operator } in
+    let stage : Stage = record { number = number; operator = c.in_ok-operator.operator; after = c.in_ok-operator.after } in
     let same : number ≡ c.args.first + length (stage_steps stages) = omega (
       arith,
       ap length c.loop-step.invariant.steps,
@@ -72,8 +73,9 @@ loop-step-preserved c =
           ∙ stage_steps-snoc stages stage
           ∙ (λ i. c.loop-step.invariant.steps i ++ c.in_ok-operator.ensures.step i)
           ∙ sym (map-append plan_step_of c.loop-step.yielded (step ∷ []));
-      leads = subst (λ (ss : List Stage). Leads joins c.args.first c.args.schema ss c.in_ok-operator.after) (sym c.in_ok-push.ensures.items)
-          (leads-further joins c.args.first c.args.schema stages c.loop-step.schema stage number c.in_ok-operator.after c.loop-step.invariant.leads same refl c.in_ok-operator.ensures.turns);
+      leads = subst (λ (f : Fields). Leads joins c.args.first c.args.schema c.push.new.self.items f) (sym c.in_ok-schema.ensures)
+          (subst (λ (ss : List Stage). Leads joins c.args.first c.args.schema ss c.in_ok-operator.after) (sym c.in_ok-push.ensures.items)
+          (leads-further joins c.args.first c.args.schema stages c.loop-step.schema stage number c.loop-step.invariant.leads same refl c.in_ok-operator.ensures.turns));
       place = λ sources total few h.
           below c.args.first c.args.steps.items c.loop-step.yielded c.next.new.self.rest.items step c.len-in-loop-step.result total
           (c.loop-step.invariant.left ∙ ap (λ rest. c.loop-step.yielded ++ rest) c.in-Some.ensures.steps.0) (omega (arith, c.loop-step.invariant.count, c.len-in-loop-step.ensures)) few;
