@@ -1,13 +1,13 @@
-use Rattle.std.proofs.Common.{◌≡◌, ◌<◌, ℕ, List, ◌++◌, ◌∷◌, [], Some, map, length, ap, sym, ◌∙◌, inl, inr, arith, append_assoc, length-append}
+use Rattle.std.proofs.Common.{◌≡◌, ◌<◌, ◌++◌, ◌∷◌, [], Some, map, length, ap, sym, ◌∙◌, inl, inr, arith, append_assoc, length-append}
 use Rattle.std.proofs.lemmas.List.{length-map, map-append}
 use Rattle.std.proofs.lemmas.Result.{err_from_is_err_and}
 use Rattle.fq_plan.specs.Judged.{refused_at, source_refusal}
 use Rattle.fq_plan.specs.Stages.{checked_source_data}
 use Rattle.fq_plan.specs.View.{source_data}
 use Rattle.fq_plan.specs.declared.faults.Place.TheVariants as place
-use Rattle.fq_plan.specs.declared.plans.Source.{Source as PlanSource}
 use Rattle.fq_plan.proofs.CheckLemmas.{source-refused, sources-passed}
 use Rattle.fq_plan.proofs.checks.sources.check_sources.Goals as goal
+use Rattle.fq_plan.proofs.checks.sources.check_sources.Goals.{After-len-in-loop-source}
 
 pub returns-in_err-check_source-clause-refused : goal.returns-in_err-check_source-clause-refused
 returns-in_err-check_source-clause-refused c =
@@ -32,34 +32,23 @@ returns-in_err-check_source-clause-refused c =
     ])
 
 -- the number of a source that is yet to come
-below : (all before rest : List PlanSource) (s : PlanSource) (n : ℕ) → all ≡ before ++ (s ∷ rest) → n ≡ length before → n < length all
-below all before rest s n e h = omega (arith, ap length e, length-append before (s ∷ rest), h)
+to-come : (c : After-len-in-loop-source) → c.len-in-loop-source.result < length c.args.sources.items
+to-come c = omega (
+  arith,
+  ap length (c.loop-source.invariant.left ∙ ap (λ rest. c.loop-source.yielded ++ rest) c.in-Some.ensures.steps.0),
+  length-append c.loop-source.yielded (c.in-Some.source ∷ c.next.new.self.rest.items),
+  c.len-in-loop-source.ensures,
+  c.loop-source.checked.ok.0,
+  length-map c.loop-source.checked.items checked_source_data,
+  length-map c.loop-source.yielded source_data,
+  ap length c.loop-source.invariant.same,
+)
 
 pub returns-in_err-check_source-clause-place : goal.returns-in_err-check_source-clause-place
-returns-in_err-check_source-clause-place c steps h =
-    below c.args.sources.items c.loop-source.yielded c.next.new.self.rest.items c.in-Some.source c.len-in-loop-source.result
-    (c.loop-source.invariant.left ∙ ap (λ rest. c.loop-source.yielded ++ rest) c.in-Some.ensures.steps.0)
-    (omega (
-      arith,
-      c.len-in-loop-source.ensures,
-      c.loop-source.checked.ok.0,
-      length-map c.loop-source.checked.items checked_source_data,
-      length-map c.loop-source.yielded source_data,
-      ap length c.loop-source.invariant.same,
-    ))
+returns-in_err-check_source-clause-place c steps h = to-come (goal.at.returns-in_err-check_source-clause-place c).After-len-in-loop-source
 
 pub returns-in_err-push-clause-place : goal.returns-in_err-push-clause-place
-returns-in_err-push-clause-place c steps h =
-    below c.args.sources.items c.loop-source.yielded c.next.new.self.rest.items c.in-Some.source c.len-in-loop-source.result
-    (c.loop-source.invariant.left ∙ ap (λ rest. c.loop-source.yielded ++ rest) c.in-Some.ensures.steps.0)
-    (omega (
-      arith,
-      c.len-in-loop-source.ensures,
-      c.loop-source.checked.ok.0,
-      length-map c.loop-source.checked.items checked_source_data,
-      length-map c.loop-source.yielded source_data,
-      ap length c.loop-source.invariant.same,
-    ))
+returns-in_err-push-clause-place c steps h = to-come (goal.at.returns-in_err-push-clause-place c).After-len-in-loop-source
 
 pub loop-source-preserved : goal.loop-source-preserved
 loop-source-preserved c =
@@ -71,15 +60,5 @@ loop-source-preserved c =
           ∙ sym (map-append source_data c.loop-source.yielded (source ∷ []));
       passed = ap (source_refusal 0) (map-append source_data c.loop-source.yielded (source ∷ []))
           ∙ sources-passed (map source_data c.loop-source.yielded) (source_data source) c.loop-source.invariant.passed c.in_ok-check_source.ensures.passed;
-      place = λ steps h.
-          below c.args.sources.items c.loop-source.yielded c.next.new.self.rest.items source c.len-in-loop-source.result
-          (c.loop-source.invariant.left ∙ ap (λ rest. c.loop-source.yielded ++ rest) c.in-Some.ensures.steps.0)
-          (omega (
-            arith,
-            c.len-in-loop-source.ensures,
-            c.loop-source.checked.ok.0,
-            length-map c.loop-source.checked.items checked_source_data,
-            length-map c.loop-source.yielded source_data,
-            ap length c.loop-source.invariant.same,
-          ));
+      place = λ steps h. to-come (goal.at.loop-source-preserved c).After-len-in-loop-source;
     }

@@ -6,10 +6,10 @@ use Rattle.fq_plan.specs.Judged.{judged_steps, refused_at}
 use Rattle.fq_plan.specs.Stages.{checked_fields, stage_steps, Leads}
 use Rattle.fq_plan.specs.View.{plan_step_of}
 use Rattle.fq_plan.specs.declared.faults.Place.TheVariants as place
-use Rattle.fq_plan.specs.declared.plans.Step.{Step as PlannedStep}
 use Rattle.fq_plan.specs.declared.stages.Stage.{Stage}
 use Rattle.fq_plan.proofs.CheckLemmas.{leads-further, stage_steps-snoc, stages-refused}
 use Rattle.fq_plan.proofs.checks.steps.check_stages.Goals as goal
+use Rattle.fq_plan.proofs.checks.steps.check_stages.Goals.{After-len-in-loop-step}
 
 pub returns-in_err-operator-clause-refused : goal.returns-in_err-operator-clause-refused
 returns-in_err-operator-clause-refused c =
@@ -39,18 +39,21 @@ returns-in_err-operator-clause-refused c =
     ])
 
 -- the number of a step that is yet to come
-below : (first : ℕ) (all before rest : List PlannedStep) (s : PlannedStep) (n total : ℕ) → all ≡ before ++ (s ∷ rest) → n ≡ length before → first + length all ≤ total → first + n < total
-below first all before rest s n total e h few = omega (arith, ap length e, length-append before (s ∷ rest), h, few)
+to-come : (c : After-len-in-loop-step) (total : ℕ) → c.args.first + length c.args.steps.items ≤ total → c.args.first + c.len-in-loop-step.result < total
+to-come c total few = omega (
+  arith,
+  ap length (c.loop-step.invariant.left ∙ ap (λ rest. c.loop-step.yielded ++ rest) c.in-Some.ensures.steps.0),
+  length-append c.loop-step.yielded (c.in-Some.step ∷ c.next.new.self.rest.items),
+  c.loop-step.invariant.count,
+  c.len-in-loop-step.ensures,
+  few,
+)
 
 pub returns-in_err-operator-clause-place : goal.returns-in_err-operator-clause-place
-returns-in_err-operator-clause-place c sources total few h =
-    below c.args.first c.args.steps.items c.loop-step.yielded c.next.new.self.rest.items c.in-Some.step c.len-in-loop-step.result total
-    (c.loop-step.invariant.left ∙ ap (λ rest. c.loop-step.yielded ++ rest) c.in-Some.ensures.steps.0) (omega (arith, c.loop-step.invariant.count, c.len-in-loop-step.ensures)) few
+returns-in_err-operator-clause-place c sources total few h = to-come (goal.at.returns-in_err-operator-clause-place c).After-len-in-loop-step total few
 
 pub returns-in_err-push-clause-place : goal.returns-in_err-push-clause-place
-returns-in_err-push-clause-place c sources total few h =
-    below c.args.first c.args.steps.items c.loop-step.yielded c.next.new.self.rest.items c.in-Some.step c.len-in-loop-step.result total
-    (c.loop-step.invariant.left ∙ ap (λ rest. c.loop-step.yielded ++ rest) c.in-Some.ensures.steps.0) (omega (arith, c.loop-step.invariant.count, c.len-in-loop-step.ensures)) few
+returns-in_err-push-clause-place c sources total few h = to-come (goal.at.returns-in_err-push-clause-place c).After-len-in-loop-step total few
 
 pub loop-step-preserved : goal.loop-step-preserved
 loop-step-preserved c =
@@ -76,7 +79,5 @@ loop-step-preserved c =
       leads = subst (λ (f : Fields). Leads joins c.args.first c.args.schema c.push.new.self.items f) (sym c.in_ok-schema.ensures)
           (subst (λ (ss : List Stage). Leads joins c.args.first c.args.schema ss c.in_ok-operator.after) (sym c.in_ok-push.ensures.items)
           (leads-further joins c.args.first c.args.schema stages c.loop-step.schema stage number c.loop-step.invariant.leads same refl c.in_ok-operator.ensures.turns));
-      place = λ sources total few h.
-          below c.args.first c.args.steps.items c.loop-step.yielded c.next.new.self.rest.items step c.len-in-loop-step.result total
-          (c.loop-step.invariant.left ∙ ap (λ rest. c.loop-step.yielded ++ rest) c.in-Some.ensures.steps.0) (omega (arith, c.loop-step.invariant.count, c.len-in-loop-step.ensures)) few;
+      place = λ sources total few h. to-come (goal.at.loop-step-preserved c).After-len-in-loop-step total few;
     }
