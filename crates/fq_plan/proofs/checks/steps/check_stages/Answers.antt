@@ -11,6 +11,16 @@ use Rattle.fq_plan.proofs.CheckLemmas.{leads-further, stage_steps-snoc, stages-r
 use Rattle.fq_plan.proofs.checks.steps.check_stages.Goals as goal
 use Rattle.fq_plan.proofs.checks.steps.check_stages.Goals.{After-len-in-loop-step}
 
+-- as many steps as the stages so far
+so-far : (c : After-len-in-loop-step) → length (stage_steps c.loop-step.stages.items) ≡ c.len-in-loop-step.result
+so-far c = omega (
+  arith,
+  ap length c.loop-step.invariant.steps,
+  length-map c.loop-step.yielded plan_step_of,
+  c.loop-step.invariant.count,
+  c.len-in-loop-step.ensures,
+)
+
 pub returns-in_err-operator-clause-refused : goal.returns-in_err-operator-clause-refused
 returns-in_err-operator-clause-refused c =
     let exit = err_from_is_err_and c.from_residual-in_err-operator.result c.from_residual-in_err-operator.ensures.1 in
@@ -23,13 +33,7 @@ returns-in_err-operator-clause-refused c =
     ap (map plan_step_of) (c.loop-step.invariant.left ∙ ap (λ rest. c.loop-step.yielded ++ rest) c.in-Some.ensures.steps.0)
     ∙ map-append plan_step_of c.loop-step.yielded (step ∷ left)
     ∙ ap (λ ss. ss ++ (plan_step_of step ∷ map plan_step_of left)) (sym c.loop-step.invariant.steps) in
-    let number : length (stage_steps stages) ≡ c.len-in-loop-step.result = omega (
-      arith,
-      ap length c.loop-step.invariant.steps,
-      length-map c.loop-step.yielded plan_step_of,
-      c.loop-step.invariant.count,
-      c.len-in-loop-step.ensures,
-    ) in
+    let number = so-far (goal.at.returns-in_err-operator-clause-refused c).After-len-in-loop-step in
     rw (exit.1, exit.2) (elim c.in_err-operator.ensures.refused [
       | inl e ↦ inl (
           ap (judged_steps joins c.args.first c.args.schema) parts
@@ -62,13 +66,7 @@ loop-step-preserved c =
     let stages = c.loop-step.stages.items in
     let number = c.args.first + c.len-in-loop-step.result in
     let stage : Stage = record { number = number; operator = c.in_ok-operator.operator; after = c.in_ok-operator.after } in
-    let same : number ≡ c.args.first + length (stage_steps stages) = omega (
-      arith,
-      ap length c.loop-step.invariant.steps,
-      length-map c.loop-step.yielded plan_step_of,
-      c.loop-step.invariant.count,
-      c.len-in-loop-step.ensures,
-    ) in
+    let same : number ≡ c.args.first + length (stage_steps stages) = ap (λ n. c.args.first + n) (sym (so-far (goal.at.loop-step-preserved c).After-len-in-loop-step)) in
     record {
       left = c.loop-step.invariant.left ∙ ap (λ rest. c.loop-step.yielded ++ rest) c.in-Some.ensures.steps.0 ∙ sym (append_assoc c.loop-step.yielded (step ∷ []) c.next.new.self.rest.items);
       count = omega (arith, c.in_ok-push.ensures.len, c.loop-step.invariant.count, length-append c.loop-step.yielded (step ∷ []));
