@@ -1,6 +1,6 @@
-use Rattle.std.proofs.Common.{◌≡◌, ◌++◌, List, length, map, take, drop, arith, append-nil, ap, sym, ◌∙◌, subst}
-use Rattle.std.proofs.lemmas.List.{drop_all, take_all}
+use Rattle.std.proofs.Common.{◌≡◌, List, length, map, arith, ap, sym, ◌∙◌, subst}
 use Rattle.fq_column.specs.Frame.{Fields}
+use Rattle.fq_csv.proofs.StepLemmas.{written-back}
 use Rattle.fq_plan.specs.Gathering.{taken_in}
 use Rattle.fq_plan.specs.Stages.{Leads}
 use Rattle.fq_plan.specs.declared.gathering.Gathered.{Gathered}
@@ -14,9 +14,7 @@ invariant_of-result c =
     let new = c.take_in.new.sources in
     let now : new ≡ taken_in c.args.file c.args.item s.joins.items = c.in_ok-take_in.ensures ∙ ap (taken_in c.args.file c.args.item) c.as_mut_slice.ensures.value in
     let long : length new ≡ length s.joins.items = ap length now ∙ length-taken c.args.file c.args.item s.joins.items in
-    let whole : take s.joins.len (new ++ drop (length new) s.joins.items) ≡ new =
-    ap (λ (gs : List Gathered). take s.joins.len (new ++ gs)) (drop_all (length new) s.joins.items (omega (arith, long)))
-    ∙ ap (take s.joins.len) (append-nil new) ∙ take_all s.joins.len new (omega (arith, long)) in (
+    let whole = written-back s.joins.items new s.joins.len long (omega arith) in (
       i.0,
       (
         i.1.0,
