@@ -50,8 +50,8 @@ framed g c files tell =
     (made.0, sym (all.outcome files tell) ∙ made.1, made.2)
 
 pub returns-clause-frame : goal.returns-clause-frame
-returns-clause-frame g c files tell = framed g c files tell
+returns-clause-frame g c files tell = framed g (goal.at.returns-clause-frame g c).In_ok-text files tell
 
 pub returns-clause-trace : goal.returns-clause-trace
 returns-clause-trace g c files tell =
-    c.in_ok-tail.ensures.gathered.trace files tell (subst (λ (r : Result Frame Fault). IsOk r) (sym (framed g c files tell).1) refl)
+    c.in_ok-tail.ensures.gathered.trace files tell (subst (λ (r : Result Frame Fault). IsOk r) (sym (framed g (goal.at.returns-clause-trace g c).In_ok-text files tell).1) refl)
