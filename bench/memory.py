@@ -87,7 +87,7 @@ TASKS = [
         bound=lambda printed: 1.2 * printed + 64,
     ),
     Task(
-        name="rolling sum over 100 rows, then a filter of one in a hundred",
+        name="rolling sum over 100 rows, then a filter that keeps 1 % of them",
         sources=SALES,
         steps='{"rolling_sum":{"column":"cents","window":100,"name":"rolled"}},{"filter":["ge",{"col":"cents"},990000]}',
         files=["sales.csv"],

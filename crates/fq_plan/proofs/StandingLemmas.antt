@@ -1,19 +1,17 @@
 -- What the tail of a run stands for, after one more item of the main source and at the end.
-use Rattle.std.proofs.Common.{◌≡◌, ℕ, List, [], ◌++◌, map, is_some, Option, Some, None, Result, Ok, Err, inl, inr, ap, sym, ◌∙◌, subst, cond, append_assoc}
+use Rattle.std.proofs.Common.{◌≡◌, ℕ, List, [], ◌++◌, is_some, Option, Some, None, Result, Ok, Err, inl, inr, ap, sym, ◌∙◌, subst, cond, append_assoc}
 use Rattle.std.specs.Prelude.{◌⊎◌}
 use Rattle.std.proofs.lemmas.Grind.{flat_map-append}
-use Rattle.fq_column.specs.Frame.{Fields, Frame, Row}
+use Rattle.fq_column.specs.Frame.{Fields, Row}
 use Rattle.fq_column.specs.Stream.{Stream, done, then_stream}
 use Rattle.fq_csv.specs.Printed.{printed, printed_names, printed_rows}
 use Rattle.fq_expr.proofs.StepLemmas.{then_stream-assoc}
 use Rattle.fq_plan.specs.Gathering.{added_stream, gathered, gathered_stream, with_stream}
 use Rattle.fq_plan.specs.GoingOn.{HasGoneOn}
 use Rattle.fq_plan.specs.Later.{later_steps}
-use Rattle.fq_plan.specs.Meaning.{frame_or_fault, outcome}
+use Rattle.fq_plan.specs.Meaning.{frame_or_fault}
 use Rattle.fq_plan.specs.Outcome.{outcome_of_stages}
 use Rattle.fq_plan.specs.Pipelines.{HasRun, PlanPart, meant}
-use Rattle.fq_plan.specs.Sources.{first_fault}
-use Rattle.fq_plan.specs.Stages.{stage_steps}
 use Rattle.fq_plan.specs.Standing.{IsOpened, IsSettled, IsStreaming, LeadsOver}
 use Rattle.fq_plan.specs.Streaming.{Streaming}
 use Rattle.fq_plan.specs.WaitingSources.{WaitingSources}
@@ -38,29 +36,6 @@ printed-more fields rows more =
 module _ (stages : List Stage) (n : ℕ) (after : Fields) (joins : List Gathered) (main : Gathered) where
   abbrev later : PlanPart
   later = later_steps n stages joins main.batch.fields after
-
-  -- the stages as they start on whole sources
-  abbrev pub HasStarted : Streaming → Type 0
-  HasStarted s = (first_fault (map gathered_stream joins) ≡ None) × (HasRun s.operators (later_steps n stages joins main.batch.fields after) [] [] × ((s.before ≡ main.batch.fields) × (s.text ≡ printed (record { fields = after; rows = [] }))))
-
-  pub streams-start : (s : Streaming) → gathered_stream main ≡ done [] → HasStarted s → IsStreaming stages n after joins main s
-  streams-start s nothing started = record {
-    none = started.0;
-    faultless = ap (λ (u : Stream Fault). u.fault) nothing;
-    before = started.1.1.0;
-    out = [];
-    run = subst (λ (rows : List Row). HasRun s.operators later rows []) (sym (ap (λ (u : Stream Fault). u.rows) nothing)) started.1.0;
-    text = started.1.1.1;
-  }
-
-  -- a source before the main one ends in a fault
-  pub settled-start : (f : Fault) → first_fault (map gathered_stream joins) ≡ Some f → IsSettled stages n after joins main f
-  settled-start f e rest =
-      let main' : Gathered = with_stream main (then_stream (gathered_stream main) rest) in
-      ap (λ (o : Option Fault). elim o as (λ _. Result Frame Fault) [
-        | Some f ↦ Err f
-        | None ↦ outcome (map (λ (g : Gathered). g.batch) joins) n main'.batch.fields (stage_steps stages) (gathered_stream main')
-      ]) e
 
   -- the outcome of what streams
   pub streaming-outcome : LeadsOver stages n after joins main → (s : Streaming) → IsStreaming stages n after joins main s →

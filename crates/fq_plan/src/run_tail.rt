@@ -1,4 +1,4 @@
-// The tail of a run: worked items go through the steps after the leading ones as they come.
+// The tail of a run: each worked item goes through the remaining steps as soon as it is taken.
 ghost use Rattle.std.specs.Prelude.{◌≡◌, ℕ, List, OnOk};
 ghost use Rattle.fq_column.specs.Frame.{Fields};
 ghost use Rattle.fq_plan.specs.Gathering.{gathered, taken_in};
