@@ -25,6 +25,8 @@ ROOT = os.path.dirname(os.path.dirname(os.path.abspath(__file__)))
 WORKERS = (1, 2, 4)
 DEFAULT = "frameq, 2 workers"
 REGIONS = 1_000
+PRODUCTS = 200_000
+SHOPS = 100
 WINDOW = 100
 
 
@@ -45,6 +47,40 @@ def make_sales(path, rows):
                 for number in range(start, min(start + 10_000, rows)))
 
 
+def make_orders(path, rows):
+    """Orders: a number, one of 200,000 products, one of 100 shops, and a price."""
+    draw = random.Random(2)
+    with open(path, "w", encoding="ascii") as file:
+        file.write("order,product,shop,cents\n")
+        for start in range(0, rows, 10_000):
+            file.writelines(
+                f"{number},{draw.randrange(PRODUCTS)},shop {draw.randrange(SHOPS)},{draw.randrange(1, 1_000_000)}\n"
+                for number in range(start, min(start + 10_000, rows)))
+
+
+def make_products(path):
+    """Every second product, each with its label."""
+    with open(path, "w", encoding="ascii") as file:
+        file.write("product,label\n")
+        file.writelines(f"{number},label {number % 977}\n" for number in range(0, PRODUCTS, 2))
+
+
+def make_visits(path, rows):
+    """Visits: 12 columns, of which eight are texts and three of these are quoted, for the commas in them."""
+    draw = random.Random(3)
+    names = [f"street {number}, house {number % 89}" for number in range(1_000)]
+    with open(path, "w", encoding="ascii") as file:
+        file.write("visit,host,path,agent,referrer,city,address,note,bytes,millis,status,cached\n")
+        for start in range(0, rows, 10_000):
+            file.writelines(
+                f'{number},host-{draw.randrange(100)}.example.org,/shelves/{draw.randrange(5000)}/books,'
+                f'"Reader/{draw.randrange(40)}.0 (like others, mostly)",https://example.net/{draw.randrange(900)},'
+                f'city {draw.randrange(300)},"{names[draw.randrange(1_000)]}","seen, and {draw.randrange(10)} more times",'
+                f'{draw.randrange(1, 1_000_000)},{draw.randrange(1, 5_000)},{draw.choice((200, 200, 200, 304, 404))},'
+                f'{draw.choice(("true", "false"))}\n'
+                for number in range(start, min(start + 10_000, rows)))
+
+
 def make_regions(path):
     """Four of five regions, each with its manager."""
     with open(path, "w", encoding="ascii") as file:
@@ -52,24 +88,42 @@ def make_regions(path):
         file.writelines(f"region {number},manager {number % 37}\n" for number in range(REGIONS) if number % 5)
 
 
+def make_inputs(folder, rows, files):
+    """Makes those of the files that are named."""
+    makers = {
+        "sales.csv": lambda path: make_sales(path, rows),
+        "regions.csv": make_regions,
+        "orders.csv": lambda path: make_orders(path, rows),
+        "products.csv": make_products,
+        "visits.csv": lambda path: make_visits(path, rows // 6),
+    }
+    for file in files:
+        makers[file](os.path.join(folder, file))
+
+
 # ---- tasks
 
 SALES = '{"files":1,"columns":[["id","int"],["region","text"],["quantity","int"],["cents","int"]]}'
+ORDERS = '{"files":1,"columns":[["order","int"],["product","int"],["shop","text"],["cents","int"]]}'
+PRODUCT_LABELS = '{"files":1,"columns":[["product","int"],["label","text"]]}'
+VISITS = '{"files":1,"columns":[["visit","int"],["host","text"],["path","text"],["agent","text"],["referrer","text"],' \
+         '["city","text"],["address","text"],["note","text"],["bytes","int"],["millis","int"],["status","int"],["cached","bool"]]}'
 MANAGERS = '{"files":1,"columns":[["region","text"],["manager","text"]]}'
 
 
 @dataclass
 class Task:
-    """One piece of work: the plan's sources and steps, its files, and what each peer runs."""
+    """One piece of work: the plan's sources and steps, its files (the last is the main one), and what each peer runs."""
     name: str
     sources: str
     steps: str
     files: List[str]
-    awk: str
-    miller: List[str]
-    sqlite: str
-    pandas: str
-    data_table: str
+    # what each peer runs; none where it has no CSV with quotes, or nothing of the kind
+    awk: Optional[str]
+    miller: Optional[List[str]]
+    sqlite: Optional[str]
+    pandas: Optional[str]
+    data_table: Optional[str]
 
     def plan(self):
         return f'{{"version":1,"sources":[{self.sources}],"steps":[{self.steps}]}}\n'
@@ -155,7 +209,73 @@ ROLL = Task(
     data_table=f"d <- sales(); d[, rolled := frollsum(cents, {WINDOW})]; answer <- d",
 )
 
-TASKS = {"filter": FILTER, "compute": COMPUTE, "group": GROUP, "join": JOIN, "roll": ROLL}
+SHOP_GROUPS = Task(
+    name=f"group by one of {SHOPS} texts: sum, count",
+    sources=ORDERS,
+    steps='{"group_by":{"keys":["shop"],"aggs":[["cents","sum","cents"],["orders","count","order"]]}}',
+    files=["orders.csv"],
+    awk='NR == 1 { next } !($3 in n) { order[++groups] = $3 } { sum[$3] += $4; n[$3]++ } '
+        'END { print "shop", "cents", "orders"; for (i = 1; i <= groups; i++) { k = order[i]; print k, sum[k], n[k] } }',
+    miller=["stats1", "-a", "sum,count", "-f", "cents", "-g", "shop", "then", "rename", "cents_sum,cents,cents_count,orders"],
+    sqlite="SELECT shop, sum(cents) AS cents, count(*) AS orders FROM orders GROUP BY shop;",
+    pandas="answer = orders().groupby('shop', sort=False).agg(cents=('cents', 'sum'), orders=('order', 'count')).reset_index()",
+    data_table="answer <- orders()[, .(cents = sum(as.numeric(cents)), orders = .N), by = shop]",
+)
+
+PRODUCT_GROUPS = Task(
+    name=f"group by one of {PRODUCTS:,} ints: sum, count",
+    sources=ORDERS,
+    steps='{"group_by":{"keys":["product"],"aggs":[["cents","sum","cents"],["orders","count","order"]]}}',
+    files=["orders.csv"],
+    awk='NR == 1 { next } !($2 in n) { order[++groups] = $2 } { sum[$2] += $4; n[$2]++ } '
+        'END { print "product", "cents", "orders"; for (i = 1; i <= groups; i++) { k = order[i]; print k, sum[k], n[k] } }',
+    miller=["stats1", "-a", "sum,count", "-f", "cents", "-g", "product", "then", "rename", "cents_sum,cents,cents_count,orders"],
+    sqlite="SELECT product, sum(cents) AS cents, count(*) AS orders FROM orders GROUP BY product;",
+    pandas="answer = orders().groupby('product', sort=False).agg(cents=('cents', 'sum'), orders=('order', 'count')).reset_index()",
+    data_table="answer <- orders()[, .(cents = sum(as.numeric(cents)), orders = .N), by = product]",
+)
+
+LABEL_JOIN = Task(
+    name=f"left join with {PRODUCTS // 2:,} rows on an int",
+    sources=f"{PRODUCT_LABELS},{ORDERS}",
+    steps='{"join":{"source":0,"on":["product"],"how":"left"}}',
+    files=["products.csv", "orders.csv"],
+    awk='NR == FNR { label[$1] = $2; next } FNR == 1 { print $0, "label"; next } { print $0, label[$2] }',
+    miller=["join", "--ur", "-j", "product", "-f", "products.csv", "then", "template", "-f", "order,product,shop,cents,label"],
+    sqlite='SELECT "order", orders.product, shop, cents, label FROM orders LEFT JOIN products ON orders.product = products.product;',
+    pandas="answer = orders().merge(products(), how='left', on='product')",
+    data_table="d <- orders(); d[products(), on = 'product', label := i.label]; answer <- d",
+)
+
+WIDE_FILTER = Task(
+    name="12 columns with quotes: filter of two ints",
+    sources=VISITS,
+    steps='{"filter":["and",["gt",{"col":"bytes"},500000],["lt",{"col":"millis"},1000]]}',
+    files=["visits.csv"],
+    awk=None,
+    miller=["filter", "$bytes > 500000 && $millis < 1000"],
+    sqlite=None,
+    pandas=None,
+    data_table="answer <- visits()[bytes > 500000 & millis < 1000]",
+)
+
+WIDE_GROUP = Task(
+    name="12 columns with quotes: group by a text, sum, max",
+    sources=VISITS,
+    steps='{"group_by":{"keys":["host"],"aggs":[["bytes","sum","bytes"],["slowest","max","millis"]]}}',
+    files=["visits.csv"],
+    awk=None,
+    miller=["stats1", "-a", "sum,max", "-f", "bytes,millis", "-g", "host", "then", "rename", "bytes_sum,bytes,millis_max,slowest",
+            "then", "cut", "-o", "-f", "host,bytes,slowest"],
+    sqlite=None,
+    pandas="answer = visits().groupby('host', sort=False).agg(bytes=('bytes', 'sum'), slowest=('millis', 'max')).reset_index()",
+    data_table="answer <- visits()[, .(bytes = sum(as.numeric(bytes)), slowest = max(millis)), by = host]",
+)
+
+TASKS = {
+    "filter": FILTER, "compute": COMPUTE, "group": GROUP, "join": JOIN, "roll": ROLL, "shops": SHOP_GROUPS,
+    "products": PRODUCT_GROUPS, "labels": LABEL_JOIN, "wide": WIDE_FILTER, "hosts": WIDE_GROUP,
+}
 
 
 # ---- programs
@@ -166,6 +286,7 @@ class Program:
     name: str
     version: str
     words: Callable[[str, Task], List[str]]
+    does: Callable[[Task], bool] = lambda task: True
 
 
 def first_line(words):
@@ -188,25 +309,32 @@ def mawk():
     version = first_line(["mawk", "-W", "version"])
     # Whole numbers are printed whole, however large.
     start = ["mawk", "-F", ",", "-v", "OFS=,", "-v", "OFMT=%.0f", "-v", "CONVFMT=%.0f"]
-    return version and Program("mawk", version, lambda key, task: [*start, task.awk, *task.files])
+    return version and Program("mawk", version, lambda key, task: [*start, task.awk, *task.files], lambda task: task.awk)
 
 
 def miller():
     version = first_line(["mlr", "--version"])
-    return version and Program("Miller", version, lambda key, task: ["mlr", "--csv", *task.miller, "sales.csv"])
+    words = lambda key, task: ["mlr", "--csv", *task.miller, task.files[-1]]
+    return version and Program("Miller", version, words, lambda task: task.miller)
 
 
 SQLITE_TABLES = [
     "CREATE TABLE sales(id INTEGER, region TEXT, quantity INTEGER, cents INTEGER);",
     "CREATE TABLE regions(region TEXT PRIMARY KEY, manager TEXT);",
-    ".mode csv", ".import --skip 1 sales.csv sales", ".import --skip 1 regions.csv regions", ".headers on",
+    'CREATE TABLE orders("order" INTEGER, product INTEGER, shop TEXT, cents INTEGER);',
+    "CREATE TABLE products(product INTEGER PRIMARY KEY, label TEXT);",
+    ".mode csv", ".headers on",
 ]
+
+
+def imported(task):
+    return [f".import --skip 1 {file} {file.removesuffix('.csv')}" for file in task.files]
 
 
 def sqlite():
     version = first_line(["sqlite3", "--version"])
-    words = lambda key, task: ["sqlite3", ":memory:", *SQLITE_TABLES, task.sqlite]
-    return version and Program("SQLite", version.split()[0], words)
+    words = lambda key, task: ["sqlite3", ":memory:", *SQLITE_TABLES, *imported(task), task.sqlite]
+    return version and Program("SQLite", version.split()[0], words, lambda task: task.sqlite)
 
 
 PANDAS_START = """
@@ -214,6 +342,9 @@ import pandas, sys
 KINDS = {'id': 'int64', 'region': 'str', 'quantity': 'Int64', 'cents': 'int64'}
 def sales(): return pandas.read_csv('sales.csv', dtype=KINDS)
 def regions(): return pandas.read_csv('regions.csv')
+def orders(): return pandas.read_csv('orders.csv')
+def products(): return pandas.read_csv('products.csv')
+def visits(): return pandas.read_csv('visits.csv')
 """
 
 
@@ -225,7 +356,8 @@ def pandas():
         python = os.path.join(folder, "python3")
         version = os.access(python, os.X_OK) and first_line([python, "-c", "import pandas; print(pandas.__version__)"])
         if version:
-            return Program("pandas", version, lambda key, task: [python, "-c", f"{PANDAS_START}{task.pandas}\n{PANDAS_END}"])
+            words = lambda key, task: [python, "-c", f"{PANDAS_START}{task.pandas}\n{PANDAS_END}"]
+            return Program("pandas", version, words, lambda task: task.pandas)
     return None
 
 
@@ -234,6 +366,9 @@ suppressPackageStartupMessages(library(data.table))
 options(scipen = 99)
 sales <- function() fread('sales.csv')
 regions <- function() fread('regions.csv')
+orders <- function() fread('orders.csv')
+products <- function() fread('products.csv')
+visits <- function() fread('visits.csv')
 """
 
 
@@ -241,7 +376,8 @@ def data_table():
     about = "cat(format(packageVersion('data.table')), 'with', data.table::getDTthreads(), 'threads')"
     version = first_line(["Rscript", "-e", about])
     script = lambda task: f"{DATA_TABLE_START}{task.data_table}\nfwrite(answer, '/dev/stdout')\n"
-    return version and Program("data.table", version, lambda key, task: ["Rscript", "-e", script(task)])
+    words = lambda key, task: ["Rscript", "-e", script(task)]
+    return version and Program("data.table", version, words, lambda task: task.data_table)
 
 
 # ---- runs
@@ -325,7 +461,7 @@ def binary(given: Optional[str]):
 
 def arguments():
     parser = argparse.ArgumentParser(description="Times frameq on whole plans beside other programs.")
-    parser.add_argument("--rows", type=int, default=1_000_000, help="rows of the large file [1000000]")
+    parser.add_argument("--rows", type=int, default=1_000_000, help="rows of each large file but the wide one, which has a sixth [1000000]")
     parser.add_argument("--runs", type=int, default=5, help="timed runs of each program on each task [5]")
     parser.add_argument("--task", action="append", choices=TASKS, help="a task; may be given again [all]")
     parser.add_argument("--program", help="the frameq to time [the one that ./frameq builds]")
@@ -341,17 +477,18 @@ def main():
     peers = [peer for peer in (mawk(), miller(), sqlite(), pandas(), data_table()) if peer]
     print(f"{len(os.sched_getaffinity(0))} cores; frameq {own[0].version}; " + "; ".join(f"{peer.name} {peer.version}" for peer in peers))
     with tempfile.TemporaryDirectory() as folder:
-        make_sales(os.path.join(folder, "sales.csv"), given.rows)
-        make_regions(os.path.join(folder, "regions.csv"))
-        size = os.path.getsize(os.path.join(folder, "sales.csv"))
-        print(f"{given.rows} rows, {size / 1e6:.1f} MB; {given.runs} runs of each")
-        for key in given.task or TASKS:
+        keys = given.task or list(TASKS)
+        make_inputs(folder, given.rows, {file for key in keys for file in TASKS[key].files})
+        print(f"{given.runs} runs of each")
+        for key in keys:
             task = TASKS[key]
             with open(os.path.join(folder, f"{key}.json"), "w", encoding="ascii") as file:
                 file.write(task.plan())
-            rows = compare_answers(key, task, [*own, *peers], folder)
-            print(f"\n{task.name}: {rows} rows out, all answers alike", flush=True)
-            print_table(timed_rounds(key, task, [*own, *peers], folder, given.runs))
+            programs = [program for program in (*own, *peers) if program.does(task)]
+            rows = compare_answers(key, task, programs, folder)
+            size = sum(os.path.getsize(os.path.join(folder, file)) for file in task.files)
+            print(f"\n{task.name}: {size / 1e6:.1f} MB, {rows} rows out, all answers alike", flush=True)
+            print_table(timed_rounds(key, task, programs, folder, given.runs))
 
 
 if __name__ == "__main__":

@@ -4,6 +4,7 @@ pub mod ColumnLemmas
 pub mod ListLemmas
 pub mod PieceLemmas
 pub mod SchemaLemmas
+pub mod StreamLemmas
 pub mod ValidityLemmas
 pub mod PutColumnLemmas
 pub mod PutLemmas

@@ -3,6 +3,10 @@ pub mod FieldLemmas
 pub mod RecordLemmas
 pub mod RowLemmas
 pub mod StreamLemmas
+pub mod TakingLemmas
+pub mod CellLemmas
+pub mod RecordStepLemmas
+pub mod ScanLemmas
 pub mod HeaderLemmas
 pub mod StepLemmas
 pub mod PrintLemmas

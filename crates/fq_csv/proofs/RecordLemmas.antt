@@ -88,7 +88,7 @@ read-none : {R : Type 0} (rem : R → Option (List ℕ)) (a b : Reader R) (f : L
 read-none rem a b f y config source r = left-none a.state y (rows-end rem a b f default_config y config source r)
 
 -- what was mapped
-mapped : {A B : Type 0} (f : A → B) (o : Option A) (v : B) → option_map f o ≡ Some v → (y : A) × (o ≡ Some y) × (v ≡ f y)
+pub mapped : {A B : Type 0} (f : A → B) (o : Option A) (v : B) → option_map f o ≡ Some v → (y : A) × (o ≡ Some y) × (v ≡ f y)
 mapped f None v e = cc e
 mapped f (Some y) v e = (y, refl, cc)
 

@@ -213,7 +213,7 @@ Holds-more kinds columns rows row h e =
 
 -- ---- columns with no cell
 
-no-item : {X : Type 0} (xs : List X) → length xs ≡ 0 → xs ≡ []
+pub no-item : {X : Type 0} (xs : List X) → length xs ≡ 0 → xs ≡ []
 no-item [] e = refl
 no-item (x ∷ xs) e = absurd (omega (arith, e))
 

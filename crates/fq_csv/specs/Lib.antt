@@ -7,3 +7,5 @@ pub mod Scan
 pub mod Stage
 pub mod Writing
 pub mod Run
+pub mod Taking
+pub mod RecordScan

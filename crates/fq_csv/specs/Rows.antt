@@ -1,16 +1,13 @@
--- Rows that are added to columns, and how a file goes on after them.
-use Rattle.std.specs.Prelude.{◌≡◌, ◌<◌, ◌≤◌, ◌+◌, ℕ, All, take, List, [], ◌∷◌, ◌++◌, length, map, Option, Some, option_map, Result}
+-- Rows that are added to columns.
+use Rattle.std.specs.Prelude.{◌≡◌, ◌<◌, ℕ, All, take, List, [], ◌∷◌, ◌++◌, length, map, Result}
 use Rattle.fq_column.specs.declared.cells.Kind.{Kind}
 use Rattle.fq_column.specs.declared.cells.Cell.{Cell}
 use Rattle.fq_column.specs.Column.{Cells}
-use Rattle.fq_column.specs.Frame.{Fields, Row, kinds_of, rows_of}
+use Rattle.fq_column.specs.Frame.{Row, rows_of}
 use Rattle.fq_column.specs.Lists.{zip_with, all_or_missing}
-use Rattle.fq_column.specs.Stream.{Stream, then_stream, done}
 use Rattle.fq_csv.specs.Field.{cell_of}
-use Rattle.fq_csv.specs.File.{Record, rows_after}
-use Rattle.fq_csv.specs.Records.{IsOfText, Unread}
-use Rattle.fq_csv.specs.declared.faults.ScanFault.{ScanFault}
-use Rattle.fq_csv.specs.declared.spans.Span.{Span}
+use Rattle.fq_csv.specs.File.{Record}
+use Rattle.fq_csv.specs.Records.{IsOfText}
 use Rattle.fq_csv.specs.declared.stages.Stage.{Stage}
 use Rattle.fq_csv.specs.declared.stages.Stage.TheVariants as stage
 
@@ -45,19 +42,3 @@ EndsAt stage.Header size count = ⊥
 EndsAt stage.Rows size count = count ≡ size
 EndsAt (stage.Closed fault) size count = (count < size) × IsOfText fault
 EndsAt (stage.Failed fault) size count = ⊥
-
--- the rows are the first of the stream before, which goes on with the stream after them; or they are all of it, with its end
-abbrev pub GoesOn : Stage → List Row → Stream ScanFault → Option (Stream ScanFault) → Type 0
-GoesOn stage.Header rows before after = ⊥
-GoesOn stage.Rows rows before after = (rest : Stream ScanFault) × (after ≡ Some rest) × (before ≡ then_stream (done rows) rest)
-GoesOn (stage.Closed fault) rows before after = before ≡ record { rows = rows; fault = fault }
-GoesOn (stage.Failed fault) rows before after = ⊥
-
--- rows after row `from` were read into columns, up to the limit and `size` of them, and the file goes on after them
-pub record ReadsRows (span : Span) (kinds : List Kind) (old new : Unread) (stage : Stage) (columns : List Cells) : Type 0 where
-  pub rows : List Row
-  pub held : Holds kinds columns rows
-  pub in_limit : span.from + length rows ≤ span.limit
-  pub count : EndsAt stage span.size (length rows)
-  pub goes_on : (fields : Fields) (before : List Record) → kinds_of fields ≡ kinds → old.upcoming ≡ Some before
-      → GoesOn stage rows (rows_after old.file fields span.limit span.from before) (option_map (rows_after old.file fields span.limit (span.from + length rows)) new.upcoming)

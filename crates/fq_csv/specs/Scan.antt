@@ -1,9 +1,11 @@
 -- What a scanner has still to hand out, and what one call of it hands out.
-use Rattle.std.specs.Prelude.{◌≡◌, ◌+◌, ◌<◌, ◌≤◌, ◌⊎◌, ℕ, Bool, true, length, take, Option, Some, None}
+use Rattle.std.specs.Prelude.{◌≡◌, ◌+◌, ◌<◌, ◌≤◌, ◌⊎◌, ℕ, Bool, true, length, take, Option, Some, None, option_map}
 use Rattle.fq_column.specs.Frame.{Fields, Frame}
 use Rattle.fq_column.specs.Stream.{Stream}
+use Rattle.fq_csv.specs.RecordScan.{RecordScanning}
 use Rattle.fq_csv.specs.Records.{IsOfText}
 use Rattle.fq_csv.specs.Stage.{ended, without}
+use Rattle.fq_csv.specs.Taking.{rows_of_records}
 use Rattle.fq_csv.specs.declared.faults.ScanFault.{ScanFault}
 use Rattle.fq_csv.specs.declared.faults.ScanFault.TheVariants.{Read, Memory}
 use Rattle.fq_csv.specs.declared.scans.Scan.{Scan}
@@ -21,6 +23,16 @@ pub record Scanning : Type 0 where
   pub upcoming : Option (Stream ScanFault)
   pub ending : Option (Option ScanFault)
   pub stopped : Bool
+
+-- the rows of the records still to come; none but the fault, where that ended the rows before the records
+abbrev pub batches_left : Option ScanFault → RecordScanning → Option (Stream ScanFault)
+batches_left None r = option_map (rows_of_records r.file r.fields (r.taken + r.room) r.taken) r.upcoming
+batches_left (Some fault) r = Some (ended (Some fault))
+
+-- the end of the rows, once it is known: that fault, or the records' end
+abbrev pub rows_ending : Option ScanFault → Option (Option ScanFault) → Option (Option ScanFault)
+rows_ending None ending = ending
+rows_ending (Some fault) ending = Some (Some fault)
 
 -- the file, its schema and the size of a batch are the same
 pub record IsSameScan (old new : Scanning) : Type 0 where

@@ -3,7 +3,7 @@ ghost use Rattle.std.specs.Prelude.{◌≡◌};
 ghost use Rattle.std.specs.Cmp.Lexicographic.{pointwise};
 ghost use Rattle.csv.specs.Records.{fields_of};
 ghost use Rattle.fq_column.specs.Frame.{names_of, same_name};
-ghost use Rattle.fq_csv.specs.Stage.{Opens};
+ghost use Rattle.fq_csv.specs.RecordScan.{Opens};
 
 use crate::faults::ScanFault;
 use crate::records::Records;

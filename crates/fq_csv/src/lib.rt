@@ -2,23 +2,29 @@
 #![tactic(auto)]
 
 mod batches;
+mod cells;
 mod faults;
 mod fields;
 mod frames;
 mod headers;
 mod laws;
 mod printing;
+mod record_runs;
+mod record_scanners;
+mod record_steps;
 mod records;
 mod retrying;
-mod rows;
 mod scanners;
 mod scans;
 mod spans;
 mod stages;
+mod taking;
 
 pub use faults::ScanFault;
 pub use frames::scan_all;
 pub use laws::scan_laws;
+pub use record_runs::RecordRun;
+pub use record_scanners::RecordScanner;
 pub use printing::{WriteFault, print_frame, print_names, print_rows, write_frame};
 pub use scanners::{MAX_BATCH_SIZE, MAX_ROWS, Scanner};
 pub use scans::Scan;

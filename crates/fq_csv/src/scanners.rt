@@ -1,17 +1,17 @@
 // Scanners: the rows of a file, handed out in batches.
-ghost use Rattle.std.specs.Prelude.{◌≡◌, ◌≤◌, Option, Some, None, false, IfOk, option_map};
+ghost use Rattle.std.specs.Prelude.{◌≡◌, ◌≤◌, ◌<◌, ◌⊎◌, Option, Some, None, false, length, IfOk, IfErr, option_map};
 ghost use Rattle.fq_column.specs.Stream.{Stream};
 ghost use Rattle.fq_csv.specs.File.{file_stream};
 ghost use Rattle.fq_csv.specs.Scan.{HandsOut, HasForm};
-ghost use Rattle.fq_csv.specs.declared.faults.ScanFault.{ScanFault};
+ghost use Rattle.fq_csv.specs.Taking.{HasNoRow, ReadsRun};
+ghost use Rattle.fq_csv.specs.declared.faults.ScanFault.{ScanFault as AnyFault};
+ghost use Rattle.fq_csv.specs.declared.faults.ScanFault.TheVariants as fault;
 
-use crate::batches::next_step;
 use crate::faults::ScanFault;
-use crate::records::Records;
+use crate::record_runs::RecordRun;
+use crate::record_scanners::RecordScanner;
 use crate::scans::Scan;
-use crate::spans::Span;
-use crate::stages::Stage;
-use fq_column::{Memory, Schema};
+use fq_column::{Batch, Memory, Schema};
 use std::alloc::Global;
 use std::io::Read;
 use std::marker::Model;
@@ -22,37 +22,35 @@ pub const MAX_BATCH_SIZE: u32 = 65_536;
 /// The most rows that a file may have in a run.
 pub const MAX_ROWS: u32 = 2_147_483_647;
 
-/// A scan of a file.
+/// A scan of a file: its records in runs, each made a batch of at once.
 #[derive(Drop)]
 pub struct Scanner<R: Read> {
     alloc: Global,
-    records: Records<R>,
-    schema: Schema,
-    span: Span,
+    records: RecordScanner<R>,
     serial: u32,
-    stage: Stage,
+    rows: u32,
+    // why the rows ended before the records did: a field that is no cell, or refused memory
+    fault: Option<ScanFault>,
 }
 
 impl<R: Read> Model for Scanner<R> {
-    ghost use Rattle.std.specs.Prelude.{◌≡◌, ◌≤◌, ◌-◌};
-    ghost use Rattle.fq_csv.specs.Scan.{Scanning};
-    ghost use Rattle.fq_csv.specs.Stage.{ending_of, left_at};
-    ghost use Rattle.fq_csv.specs.declared.stages.Stage.TheVariants.{Header};
+    ghost use Rattle.std.specs.Prelude.{◌≡◌, ◌≤◌, ◌+◌, ◌-◌, None};
+    ghost use Rattle.fq_csv.specs.Scan.{Scanning, batches_left, rows_ending};
 
     ghost Value = { Scanning };
 
     ghost view = { λ a. record {
       file = a.records.file;
-      fields = a.schema;
-      batch_size = a.span.size;
+      fields = a.records.fields;
+      batch_size = a.records.run_size;
       serial = a.serial;
-      room = a.span.limit - a.span.from;
-      upcoming = left_at a.schema a.span.limit a.stage a.records a.span.from;
-      ending = ending_of a.stage;
+      room = a.records.taken + a.records.room - a.rows;
+      upcoming = batches_left a.fault a.records;
+      ending = rows_ending a.fault a.records.ending;
       stopped = a.records.stopped;
     } };
 
-    ghost invariant = { λ a. (a.serial ≤ a.span.from) × (a.stage ≡ Header → a.span.from ≡ 0) };
+    ghost invariant = { λ a. (a.serial ≤ a.rows) × ((a.rows ≤ a.records.taken) × (a.fault ≡ None → a.rows ≡ a.records.taken)) };
 }
 
 impl<R: Read> Scanner<R> {
@@ -84,18 +82,13 @@ impl<R: Read> Scanner<R> {
           stopped = false;
         }) }
     {
-        let records = Records::new(alloc, reader, file, schema.len())?;
+        let records = RecordScanner::new(alloc, reader, file, schema, batch_size, limit)?;
         Ok(Scanner {
             alloc,
             records,
-            schema,
-            span: Span {
-                from: 0,
-                limit,
-                size: batch_size,
-            },
             serial: 0,
-            stage: Stage::Header,
+            rows: 0,
+            fault: None,
         })
     }
 
@@ -103,7 +96,7 @@ impl<R: Read> Scanner<R> {
     pub fn schema(&self) -> &Schema
         ensures { result.now ≡ self.now.fields }
     {
-        &self.schema
+        self.records.schema()
     }
 
     /// The next rows of the file, or its end.
@@ -111,37 +104,63 @@ impl<R: Read> Scanner<R> {
     /// Each batch but the last has `batch_size` rows, and none is empty. The rows before a row that can't be read are
     /// handed out; where the reader fails or memory is refused, the rows that were read since the last batch are
     /// dropped. Once the end was handed out, each further call hands out that same end. A batch takes the memory of its
-    /// columns, and a record or a cell that is no text takes none.
+    /// columns and of its records, and a record or a cell that is no text takes none.
     pub fn next_batch(&mut self) -> Scan
         ensures form { HasForm self.old result self.new }
-        ensures stream { (u : Stream ScanFault) → self.old.upcoming ≡ Some u → HandsOut self.old.file self.old.batch_size u result self.new.upcoming }
-        ensures ended { (fault : Option ScanFault) → self.old.ending ≡ Some fault → (result ≡ Scan.End self.old.file self.old.serial fault) × (self.new ≡ self.old) }
+        ensures stream { (u : Stream AnyFault) → self.old.upcoming ≡ Some u → HandsOut self.old.file self.old.batch_size u result self.new.upcoming }
+        ensures ended { (f : Option AnyFault) → self.old.ending ≡ Some f → (result ≡ Scan.End self.old.file self.old.serial f) × (self.new ≡ self.old) }
     {
-        let step = next_step(
-            self.alloc,
-            &mut self.records,
-            &self.schema,
-            self.span,
-            self.stage,
-        );
-        self.stage = step.stage;
         let file = self.records.file();
-        match step.batch {
-            Some(batch) => {
-                let serial = self.serial;
-                self.span.from += batch.rows() as u32;
-                self.serial += 1;
-                Scan::Batch {
-                    file,
-                    serial,
-                    batch,
-                }
-            }
-            None => Scan::End {
-                file,
-                batches: self.serial,
-                fault: step.stage.fault(),
-            },
+        let serial = self.serial;
+        if let Some(fault) = self.fault {
+            return end_of(file, serial, Some(fault));
         }
+        match self.records.next_run() {
+            Ok(Some(run)) => match rows_of(self.alloc, run) {
+                Ok((batch, fault)) => {
+                    self.serial = serial + 1;
+                    self.rows += batch.rows() as u32;
+                    self.fault = fault;
+                    Scan::Batch {
+                        file,
+                        serial,
+                        batch,
+                    }
+                }
+                Err(fault) => {
+                    self.fault = Some(fault);
+                    end_of(file, serial, Some(fault))
+                }
+            },
+            Ok(None) => end_of(file, serial, None),
+            Err(fault) => end_of(file, serial, Some(fault)),
+        }
+    }
+}
+
+// The end of a file after so many batches.
+fn end_of(file: u16, batches: u32, fault: Option<ScanFault>) -> Scan
+    ensures { result ≡ Scan.End file batches fault }
+{
+    Scan::End {
+        file,
+        batches,
+        fault,
+    }
+}
+
+// The rows of a run, at least one, and the fault that ends them; or that fault, or that memory was refused, where there are none.
+fn rows_of(alloc: Global, run: RecordRun) -> Result<(Batch, Option<ScanFault>), ScanFault>
+    requires { 0 < length run.records }
+    ensures rows { IfOk result (λ r. ReadsRun run r.0 r.1 × (0 < length r.0.rows)) }
+    ensures none { IfErr result (λ f. HasNoRow run f ⊎ (f ≡ fault.Memory)) }
+{
+    let (batch, fault) = run.into_batch(alloc)?;
+    if batch.rows() > 0 {
+        return Ok((batch, fault));
+    }
+    match fault {
+        Some(fault) => Err(fault),
+        None => unreachable!(),
     }
 }

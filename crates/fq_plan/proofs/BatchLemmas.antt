@@ -1,16 +1,17 @@
 -- Leading row-wise steps on the items of files.
-use Rattle.std.proofs.Common.{◌≡◌, ℕ, suc, ◌+◌, ◌<◌, List, [], ◌∷◌, ◌++◌, map, length, flat_map, Option, Some, None, option_map, Err, refl, ap, sym, ◌∙◌, arith, append-nil}
+use Rattle.std.proofs.Common.{◌≡◌, ℕ, suc, ◌+◌, ◌<◌, Bool, true, false, nat_lt, cond, List, [], ◌∷◌, ◌++◌, map, length, flat_map, Option, Some, None, option_map, Err, refl, ap, sym, ◌∙◌, arith, append-nil}
 use Rattle.fq_column.specs.Frame.{Fields, Frame, Row}
 use Rattle.fq_column.specs.Lists.{pieces}
-use Rattle.fq_column.specs.Stream.{Stream, done, then_stream, rename_fault, ended_as, one_by_one}
 use Rattle.fq_column.proofs.PieceLemmas.{flat_map-pieces}
+use Rattle.fq_column.specs.Stream.{Stream, done, then_stream, rename_fault, ended_as, one_by_one}
 use Rattle.fq_expr.specs.Steps.{rows_after, apply_step, apply_steps, fields_after, fields_after_all}
 use Rattle.fq_expr.specs.Expression.{Step}
-use Rattle.fq_expr.proofs.StepLemmas.{then_stream-assoc, rename_fault-then, apply_steps-then}
+use Rattle.fq_column.proofs.StreamLemmas.{then_stream-assoc}
+use Rattle.fq_expr.proofs.StepLemmas.{rename_fault-then, apply_steps-then}
 use Rattle.fq_plan.specs.Meaning.{apply_plan_steps, frames_of, frame_or_fault, meaning_of_sources}
-use Rattle.fq_plan.specs.Plan.{PlanStep, row_wise, join, group_by, rolling_sum, Query, but_last, front_of, rest_of, main_fields}
+use Rattle.fq_plan.specs.Plan.{PlanStep, row_wise, join, group_by, rolling_sum, Query, but_last, front_of, join_files, rest_of, main_fields}
 use Rattle.fq_plan.specs.Sources.{concat_streams, first_fault}
-use Rattle.fq_plan.specs.Tail.{items_of, last_item, worked, finished}
+use Rattle.fq_plan.specs.Tail.{after_leading, finished, items_of, last_item, worked}
 use Rattle.fq_plan.specs.declared.faults.Fault.{Fault}
 use Rattle.fq_plan.specs.declared.faults.Fault.TheVariants.{Overflow}
 
@@ -34,7 +35,7 @@ module _ {F : Type 0} where
   concat_streams-append [] vs = refl
   concat_streams-append (u ∷ us) vs = ap (then_stream u) (concat_streams-append us vs) ∙ sym (then_stream-assoc u (concat_streams us) (concat_streams vs))
 
-  pub concat_streams-done : (ps : List (List Row)) → concat_streams (map (done {F = F}) ps) ≡ done (flat_map (λ p. p) ps)
+  concat_streams-done : (ps : List (List Row)) → concat_streams (map (done {F = F}) ps) ≡ done (flat_map (λ p. p) ps)
   concat_streams-done [] = refl
   concat_streams-done (p ∷ ps) = ap (then_stream (done p)) (concat_streams-done ps)
 
@@ -48,16 +49,9 @@ module _ {F : Type 0} where
       ∙ ap (λ v. then_stream v (concat_streams (last_item u.fault))) (concat_streams-done (pieces b u.rows) ∙ ap (λ rs. done rs) (flat_map-pieces b u.rows h))
       ∙ then-last_item u.rows u.fault
 
-  pub concat_streams-flat_map-items : (b : ℕ) (us : List (Stream F)) → 0 < b → concat_streams (flat_map (items_of b) us) ≡ concat_streams us
-  concat_streams-flat_map-items b [] h = refl
-  concat_streams-flat_map-items b (u ∷ us) h =
-      concat_streams-append (items_of b u) (flat_map (items_of b) us)
-      ∙ ap (λ v. then_stream v (concat_streams (flat_map (items_of b) us))) (concat_streams-items b u h)
-      ∙ ap (then_stream u) (concat_streams-flat_map-items b us h)
-
   -- below, `overflow n i` is the fault of item i of step n
   module _ (overflow : ℕ → ℕ → F) where
-    apply_steps-done : (n : ℕ) (fields : Fields) (steps : List Step) → apply_steps overflow n fields steps (done []) ≡ done []
+    pub apply_steps-done : (n : ℕ) (fields : Fields) (steps : List Step) → apply_steps overflow n fields steps (done []) ≡ done []
     apply_steps-done n fields [] = refl
     apply_steps-done n fields (s ∷ steps) = apply_steps-done (n + 1) (fields_after fields s) steps
 
@@ -67,12 +61,6 @@ module _ {F : Type 0} where
     apply_steps-concat_streams n fields steps (u ∷ us) =
         apply_steps-then overflow n fields steps u (concat_streams us)
         ∙ ap (then_stream (apply_steps overflow n fields steps u)) (apply_steps-concat_streams n fields steps us)
-
-    pub apply_steps-items : (b n : ℕ) (fields : Fields) (steps : List Step) (us : List (Stream F)) → 0 < b →
-        concat_streams (map (apply_steps overflow n fields steps) (flat_map (items_of b) us)) ≡ apply_steps overflow n fields steps (concat_streams us)
-    apply_steps-items b n fields steps us h =
-        sym (apply_steps-concat_streams n fields steps (flat_map (items_of b) us))
-        ∙ ap (apply_steps overflow n fields steps) (concat_streams-flat_map-items b us h)
 
 module _ {F G : Type 0} (overflow : ℕ → ℕ → F) (name : F → G) where
   rename_fault-rename_fault : {E : Type 0} (f : E → F) (rows : List Row) (end : Option E) →
@@ -94,16 +82,28 @@ module _ {F G : Type 0} (overflow : ℕ → ℕ → F) (name : F → G) where
       rename_fault-apply_steps (n + 1) (fields_after fields s) steps (apply_step overflow n fields s u)
       ∙ ap (apply_steps (λ m i. name (overflow m i)) (n + 1) (fields_after fields s) steps) (rename_fault-apply_step n fields s u)
 
--- the meaning is what the other steps make of the worked items
-pub finished-worked : (p : Query) (b : ℕ) (joins us : List (Stream Fault)) → 0 < b →
-    finished p joins (worked p b us) ≡ meaning_of_sources p joins (concat_streams us)
-finished-worked p b joins us h =
+-- items of a file that are worked one by one join to the file's rows worked at once
+pub worked-joined : (p : Query) (file : ℕ) (us : List (Stream Fault)) → concat_streams (map (worked p file) us) ≡ worked p file (concat_streams us)
+worked-joined p file us = go (nat_lt file (join_files p))
+  where
+    same : (us : List (Stream Fault)) → map (λ u. u) us ≡ us
+    same [] = refl
+    same (u ∷ us) = ap (λ vs. u ∷ vs) (same us)
+
+    go : (join : Bool) → concat_streams (map (λ u. cond join u (after_leading p u)) us) ≡ cond join (concat_streams us) (after_leading p (concat_streams us))
+    go true = ap concat_streams (same us)
+    go false = sym (apply_steps-concat_streams Overflow 0 (main_fields p) (front_of p.steps) us)
+
+-- the meaning is what the other steps make of worked items that join to the main source's rows after the leading steps
+pub finished-worked : (p : Query) (joins us items : List (Stream Fault)) → concat_streams items ≡ after_leading p (concat_streams us) →
+    finished p joins items ≡ meaning_of_sources p joins (concat_streams us)
+finished-worked p joins us items same =
     let frames : List Frame = frames_of (but_last p.sources) joins in
     let fields : Fields = main_fields p in
     let front : List Step = front_of p.steps in
     let rest : List PlanStep = rest_of p.steps in
     ap (λ r. elim (first_fault joins) [ Some f ↦ Err f | None ↦ frame_or_fault r.0 r.1 ])
-    (ap (apply_plan_steps frames (length front) (fields_after_all fields front) rest) (apply_steps-items Overflow b 0 fields front us h)
+    (ap (apply_plan_steps frames (length front) (fields_after_all fields front) rest) same
     ∙ ap (λ m. apply_plan_steps frames m (fields_after_all fields front) rest (apply_steps Overflow 0 fields front (concat_streams us))) (let e : length front ≡ 0 + length front = omega arith in e)
     ∙ sym (leading-steps frames 0 fields front rest (concat_streams us))
     ∙ ap (λ steps. apply_plan_steps frames 0 fields steps (concat_streams us)) (front-rest p.steps))

@@ -1,14 +1,16 @@
 -- What the engine of a checked plan leaves its tail with.
 use Rattle.std.proofs.Common.{◌≡◌, ℕ, suc, ◌+◌, ◌-◌, ◌<◌, List, [], ◌∷◌, ◌++◌, length, flat_map, replicate, Option, refl, ap, sym, ◌∙◌, subst, arith}
+use Rattle.fq_column.specs.Stream.{Stream}
+use Rattle.fq_csv.specs.declared.faults.ScanFault.{ScanFault}
 use Rattle.fq_expr.specs.Front.{NumberedSteps}
 use Rattle.fq_lanes.specs.Engine.{Finishes}
 use Rattle.fq_lanes.specs.Lists.{Each}
 use Rattle.fq_lanes.specs.Numbering.{numbered}
-use Rattle.fq_plan.specs.EngineRun.{Gives, opened}
+use Rattle.fq_plan.specs.EngineRun.{Gives, opened, records_of_files}
 use Rattle.fq_plan.specs.Feeding.{Feeding, MayCome}
 use Rattle.fq_plan.specs.GatheredRun.{HasGathered}
 use Rattle.fq_plan.specs.Kept.{AreSound, Takes}
-use Rattle.fq_plan.specs.Plan.{files_wanted, join_files}
+use Rattle.fq_plan.specs.Plan.{file_fields, files_wanted, join_files}
 use Rattle.fq_plan.specs.Run.{Tell}
 use Rattle.fq_plan.specs.Sources.{file_streams}
 use Rattle.fq_plan.specs.Stages.{IsChecked}
@@ -20,7 +22,7 @@ use Rattle.fq_plan.specs.declared.run_tail.RunTail.{RunTail}
 use Rattle.fq_plan.specs.declared.stages.CheckedSource.{CheckedSource}
 use Rattle.fq_plan.specs.declared.stages.Stage.{Stage}
 use Rattle.fq_plan.specs.declared.workers.Worked.{Worked}
-use Rattle.fq_plan.proofs.EngineLemmas.{answers_in}
+use Rattle.fq_plan.proofs.EngineLemmas.{answers_in, rows-of-bytes}
 use Rattle.fq_plan.proofs.GatheringLemmas.{all_taken}
 use Rattle.fq_plan.proofs.LogLemmas.{InOrder, StandsFor, in-order, took-sources, whole-log, worked-order}
 use Rattle.fq_plan.proofs.MeaningLemmas.{ran-gives}
@@ -67,8 +69,9 @@ module _ (sources : List CheckedSource) (front : NumberedSteps) (stages : List S
       finished.2.2 order file-count (ap (λ n. n + main.files) (join-file-count sources front stages inputs c joins main parts)) (leads-over sources front stages inputs c joins main parts) waits in
       let took : Finishes MayCome works Takes feeds at_first trace taken = (items, finished.1, (log, finished.2.1, took-sources log at_first, finished.2.3)) in
       let gives : (files : List (List ℕ)) → Tell remaining readers files → Gives (plan sources front stages inputs c) b (file_streams (plan sources front stages inputs c) files) taken trace =
-      λ files tell. ran-gives (plan sources front stages inputs c) b (file_streams (plan sources front stages inputs c) files) front (inputs - main.files) feeds at_first taken trace
-      (ran-over sources front stages inputs c joins main parts remaining b readers files feeds at_first taken trace some count tell feeds-are refl took) in
+      λ files tell. subst (λ (us : List (Stream ScanFault)). Gives (plan sources front stages inputs c) b us taken trace) (rows-of-bytes 0 (file_fields (plan sources front stages inputs c)) files)
+      (ran-gives (plan sources front stages inputs c) b (records_of_files 0 (file_fields (plan sources front stages inputs c)) files) front (inputs - main.files) feeds at_first taken trace
+      (ran-over sources front stages inputs c joins main parts remaining b readers files feeds at_first taken trace some count tell feeds-are refl took)) in
       record {
         stages = stages;
         n = length front.steps;

@@ -5,7 +5,7 @@ use Rattle.std.proofs.lemmas.List.Sums.{sum_by-cons}
 use Rattle.fq_column.specs.Frame.{Fields, Row}
 use Rattle.fq_column.specs.SchemaLaws.{same_fields_decides}
 use Rattle.fq_column.specs.Stream.{Stream, done, then_stream}
-use Rattle.fq_expr.proofs.StepLemmas.{then_stream-assoc}
+use Rattle.fq_column.proofs.StreamLemmas.{then_stream-assoc}
 use Rattle.fq_plan.specs.Gathering.{gathered, gathered_stream, taken_in, with_stream}
 use Rattle.fq_plan.specs.Meaning.{frames_of}
 use Rattle.fq_plan.specs.Plan.{Source}
@@ -16,7 +16,7 @@ use Rattle.fq_plan.specs.Working.{worked_stream}
 use Rattle.fq_plan.specs.declared.faults.Fault.{Fault}
 use Rattle.fq_plan.specs.declared.gathering.Gathered.{Gathered}
 use Rattle.fq_plan.specs.declared.workers.Worked.{Worked}
-use Rattle.fq_plan.specs.declared.workers.Worked.TheVariants.{Piece, Ended}
+use Rattle.fq_plan.specs.declared.workers.Worked.TheVariants.{Piece, Cut, Ended}
 
 -- the number of files and the columns of a source
 abbrev pub Head : Type 0
@@ -35,6 +35,8 @@ abbrev pub Fits : Worked → Option Fields → Type 0
 Fits (Ended fault) o = Unit {0}
 Fits (Piece p) None = Unit {0}
 Fits (Piece p) (Some fields) = p.batch.fields ≡ fields
+Fits (Cut p fault) None = Unit {0}
+Fits (Cut p fault) (Some fields) = p.batch.fields ≡ fields
 
 -- below, each item is one of its source's columns, and is joined
 abbrev pub joined : Gathered → Worked → Gathered
@@ -63,6 +65,7 @@ AllFit hs (t ∷ ts) = Fits t.1 (fields_at t.0 hs) × AllFit hs ts
 gathered-joined : (g : Gathered) (out : Worked) → Fits out (Some g.batch.fields) → gathered g out ≡ joined g out
 gathered-joined g (Ended fault) h = refl
 gathered-joined g (Piece p) h = ap (λ b. with_stream g (then_stream (gathered_stream g) (cond b (worked_stream (Piece p)) (done [])))) ((same_fields_decides p.batch.fields g.batch.fields).1 h)
+gathered-joined g (Cut p fault) h = ap (λ b. with_stream g (then_stream (gathered_stream g) (then_stream (cond b (worked_stream (Piece p)) (done [])) (worked_stream (Ended fault))))) ((same_fields_decides p.batch.fields g.batch.fields).1 h)
 
 taken-joined : (file : ℕ) (out : Worked) (gs : List Gathered) → Fits out (fields_at file (map head_of gs)) → taken_in file out gs ≡ joined_in file out gs
 taken-joined file out [] h = refl

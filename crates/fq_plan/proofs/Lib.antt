@@ -10,6 +10,7 @@ pub mod RunLemmas
 pub mod FeedLemmas
 pub mod GatheringLemmas
 pub mod EndLemmas
+pub mod ItemLemmas
 pub mod EngineLemmas
 pub mod PlaceLemmas
 pub mod MeaningLemmas

@@ -1,29 +1,34 @@
 -- A run of the engine comes to the plan's meaning.
-use Rattle.std.proofs.Common.{◌≡◌, ℕ, ◌+◌, ◌<◌, List, [], ◌∷◌, ◌++◌, map, length, drop, sum_by, Some, None, Err, IsOk, refl, ap, sym, ◌∙◌, arith, length-drop}
+use Rattle.std.proofs.Common.{◌≡◌, ℕ, suc, ◌+◌, ◌<◌, List, [], ◌∷◌, ◌++◌, map, length, drop, sum_by, Some, None, Err, IsOk, refl, ap, sym, ◌∙◌, arith, length-drop}
 use Rattle.std.specs.List.{slice_get}
 use Rattle.std.proofs.lemmas.List.{length-map, take_all}
 use Rattle.std.proofs.lemmas.List.Sums.{sum_by-cons}
 use Rattle.fq_column.specs.Frame.{Fields}
 use Rattle.fq_column.specs.Stream.{Stream, rename_fault}
+use Rattle.fq_csv.specs.Taking.{RecordStream}
 use Rattle.fq_csv.specs.declared.faults.ScanFault.{ScanFault}
 use Rattle.fq_expr.specs.Front.{NumberedSteps}
 use Rattle.fq_lanes.specs.Numbering.{numbered, numbers}
 use Rattle.fq_plan.specs.Feeding.{Feeding}
 use Rattle.fq_plan.specs.Meaning.{meaning, outcome}
 use Rattle.fq_plan.specs.Plan.{Source, Query, but_last, file_fields, files_wanted, front_of, join_files, rest_of}
-use Rattle.fq_plan.specs.EngineRun.{Gives, RanOver, front_fields, items_of_files, leading_steps, main_files, no_rows, nothing_taken, outcome_of_gathered}
+use Rattle.fq_plan.specs.EngineRun.{Gives, RanOver, front_fields, items_of_files, leading_steps, main_files, no_rows, nothing_taken, outcome_of_gathered, rows_of_files}
 use Rattle.fq_plan.specs.Run.{trace_of}
 use Rattle.fq_plan.specs.Sources.{concat_streams, first_fault, scan_fault}
-use Rattle.fq_plan.specs.Tail.{Taken, all_items, finished, items_from, taken_streams, worked_items}
+use Rattle.fq_plan.specs.Tail.{Taken, finished, items_from, tagged, taken_streams, worked_files}
 use Rattle.fq_plan.specs.declared.faults.Fault.{Fault}
 use Rattle.fq_plan.specs.declared.feeds.Scanned.{Scanned}
 use Rattle.fq_plan.specs.declared.gathering.Gathered.{Gathered}
 use Rattle.fq_plan.proofs.EndLemmas.{files-done}
 use Rattle.fq_plan.proofs.GatheringLemmas.{Answer, all_joined-items, all_taken, all_taken-joined, items-frames, items-streams, with_items, with_items-append, head_of}
 use Rattle.fq_plan.proofs.PlaceLemmas.{HasMain, files-fit, has_main, length-columns, main-fields, wanted-main}
-use Rattle.fq_plan.proofs.EngineLemmas.{answers_in, answers_to, each-known, files-items, files-numbers, fit-files, log-answers, log-numbers, took-all}
+use Rattle.fq_plan.proofs.EngineLemmas.{answer-streams, answers_in, answers_to, each-known, files-numbers, fit-files, length-rows, log-answers, log-numbers, took-all, worked-joined, worked_streams}
 use Rattle.fq_plan.proofs.SplitLemmas.{same-ends}
-use Rattle.fq_plan.proofs.TailLemmas.{items_from-start, outcome-all, untagged}
+use Rattle.fq_plan.proofs.TailLemmas.{flat, items_from-start, outcome-all}
+
+length-worked : (p : Query) (k : ℕ) (us : List (Stream Fault)) → length (worked_files p k us) ≡ length us
+length-worked p k [] = refl
+length-worked p k (u ∷ us) = ap suc (length-worked p (k + 1) us)
 
 files-sum : (ss : List Source) → sum_by (λ (g : Gathered). g.files) (map (λ (s : Source). no_rows s.files s.fields) ss) ≡ sum_by (λ (s : Source). s.files) ss
 files-sum [] = refl
@@ -31,85 +36,102 @@ files-sum (s ∷ ss) =
     sum_by-cons (λ (g : Gathered). g.files) (no_rows s.files s.fields) (map (λ (s : Source). no_rows s.files s.fields) ss)
     ∙ ap (λ n. s.files + n) (files-sum ss) ∙ sym (sum_by-cons (λ (s : Source). s.files) s ss)
 
-module _ (p : Query) (b : ℕ) (us : List (Stream ScanFault)) (main : Source) (has : HasMain p main) (some : 0 < b) (all : length us ≡ files_wanted p) where
-  abbrev pub renamed : List (Stream Fault)
-  renamed = map (rename_fault scan_fault) us
+module _ (p : Query) (b : ℕ) (ws : List RecordStream) (main : Source) (has : HasMain p main) (some : 0 < b) (all : length ws ≡ files_wanted p) where
+  -- the files' streams
+  abbrev pub us : List (Stream ScanFault)
+  us = rows_of_files 0 (file_fields p) ws
+
+  abbrev pub items : List (List Scanned)
+  items = items_of_files b 0 (file_fields p) ws
+
+  abbrev pub streams : List (List (Stream Fault))
+  streams = worked_streams (leading_steps p) (join_files p) 0 (items_of_files b 0 (file_fields p) ws)
 
   abbrev pub taken : List Taken
-  taken = all_items p b (map (rename_fault scan_fault) us)
+  taken = tagged 0 (worked_streams (leading_steps p) (join_files p) 0 (items_of_files b 0 (file_fields p) ws))
 
   abbrev pub starts : List Gathered
   starts = map (λ (s : Source). no_rows s.files s.fields) (but_last p.sources)
 
-  columns-count : length (file_fields p) ≡ length us
+  columns-count : length (file_fields p) ≡ length ws
   columns-count = length-columns p.sources ∙ sym all
+
+  file-count : length (map (rename_fault scan_fault) us) ≡ files_wanted p
+  file-count = length-map us (rename_fault scan_fault) ∙ length-rows 0 (file_fields p) ws columns-count ∙ all
 
   from-first : (i : ℕ) (fields : Fields) → slice_get (file_fields p) i ≡ Some fields → slice_get (file_fields p) (0 + i) ≡ Some fields
   from-first i fields e = ap (slice_get (file_fields p)) (let q : 0 + i ≡ i = omega arith in q) ∙ e
 
-  all-gathered : all_taken (answers_to (leading_steps p) (join_files p) (numbered 0 (items_of_files p b us))) (nothing_taken p) ≡ with_items 0 taken (nothing_taken p)
+  all-gathered : all_taken (answers_to (leading_steps p) (join_files p) (numbered 0 items)) (nothing_taken p) ≡ with_items 0 taken (nothing_taken p)
   all-gathered =
-      let ts : List Answer = answers_to (leading_steps p) (join_files p) (numbered 0 (items_of_files p b us)) in
-      all_taken-joined ts (nothing_taken p) (fit-files (leading_steps p) (join_files p) (map head_of (nothing_taken p)) b 0 (file_fields p) us (files-fit p main has 0 (file_fields p) from-first))
+      let ts : List Answer = answers_to (leading_steps p) (join_files p) (numbered 0 items) in
+      all_taken-joined ts (nothing_taken p) (fit-files (leading_steps p) (join_files p) (map head_of (nothing_taken p)) b 0 (file_fields p) ws (files-fit p main has 0 (file_fields p) from-first))
       ∙ all_joined-items ts (nothing_taken p)
-      ∙ ap (λ xs. with_items 0 xs (nothing_taken p)) (files-items p b 0 (file_fields p) us columns-count (main-fields p main has 0 (file_fields p) from-first))
+      ∙ ap (λ xs. with_items 0 xs (nothing_taken p)) (answer-streams (leading_steps p) (join_files p) 0 items)
+
+  joins-to : map concat_streams streams ≡ worked_files p 0 (map (rename_fault scan_fault) us)
+  joins-to = worked-joined p b 0 (file_fields p) ws some (main-fields p main has 0 (file_fields p) from-first)
+
+  -- there are as many lists of items as files
+  stream-count : length streams ≡ files_wanted p
+  stream-count = sym (length-map streams concat_streams) ∙ ap length joins-to ∙ length-worked p 0 (map (rename_fault scan_fault) us) ∙ file-count
 
   main-items : items_from (0 + sum_by (λ (g : Gathered). g.files) starts) (main_files p) taken ≡ items_from (join_files p) (files_wanted p) taken
   main-items =
       let wanted = wanted-main p main has in
-      let count : length renamed ≡ length us = length-map us (rename_fault scan_fault) in
       ap (λ n. items_from n (main_files p) taken) (let q : 0 + sum_by (λ (g : Gathered). g.files) starts ≡ join_files p = omega (arith, files-sum (but_last p.sources)) in q)
-      ∙ items_from-start p b (join_files p) (main_files p) renamed
-      ∙ ap (untagged (worked_items p b) (join_files p))
-      (take_all (main_files p) (drop (join_files p) renamed) (omega (arith, length-drop (join_files p) renamed, wanted, all, count))
-      ∙ sym (take_all (files_wanted p) (drop (join_files p) renamed) (omega (arith, length-drop (join_files p) renamed, wanted, all, count))))
-      ∙ sym (items_from-start p b (join_files p) (files_wanted p) renamed)
+      ∙ items_from-start (join_files p) (main_files p) streams
+      ∙ ap flat
+      (take_all (main_files p) (drop (join_files p) streams) (omega (arith, length-drop (join_files p) streams, wanted, stream-count))
+      ∙ sym (take_all (files_wanted p) (drop (join_files p) streams) (omega (arith, length-drop (join_files p) streams, wanted, stream-count))))
+      ∙ sym (items_from-start (join_files p) (files_wanted p) streams)
 
   -- the streams of the sources give the meaning
-  gathered-outcome : (items : List (Stream Fault)) → items ≡ items_from (join_files p) (files_wanted p) taken →
-      outcome_of_gathered p (with_items 0 taken starts) (record { files = main_files p; batch = record { fields = front_fields p; rows = (concat_streams items).rows }; fault = (concat_streams items).fault }) ≡ meaning p us
-  gathered-outcome items e =
-      ap (λ us. elim (first_fault us) [
+  gathered-outcome : (own : List (Stream Fault)) → own ≡ items_from (join_files p) (files_wanted p) taken →
+      outcome_of_gathered p (with_items 0 taken starts) (record { files = main_files p; batch = record { fields = front_fields p; rows = (concat_streams own).rows }; fault = (concat_streams own).fault }) ≡ meaning p us
+  gathered-outcome own e =
+      ap (λ joins. elim (first_fault joins) [
         | Some f ↦ Err f
-        | None ↦ outcome (map (λ (g : Gathered). g.batch) (with_items 0 taken starts)) (length (front_of p.steps)) (front_fields p) (rest_of p.steps) (concat_streams items)
+        | None ↦ outcome (map (λ (g : Gathered). g.batch) (with_items 0 taken starts)) (length (front_of p.steps)) (front_fields p) (rest_of p.steps) (concat_streams own)
       ]) (items-streams 0 taken (but_last p.sources))
       ∙ ap (λ frames. elim (first_fault (taken_streams 0 (but_last p.sources) taken)) [
         | Some f ↦ Err f
-        | None ↦ outcome frames (length (front_of p.steps)) (front_fields p) (rest_of p.steps) (concat_streams items)
+        | None ↦ outcome frames (length (front_of p.steps)) (front_fields p) (rest_of p.steps) (concat_streams own)
       ]) (items-frames 0 taken (but_last p.sources))
       ∙ ap (finished p (taken_streams 0 (but_last p.sources) taken)) e
-      ∙ outcome-all p b renamed some (omega (arith, length-map us (rename_fault scan_fault), all))
+      ∙ outcome-all p streams (map (rename_fault scan_fault) us) joins-to (omega (arith, file-count))
 
   outcome-of : (sources joins : List Gathered) (last : Gathered) → sources ≡ with_items 0 taken (nothing_taken p) → sources ≡ joins ++ last ∷ [] → outcome_of_gathered p joins last ≡ meaning p us
   outcome-of sources joins last e f =
       let first : ℕ = 0 + sum_by (λ (g : Gathered). g.files) starts in
-      let items : List (Stream Fault) = items_from first (main_files p) taken in
-      let own : Gathered = record { files = main_files p; batch = record { fields = front_fields p; rows = (concat_streams items).rows }; fault = (concat_streams items).fault } in
+      let taken_last : List (Stream Fault) = items_from first (main_files p) taken in
+      let own : Gathered = record { files = main_files p; batch = record { fields = front_fields p; rows = (concat_streams taken_last).rows }; fault = (concat_streams taken_last).fault } in
       let both = same-ends joins (with_items 0 taken starts) last own (sym f ∙ e ∙ with_items-append 0 taken starts (no_rows (main_files p) (front_fields p) ∷ [])) in
-      ap (λ gs. outcome_of_gathered p gs last) both.0 ∙ ap (outcome_of_gathered p (with_items 0 taken starts)) both.1 ∙ gathered-outcome items main-items
+      ap (λ gs. outcome_of_gathered p gs last) both.0 ∙ ap (outcome_of_gathered p (with_items 0 taken starts)) both.1 ∙ gathered-outcome taken_last main-items
 
-  trace-of : IsOk (meaning p us) → numbers (numbered 0 (items_of_files p b us)) ≡ trace_of b us
-  trace-of h = files-numbers b 0 (file_fields p) us columns-count (files-done p us h)
+  trace-of : IsOk (meaning p us) → numbers (numbered 0 items) ≡ trace_of b us
+  trace-of h = files-numbers b 0 (file_fields p) ws (files-done p us h)
 
-pub ran-gives : (p : Query) (b : ℕ) (us : List (Stream ScanFault)) (front : NumberedSteps) (joins : ℕ) (feeds : List Feeding) (first last : List Gathered) (trace : List (ℕ × ℕ)) →
-    RanOver p b us front joins feeds first last trace → Gives p b us last trace
-ran-gives p b us front joins feeds first last trace ran =
+pub ran-gives : (p : Query) (b : ℕ) (ws : List RecordStream) (front : NumberedSteps) (joins : ℕ) (feeds : List Feeding) (first last : List Gathered) (trace : List (ℕ × ℕ)) →
+    RanOver p b ws front joins feeds first last trace → Gives p b (rows_of_files 0 (file_fields p) ws) last trace
+ran-gives p b ws front joins feeds first last trace ran =
     let main = has_main p ran.some_source in
-    let items : List (List Scanned) = ran.finished.0 in
+    let given : List (List Scanned) = ran.finished.0 in
     let log = ran.finished.2.0 in
-    let known : items ≡ items_of_files p b us = each-known feeds items (items_of_files p b us) ran.finished.1 ran.told in
-    let answers : answers_in log ≡ answers_to (leading_steps p) (join_files p) (numbered 0 (items_of_files p b us)) =
-    log-answers front joins (numbered 0 items) log ran.finished.2.1
-    ∙ ap (λ f. answers_to f joins (numbered 0 items)) ran.steps
-    ∙ ap (λ n. answers_to (leading_steps p) n (numbered 0 items)) ran.join_count
+    let items : List (List Scanned) = items_of_files b 0 (file_fields p) ws in
+    let known : given ≡ items = each-known feeds given items ran.finished.1 ran.told in
+    let answers : answers_in log ≡ answers_to (leading_steps p) (join_files p) (numbered 0 items) =
+    log-answers front joins (numbered 0 given) log ran.finished.2.1
+    ∙ ap (λ f. answers_to f joins (numbered 0 given)) ran.steps
+    ∙ ap (λ n. answers_to (leading_steps p) n (numbered 0 given)) ran.join_count
     ∙ ap (λ xs. answers_to (leading_steps p) (join_files p) (numbered 0 xs)) known in
-    let sources : last ≡ with_items 0 (taken p b us main.0 main.1 ran.some_rows ran.all_files) (nothing_taken p) =
+    let sources : last ≡ with_items 0 (taken p b ws main.0 main.1 ran.some_rows ran.all_files) (nothing_taken p) =
     took-all log first last ran.finished.2.2
     ∙ ap (λ ts. all_taken ts first) answers
-    ∙ ap (all_taken (answers_to (leading_steps p) (join_files p) (numbered 0 (items_of_files p b us)))) ran.nothing
-    ∙ all-gathered p b us main.0 main.1 ran.some_rows ran.all_files in
+    ∙ ap (all_taken (answers_to (leading_steps p) (join_files p) (numbered 0 items))) ran.nothing
+    ∙ all-gathered p b ws main.0 main.1 ran.some_rows ran.all_files in
     record {
-      outcome = λ js m e. outcome-of p b us main.0 main.1 ran.some_rows ran.all_files last js m sources e;
-      trace = λ h. ran.finished.2.3 ∙ log-numbers front joins (numbered 0 items) log ran.finished.2.1 ∙ ap (λ xs. numbers (numbered 0 xs)) known
-          ∙ trace-of p b us main.0 main.1 ran.some_rows ran.all_files h;
+      outcome = λ js m e. outcome-of p b ws main.0 main.1 ran.some_rows ran.all_files last js m sources e;
+      trace = λ h. ran.finished.2.3 ∙ log-numbers front joins (numbered 0 given) log ran.finished.2.1 ∙ ap (λ xs. numbers (numbered 0 xs)) known
+          ∙ trace-of p b ws main.0 main.1 ran.some_rows ran.all_files h;
     }

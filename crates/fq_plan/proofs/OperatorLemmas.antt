@@ -12,7 +12,8 @@ use Rattle.fq_column.specs.Stream.{Stream, done, then_stream, one_by_one, rename
 use Rattle.fq_expr.specs.Front.{NumberedSteps, fault_at}
 use Rattle.fq_expr.specs.Steps.{apply_steps, fields_after_all}
 use Rattle.fq_expr.specs.declared.fronts.RowFault.{RowFault}
-use Rattle.fq_expr.proofs.StepLemmas.{apply_steps-then, one_by_one-append, rename_fault-then}
+use Rattle.fq_column.proofs.StreamLemmas.{one_by_one-append}
+use Rattle.fq_expr.proofs.StepLemmas.{apply_steps-then, rename_fault-then}
 use Rattle.fq_ops.specs.Join.{join_rows, joined, joined_fields, within_room}
 use Rattle.fq_ops.specs.Roll.{roll_rows, roll_schema, rolled, rolled_at, with_sum}
 use Rattle.fq_ops.specs.Taken.{HasTakenCells, Window}

@@ -6,17 +6,18 @@ use Rattle.std.proofs.lemmas.List.{length-replicate, map-append}
 use Rattle.std.proofs.lemmas.List.Sums.{sum_by-append, sum_by-cons}
 use Rattle.fq_column.specs.Frame.{Fields, Frame, Row}
 use Rattle.fq_csv.specs.Run.{framed}
+use Rattle.fq_csv.specs.declared.faults.ScanFault.{ScanFault}
+use Rattle.fq_expr.specs.declared.fronts.Piece.{Piece as PieceOf}
 use Rattle.fq_plan.specs.Plan.{Source, Query, but_last, last_or, file_fields, files_wanted, join_files, main_fields}
 use Rattle.fq_plan.specs.EngineRun.{front_fields, leading_steps, main_files, no_rows, nothing_taken}
-use Rattle.fq_plan.specs.Working.{stepped, untouched, work_on}
+use Rattle.fq_plan.specs.Working.{piece_of, piece_until, rows_of_run, stepped, untouched}
 use Rattle.fq_plan.specs.declared.workers.Worked.{Worked}
 use Rattle.fq_plan.specs.declared.workers.Worked.TheVariants.{Piece}
-use Rattle.fq_plan.specs.declared.feeds.Scanned.TheVariants.{Batch}
 use Rattle.fq_plan.specs.declared.gathering.Gathered.{Gathered}
 use Rattle.fq_column.specs.Schema.{same_fields}
 use Rattle.fq_column.specs.SchemaLaws.{same_fields_decides}
 use Rattle.fq_plan.proofs.GatheringLemmas.{Fits, Head, fields_at, head_of}
-use Rattle.fq_plan.proofs.EngineLemmas.{FilesFit, MainFields}
+use Rattle.fq_plan.proofs.EngineLemmas.{FilesFit, MainFields, RunsFit}
 use Rattle.fq_plan.proofs.SplitLemmas.{but_last-snoc, last_or-snoc}
 
 -- ---- a list that has a last item
@@ -108,6 +109,12 @@ heads-nothing : (ss : List Source) (gs : List Gathered) → map head_of (map (λ
 heads-nothing [] gs = refl
 heads-nothing (s ∷ ss) gs = ap (λ hs. declared s ∷ hs) (heads-nothing ss gs)
 
+-- a fault after a piece's rows does not change their columns
+fits-until : (end : Option ScanFault) (p : PieceOf) (o : Option Fields) → Fits (Piece p) o → Fits (piece_until end p) o
+fits-until None p o h = h
+fits-until (Some fault) p None h = h
+fits-until (Some fault) p (Some fields) h = h
+
 module _ (p : Query) (main : Source) (has : HasMain p main) where
   -- the columns that are declared for a file, by the source that it is of
   declared-at : (i : ℕ) (fields : Fields) → slice_get (file_fields p) i ≡ Some fields → fields_at i (map declared (but_last p.sources) ++ declared main ∷ []) ≡ Some fields
@@ -125,9 +132,9 @@ module _ (p : Query) (main : Source) (has : HasMain p main) where
       go true q = let r : main.fields ≡ fields = cc q in sym r ∙ sym has.fields
       go false q = absurd (cc q)
 
-  fit-at : (i : ℕ) (fields : Fields) → slice_get (file_fields p) i ≡ Some fields → (rows : List Row) →
-      Fits (work_on (leading_steps p) (join_files p) i (Batch (framed fields rows))) (fields_at i (map head_of (nothing_taken p)))
-  fit-at i fields e rows = go (nat_lt i (join_files p)) refl
+  piece-fits : (i : ℕ) (fields : Fields) → slice_get (file_fields p) i ≡ Some fields → (rows : List Row) →
+      Fits (Piece (piece_of (leading_steps p) (join_files p) i (framed fields rows))) (fields_at i (map head_of (nothing_taken p)))
+  piece-fits i fields e rows = go (nat_lt i (join_files p)) refl
     where
       own : List Head
       own = (main_files p, front_fields p) ∷ []
@@ -160,6 +167,11 @@ module _ (p : Query) (main : Source) (has : HasMain p main) where
           subst (λ (o : Option Fields). Fits (worked_as (nat_lt i (join_files p)) (same_fields fields (main_fields p))) o) (sym place)
           (subst (λ (b : Bool). Fits (worked_as b (same_fields fields (main_fields p))) (cond (nat_lt (i - join_files p) (main_files p)) (Some (front_fields p)) None)) (sym q)
           (subst (λ (b : Bool). Fits (worked_as false b) (cond (nat_lt (i - join_files p) (main_files p)) (Some (front_fields p)) None)) (sym (same q)) (last (nat_lt (i - join_files p) (main_files p)))))
+
+  fit-at : (i : ℕ) (fields : Fields) → slice_get (file_fields p) i ≡ Some fields → RunsFit (leading_steps p) (join_files p) (map head_of (nothing_taken p)) i fields
+  fit-at i fields e run same =
+      fits-until (rows_of_run run).fault (piece_of (leading_steps p) (join_files p) i (framed run.fields (rows_of_run run).rows)) (fields_at i (map head_of (nothing_taken p)))
+      (subst (λ (fs : Fields). Fits (Piece (piece_of (leading_steps p) (join_files p) i (framed fs (rows_of_run run).rows))) (fields_at i (map head_of (nothing_taken p)))) (sym same) (piece-fits i fields e (rows_of_run run).rows))
 
   pub main-fields : (k : ℕ) (fss : List Fields) → ((i : ℕ) (fields : Fields) → slice_get fss i ≡ Some fields → slice_get (file_fields p) (k + i) ≡ Some fields) → MainFields p k fss
   main-fields k [] h = tt

@@ -8,17 +8,18 @@ use Rattle.fq_column.specs.Stream.{Stream, done, faulted, one_by_one, then_strea
 use Rattle.fq_csv.specs.declared.faults.ScanFault.{ScanFault}
 use Rattle.fq_csv.specs.declared.faults.ScanFault.TheVariants as scan
 use Rattle.fq_expr.specs.Steps.{rows_after}
+use Rattle.fq_expr.specs.declared.fronts.Piece.{Piece}
 use Rattle.fq_lanes.specs.Taking.{Took}
 use Rattle.fq_ops.specs.Group.{grouped}
 use Rattle.fq_ops.specs.Join.{join_rows, join_stream}
 use Rattle.fq_ops.specs.Roll.{roll_rows}
-use Rattle.fq_plan.specs.Gathering.{added_stream, gathered, gathered_stream, taken_in}
+use Rattle.fq_plan.specs.Gathering.{added_piece, added_stream, gathered, gathered_stream, taken_in}
 use Rattle.fq_plan.specs.Kept.{shape, Takes, IsSound, AreSound}
 use Rattle.fq_plan.specs.Meaning.{apply_plan_step, apply_plan_steps, fields_after, join_room}
 use Rattle.fq_plan.specs.Plan.{PlanStep, row_wise, join, group_by, rolling_sum, item_at}
 use Rattle.fq_plan.specs.Run.{IsRunFault}
 use Rattle.fq_plan.specs.Sources.{first_fault, row_fault, scan_fault}
-use Rattle.fq_plan.specs.Working.{worked_stream}
+use Rattle.fq_plan.specs.Working.{piece_stream}
 use Rattle.fq_plan.specs.declared.faults.Fault.{Fault}
 use Rattle.fq_plan.specs.declared.faults.Fault.TheVariants as fault
 use Rattle.fq_plan.specs.declared.gathering.Gathered.{Gathered}
@@ -71,17 +72,17 @@ sound-named : {G : Type 0} (name : G → Fault) → ((g : G) → IsRunFault (nam
 sound-named name h None = tt
 sound-named name h (Some g) = h g
 
-sound-worked : (out : Worked) → IsSound (worked_stream out).fault
-sound-worked (worked.Ended f) = sound-scan f
-sound-worked (worked.Piece p) = sound-named row_fault (λ f. tt) p.fault
+sound-piece : (fields : Fields) (p : Piece) → IsSound (added_piece fields p).fault
+sound-piece fields p = go (same_fields p.batch.fields fields)
+  where
+    go : (b : Bool) → IsSound (cond b (piece_stream p) (done [])).fault
+    go true = sound-named row_fault (λ f. tt) p.fault
+    go false = tt
 
 sound-added : (fields : Fields) (out : Worked) → IsSound (added_stream fields out).fault
-sound-added fields (worked.Ended f) = sound-worked (worked.Ended f)
-sound-added fields (worked.Piece p) = go (same_fields p.batch.fields fields)
-  where
-    go : (b : Bool) → IsSound (cond b (worked_stream (worked.Piece p)) (done [])).fault
-    go true = sound-worked (worked.Piece p)
-    go false = tt
+sound-added fields (worked.Piece p) = sound-piece fields p
+sound-added fields (worked.Cut p f) = sound-then (added_piece fields p) (faulted (scan_fault f)) (sound-piece fields p) (sound-scan f)
+sound-added fields (worked.Ended f) = sound-scan f
 
 sound-gathered : (g : Gathered) (out : Worked) → IsSound g.fault → IsSound (gathered g out).fault
 sound-gathered g out s = sound-then (gathered_stream g) (added_stream g.batch.fields out) s (sound-added g.batch.fields out)

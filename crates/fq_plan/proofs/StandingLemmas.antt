@@ -5,7 +5,7 @@ use Rattle.std.proofs.lemmas.Grind.{flat_map-append}
 use Rattle.fq_column.specs.Frame.{Fields, Row}
 use Rattle.fq_column.specs.Stream.{Stream, done, then_stream}
 use Rattle.fq_csv.specs.Printed.{printed, printed_names, printed_rows}
-use Rattle.fq_expr.proofs.StepLemmas.{then_stream-assoc}
+use Rattle.fq_column.proofs.StreamLemmas.{then_stream-assoc}
 use Rattle.fq_plan.specs.Gathering.{added_stream, gathered, gathered_stream, with_stream}
 use Rattle.fq_plan.specs.GoingOn.{HasGoneOn}
 use Rattle.fq_plan.specs.Later.{later_steps}

@@ -1,13 +1,9 @@
 -- What a run of a checked plan starts from: its engine runs over the items of the plan's files, from nothing taken.
-use Rattle.std.proofs.Common.{◌≡◌, ℕ, zero, suc, ◌+◌, ◌-◌, ◌<◌, ◌≤◌, List, [], ◌∷◌, ◌++◌, map, length, zip, flat_map, replicate, sum_by, Option, Some, refl, ap, sym, ◌∙◌, arith}
+use Rattle.std.proofs.Common.{◌≡◌, ℕ, zero, suc, ◌+◌, ◌-◌, ◌<◌, ◌≤◌, List, [], ◌∷◌, ◌++◌, map, length, flat_map, replicate, sum_by, Option, Some, refl, ap, sym, ◌∙◌, arith}
 use Rattle.std.specs.Prelude.{All}
-use Rattle.std.specs.List.{range_with_len}
 use Rattle.std.proofs.lemmas.List.{length-map, map-append}
 use Rattle.std.proofs.lemmas.List.Sums.{sum_by-cons, sum_by_push}
 use Rattle.fq_column.specs.Frame.{Fields}
-use Rattle.fq_column.specs.Lists.{zip_with}
-use Rattle.fq_column.specs.Stream.{Stream}
-use Rattle.fq_csv.specs.declared.faults.ScanFault.{ScanFault}
 use Rattle.fq_expr.specs.Expression.{Step}
 use Rattle.fq_expr.specs.Front.{NumberedSteps}
 use Rattle.fq_expr.specs.Steps.{fields_after_all}
@@ -15,9 +11,8 @@ use Rattle.fq_lanes.specs.Engine.{Finishes}
 use Rattle.fq_plan.specs.Feeding.{Feeding, MayCome}
 use Rattle.fq_plan.specs.Kept.{Takes}
 use Rattle.fq_plan.specs.Plan.{Source, PlanStep, row_wise, join, group_by, rolling_sum, Query, but_last, last_or, file_fields, files_wanted, front_of, join_fields, join_files, rest_of}
-use Rattle.fq_plan.specs.EngineRun.{RanOver, leading_steps, main_files, no_rows, nothing_taken, opened}
+use Rattle.fq_plan.specs.EngineRun.{RanOver, leading_steps, main_files, no_rows, nothing_taken, opened, records_of_files}
 use Rattle.fq_plan.specs.Run.{Tell}
-use Rattle.fq_plan.specs.Sources.{file_streams}
 use Rattle.fq_plan.specs.Stages.{checked_source_data, query_of, stage_steps, IsChecked}
 use Rattle.fq_plan.specs.Working.{work_on}
 use Rattle.fq_plan.specs.declared.gathering.Gathered.{Gathered}
@@ -59,12 +54,11 @@ length-opened remaining b k (fields ∷ fss) (r ∷ rs) = omega (arith, length-o
 
 -- ---- as many streams as files
 
-length-streams : (f : ℕ → Fields → List ℕ → Stream ScanFault) (k : ℕ) (fss : List Fields) (files : List (List ℕ)) → length fss ≡ length files →
-    length (zip_with (λ i (file : Fields × List ℕ). f i file.0 file.1) (range_with_len k (length files)) (zip fss files)) ≡ length files
-length-streams f k [] [] e = refl
-length-streams f k [] (x ∷ files) e = absurd (omega (arith, e))
-length-streams f k (fields ∷ fss) [] e = absurd (omega (arith, e))
-length-streams f k (fields ∷ fss) (x ∷ files) e = ap suc (length-streams f (k + 1) fss files (omega (arith, e)))
+length-records : (k : ℕ) (fss : List Fields) (files : List (List ℕ)) → length fss ≡ length files → length (records_of_files k fss files) ≡ length files
+length-records k [] [] e = refl
+length-records k [] (x ∷ files) e = absurd (omega (arith, e))
+length-records k (fields ∷ fss) [] e = absurd (omega (arith, e))
+length-records k (fields ∷ fss) (x ∷ files) e = ap suc (length-records (k + 1) fss files (omega (arith, e)))
 
 -- ---- the sources of a checked plan
 
@@ -149,13 +143,13 @@ module _ (sources : List CheckedSource) (front : NumberedSteps) (stages : List S
         feeds ≡ opened remaining b 0 (flat_map (λ (s : CheckedSource). replicate s.files s.schema) sources) readers →
         first ≡ map (λ (s : CheckedSource). no_rows s.files s.schema) joins ++ no_rows main.files (fields_after_all front.fields front.steps) ∷ [] →
         Finishes MayCome (λ file item out. out ≡ work_on front (inputs - main.files) file item) Takes feeds first trace last →
-        RanOver plan b (file_streams plan files) front (inputs - main.files) feeds first last trace
+        RanOver plan b (records_of_files 0 (file_fields plan) files) front (inputs - main.files) feeds first last trace
     ran-over remaining b readers files feeds first last trace some count tell feeds-are nothing finished =
         let many : length files ≡ files_wanted plan = sym (length-map files Some) ∙ ap length (sym tell) ∙ length-map readers remaining ∙ count in
         record {
           some_rows = some;
           some_source = c.limits.some_source;
-          all_files = length-streams (λ i fields file. _) 0 (file_fields plan) files (length-columns plan.sources ∙ sym many) ∙ many;
+          all_files = length-records 0 (file_fields plan) files (length-columns plan.sources ∙ sym many) ∙ many;
           steps = leading-is;
           join_count = join-count;
           told = ap (map (λ (f : Feeding). f.items)) (feeds-are ∙ ap (λ fss. opened remaining b 0 fss readers) schemas-are) ∙ opened-told remaining b 0 (file_fields plan) readers files tell;

@@ -5,7 +5,8 @@ use Rattle.fq_column.specs.Frame.{Fields, Name, Row}
 use Rattle.fq_column.specs.Stream.{Stream, done, ended_as, one_by_one, rename_fault, then_stream}
 use Rattle.fq_expr.specs.Front.{NumberedSteps}
 use Rattle.fq_expr.specs.Steps.{apply_steps, fields_after_all}
-use Rattle.fq_expr.proofs.StepLemmas.{apply_steps-then, rename_fault-then, then_stream-assoc}
+use Rattle.fq_column.proofs.StreamLemmas.{then_stream-assoc}
+use Rattle.fq_expr.proofs.StepLemmas.{apply_steps-then, rename_fault-then}
 use Rattle.fq_ops.specs.Aggregate.{Output}
 use Rattle.fq_ops.specs.Group.{group_stream}
 use Rattle.fq_ops.specs.Join.{join_rows, join_stream, joined, joined_fields}

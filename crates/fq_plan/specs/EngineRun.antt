@@ -1,9 +1,8 @@
 -- What the engine comes to, with the leading steps as its work, over the items of a plan's files.
 use Rattle.std.specs.Prelude.{◌+◌, Option, option_map, ◌≡◌, ℕ, List, [], ◌∷◌, ◌++◌, map, length, Some, None, Result, Err, IsOk, ◌<◌}
 use Rattle.fq_column.specs.Frame.{Fields, Frame}
-use Rattle.fq_column.specs.Lists.{zip_with}
 use Rattle.fq_column.specs.Stream.{Stream}
-use Rattle.fq_csv.specs.File.{file_stream}
+use Rattle.fq_csv.specs.Taking.{RecordStream, record_stream, rows_of_records}
 use Rattle.fq_csv.specs.declared.faults.ScanFault.{ScanFault}
 use Rattle.fq_expr.specs.Front.{NumberedSteps}
 use Rattle.fq_expr.specs.Steps.{fields_after_all}
@@ -39,17 +38,31 @@ no_rows files fields = record { files = files; batch = record { fields = fields;
 abbrev pub nothing_taken : Query → List Gathered
 nothing_taken p = map (λ s. no_rows s.files s.fields) (but_last p.sources) ++ no_rows (main_files p) (front_fields p) ∷ []
 
--- the items of each file's stream
-abbrev pub items_of_files : Query → ℕ → List (Stream ScanFault) → List (List Scanned)
-items_of_files p batch_size us = zip_with (λ fields u. scanned_items fields batch_size u) (file_fields p) us
+-- the items of each file's records; the files are numbered from this one on and have these columns
+abbrev pub items_of_files : ℕ → ℕ → List Fields → List RecordStream → List (List Scanned)
+items_of_files run_size file [] ws = []
+items_of_files run_size file (fields ∷ columns) [] = []
+items_of_files run_size file (fields ∷ columns) (w ∷ ws) = scanned_items file fields run_size 0 w ∷ items_of_files run_size (file + 1) columns ws
+
+-- the rows of each file's records
+abbrev pub rows_of_files : ℕ → List Fields → List RecordStream → List (Stream ScanFault)
+rows_of_files file [] ws = []
+rows_of_files file (fields ∷ columns) [] = []
+rows_of_files file (fields ∷ columns) (w ∷ ws) = rows_of_records file fields row_limit 0 w ∷ rows_of_files (file + 1) columns ws
+
+-- the records of each file's bytes
+abbrev pub records_of_files : ℕ → List Fields → List (List ℕ) → List RecordStream
+records_of_files file [] files = []
+records_of_files file (fields ∷ columns) [] = []
+records_of_files file (fields ∷ columns) (bytes ∷ files) = record_stream file fields row_limit bytes ∷ records_of_files (file + 1) columns files
 
 -- what feeds of readers have to give, which are numbered from this file on and have these columns
 abbrev pub opened : {R : Type 0} → (R → Option (List ℕ)) → ℕ → ℕ → List Fields → List R → List Feeding
-opened remaining batch_size file [] readers = []
-opened remaining batch_size file (fields ∷ columns) [] = []
-opened remaining batch_size file (fields ∷ columns) (reader ∷ readers) =
-    record { most = 2147483648; items = option_map (scanned_items fields batch_size) (option_map (file_stream file fields row_limit) (remaining reader)) }
-    ∷ opened remaining batch_size (file + 1) columns readers
+opened remaining run_size file [] readers = []
+opened remaining run_size file (fields ∷ columns) [] = []
+opened remaining run_size file (fields ∷ columns) (reader ∷ readers) =
+    record { most = 2147483648; items = option_map (scanned_items file fields run_size 0) (option_map (record_stream file fields row_limit) (remaining reader)) }
+    ∷ opened remaining run_size (file + 1) columns readers
 
 -- what the steps after the leading ones make of what was gathered, where no source before the last ends in a fault
 abbrev pub outcome_of_gathered : Query → List Gathered → Gathered → Result Frame Fault
@@ -58,14 +71,14 @@ outcome_of_gathered p joins main = elim (first_fault (map gathered_stream joins)
   | None ↦ outcome (map (λ g. g.batch) joins) (length (front_of p.steps)) main.batch.fields (rest_of p.steps) (gathered_stream main)
 ]
 
--- a run of the engine over feeds that tell the items of these streams, from nothing taken on
-pub record RanOver (p : Query) (batch_size : ℕ) (us : List (Stream ScanFault)) (front : NumberedSteps) (joins : ℕ) (feeds : List Feeding) (first last : List Gathered) (trace : List (ℕ × ℕ)) : Type 0 where
+-- a run of the engine over feeds that tell the items of these records, from nothing taken on
+pub record RanOver (p : Query) (batch_size : ℕ) (ws : List RecordStream) (front : NumberedSteps) (joins : ℕ) (feeds : List Feeding) (first last : List Gathered) (trace : List (ℕ × ℕ)) : Type 0 where
   pub some_rows : 0 < batch_size
   pub some_source : 0 < length p.sources
-  pub all_files : length us ≡ files_wanted p
+  pub all_files : length ws ≡ files_wanted p
   pub steps : front ≡ leading_steps p
   pub join_count : joins ≡ join_files p
-  pub told : map (λ f. f.items) feeds ≡ map Some (items_of_files p batch_size us)
+  pub told : map (λ f. f.items) feeds ≡ map Some (items_of_files batch_size 0 (file_fields p) ws)
   pub nothing : first ≡ nothing_taken p
   pub finished : Finishes MayCome (λ file item out. out ≡ work_on front joins file item) Takes feeds first trace last
 

@@ -1,33 +1,38 @@
--- The items that a scan of a file comes to, and what a feed has still to give of them.
-use Rattle.std.specs.Prelude.{◌≡◌, ◌+◌, ℕ, Bool, true, false, List, [], ◌∷◌, ◌++◌, map, Option, Some, None, option_map}
+-- The items that the records of a file come to, and what a feed has still to give of them.
+use Rattle.std.specs.Prelude.{◌≡◌, ◌+◌, ℕ, Bool, true, false, List, [], ◌∷◌, ◌++◌, length, Option, Some, None, option_map}
 use Rattle.std.proofs.lemmas.Option.{none-some, same_Some}
 use Rattle.fq_column.specs.Frame.{Fields}
 use Rattle.fq_column.specs.Lists.{pieces}
-use Rattle.fq_column.specs.Stream.{Stream}
-use Rattle.fq_csv.specs.Run.{framed}
-use Rattle.fq_csv.specs.Scan.{Scanning}
+use Rattle.fq_csv.specs.File.{Record}
+use Rattle.fq_csv.specs.RecordScan.{RecordScanning}
+use Rattle.fq_csv.specs.Taking.{RecordStream}
 use Rattle.fq_csv.specs.declared.faults.ScanFault.{ScanFault}
 use Rattle.fq_plan.specs.declared.feeds.Scanned.{Scanned}
-use Rattle.fq_plan.specs.declared.feeds.Scanned.TheVariants.{Batch, Ended}
+use Rattle.fq_plan.specs.declared.feeds.Scanned.TheVariants.{Run, Ended}
 
 -- a fault as one item
 abbrev pub end_item : Option ScanFault → List Scanned
 end_item None = []
 end_item (Some fault) = Ended fault ∷ []
 
--- the items of a stream of these columns: its rows in batches, and then its fault if it has one
-abbrev pub scanned_items : Fields → ℕ → Stream ScanFault → List Scanned
-scanned_items fields batch_size u = map (λ rows. Batch (framed fields rows)) (pieces batch_size u.rows) ++ end_item u.fault
+-- records that are cut into runs, which follow so many rows of the file
+abbrev pub runs_from : ℕ → Fields → ℕ → List (List Record) → List Scanned
+runs_from file fields before [] = []
+runs_from file fields before (rs ∷ more) = Run (record { file = file; fields = fields; before = before; records = rs }) ∷ runs_from file fields (before + length rs) more
+
+-- the items of a stream of records: these in runs, and then their fault if they have one
+abbrev pub scanned_items : ℕ → Fields → ℕ → ℕ → RecordStream → List Scanned
+scanned_items file fields run_size before u = runs_from file fields before (pieces run_size u.records) ++ end_item u.fault
 
 -- how many items may come at most, and which do, where the reader tells its bytes and has not failed
 pub record Feeding : Type 0 where
   pub most : ℕ
   pub items : Option (List Scanned)
 
--- so of a scan; nothing comes after its fault was given
-abbrev pub feeding_of : Scanning → Bool → Feeding
+-- so of a scan of records; nothing comes after its fault was given
+abbrev pub feeding_of : RecordScanning → Bool → Feeding
 feeding_of s true = record { most = 0; items = Some [] }
-feeding_of s false = record { most = s.room + 1; items = option_map (scanned_items s.fields s.batch_size) s.upcoming }
+feeding_of s false = record { most = s.room + 1; items = option_map (scanned_items s.file s.fields s.run_size s.taken) s.upcoming }
 
 -- these may be the items that come: where they are known, they are those
 abbrev pub MayCome : Feeding → List Scanned → Type 0

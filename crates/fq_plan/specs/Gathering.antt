@@ -2,8 +2,10 @@
 use Rattle.std.specs.Prelude.{ℕ, ◌-◌, nat_lt, List, [], ◌∷◌, if◌then◌else◌}
 use Rattle.fq_column.specs.Frame.{Fields}
 use Rattle.fq_column.specs.Schema.{same_fields}
-use Rattle.fq_column.specs.Stream.{Stream, done, then_stream}
-use Rattle.fq_plan.specs.Working.{worked_stream}
+use Rattle.fq_column.specs.Stream.{Stream, done, faulted, then_stream}
+use Rattle.fq_expr.specs.declared.fronts.Piece.{Piece}
+use Rattle.fq_plan.specs.Sources.{scan_fault}
+use Rattle.fq_plan.specs.Working.{piece_stream}
 use Rattle.fq_plan.specs.declared.faults.Fault.{Fault}
 use Rattle.fq_plan.specs.declared.gathering.Gathered.{Gathered}
 use Rattle.fq_plan.specs.declared.workers.Worked.{Worked}
@@ -16,10 +18,15 @@ gathered_stream g = record { rows = g.batch.rows; fault = g.fault }
 abbrev pub with_stream : Gathered → Stream Fault → Gathered
 with_stream g u = record { files = g.files; batch = record { fields = g.batch.fields; rows = u.rows }; fault = u.fault }
 
--- what a worked item adds to a source with these columns; a batch of others is dropped
+-- what a piece adds to a source with these columns; one of others is dropped
+abbrev pub added_piece : Fields → Piece → Stream Fault
+added_piece fields p = if same_fields p.batch.fields fields then piece_stream p else done []
+
+-- what a worked item adds
 abbrev pub added_stream : Fields → Worked → Stream Fault
-added_stream fields (worked.Ended fault) = worked_stream (worked.Ended fault)
-added_stream fields (worked.Piece p) = if same_fields p.batch.fields fields then worked_stream (worked.Piece p) else done []
+added_stream fields (worked.Piece p) = added_piece fields p
+added_stream fields (worked.Cut p fault) = then_stream (added_piece fields p) (faulted (scan_fault fault))
+added_stream fields (worked.Ended fault) = faulted (scan_fault fault)
 
 -- a source after one of its worked items
 abbrev pub gathered : Gathered → Worked → Gathered

@@ -1,8 +1,8 @@
--- What a run's last stage makes of the items that it has taken: each file's batches, with its fault as one item more, of which
--- those of the main source have gone through the leading row-wise steps.
-use Rattle.std.specs.Prelude.{ℕ, ◌+◌, ◌&&◌, nat_le, nat_lt, List, [], ◌∷◌, ◌++◌, map, filter, flat_map, length, zip, Option, Some, None, Result, Err, if◌then◌else◌}
+-- What a run's last stage makes of the items that it has taken: each file's rows in pieces, which for the main source have gone
+-- through the leading row-wise steps.
+use Rattle.std.specs.Prelude.{ℕ, ◌+◌, ◌&&◌, nat_le, nat_lt, List, [], ◌∷◌, ◌++◌, map, filter, length, Option, Some, None, Result, Err, if◌then◌else◌}
 use Rattle.fq_column.specs.Frame.{Frame}
-use Rattle.fq_column.specs.Lists.{numbers, pieces}
+use Rattle.fq_column.specs.Lists.{pieces}
 use Rattle.fq_column.specs.Stream.{Stream, done, faulted}
 use Rattle.fq_expr.specs.Steps.{apply_steps, fields_after_all}
 use Rattle.fq_plan.specs.Meaning.{frames_of, outcome}
@@ -11,18 +11,18 @@ use Rattle.fq_plan.specs.Sources.{concat_streams, first_fault}
 use Rattle.fq_plan.specs.declared.faults.Fault.{Fault}
 use Rattle.fq_plan.specs.declared.faults.Fault.TheVariants.{Overflow}
 
--- a file's fault as one item more after its batches
-abbrev pub last_item : {F : Type 0} → Option F → List (Stream F)
-last_item None = []
-last_item (Some f) = faulted f ∷ []
+-- the leading row-wise steps on a stream
+abbrev pub after_leading : Query → Stream Fault → Stream Fault
+after_leading p u = apply_steps Overflow 0 (main_fields p) (front_of p.steps) u
 
--- a file's items: its rows in batches, then its fault if it has one
-abbrev pub items_of : {F : Type 0} → ℕ → Stream F → List (Stream F)
-items_of batch_size u = map done (pieces batch_size u.rows) ++ last_item u.fault
+-- a file's stream, or a piece of it, as the workers give it: after the leading steps where it is of the main source
+abbrev pub worked : Query → ℕ → Stream Fault → Stream Fault
+worked p file u = if nat_lt file (join_files p) then u else after_leading p u
 
--- the items of the main source's files after the leading row-wise steps on each
-abbrev pub worked : Query → ℕ → List (Stream Fault) → List (Stream Fault)
-worked p batch_size us = map (apply_steps Overflow 0 (main_fields p) (front_of p.steps)) (flat_map (items_of batch_size) us)
+-- so the streams of files, which are numbered from this one on
+abbrev pub worked_files : Query → ℕ → List (Stream Fault) → List (Stream Fault)
+worked_files p file [] = []
+worked_files p file (u ∷ us) = worked p file u ∷ worked_files p (file + 1) us
 
 -- what the other steps make of the worked items joined, where no source before the last ends in a fault
 abbrev pub finished : Query → List (Stream Fault) → List (Stream Fault) → Result Frame Fault
@@ -35,13 +35,28 @@ finished p joins items = elim (first_fault joins) [
 abbrev pub Taken : Type 0
 Taken = ℕ × Stream Fault
 
--- the items of a file as the workers give them
-abbrev pub worked_items : Query → ℕ → ℕ → Stream Fault → List (Stream Fault)
-worked_items p batch_size file u = if nat_lt file (join_files p) then items_of batch_size u else worked p batch_size (u ∷ [])
+-- the items of files, which are numbered from this one on
+abbrev pub tagged : ℕ → List (List (Stream Fault)) → List Taken
+tagged file [] = []
+tagged file (us ∷ more) = map (λ u. (file, u)) us ++ tagged (file + 1) more
+
+-- a file's fault as one item more after its batches
+abbrev pub last_item : {F : Type 0} → Option F → List (Stream F)
+last_item None = []
+last_item (Some f) = faulted f ∷ []
+
+-- a file's rows in batches, and then its fault if it has one
+abbrev pub items_of : {F : Type 0} → ℕ → Stream F → List (Stream F)
+items_of batch_size u = map done (pieces batch_size u.rows) ++ last_item u.fault
+
+-- so the items of files, which are numbered from this one on, as the workers give them
+abbrev pub worked_items : Query → ℕ → ℕ → List (Stream Fault) → List (List (Stream Fault))
+worked_items p batch_size file [] = []
+worked_items p batch_size file (u ∷ us) = map (worked p file) (items_of batch_size u) ∷ worked_items p batch_size (file + 1) us
 
 -- the items of all files, by file, then in each file's order
 abbrev pub all_items : Query → ℕ → List (Stream Fault) → List Taken
-all_items p batch_size us = flat_map (λ f. map (λ u. (f.0, u)) (worked_items p batch_size f.0 f.1)) (zip (numbers (length us)) us)
+all_items p batch_size us = tagged 0 (worked_items p batch_size 0 us)
 
 -- the items of the n files from this one on
 abbrev pub items_from : ℕ → ℕ → List Taken → List (Stream Fault)

@@ -7,6 +7,7 @@ ghost use Rattle.fq_plan.specs.Gathering.{gathered, taken_in};
 use crate::faults::Fault;
 use crate::workers::Worked;
 use fq_column::{Batch, Column, Memory, Schema};
+use fq_csv::ScanFault;
 use fq_expr::Piece;
 use std::alloc::Global;
 
@@ -40,11 +41,25 @@ impl Gathered {
             return Ok(());
         }
         match out {
-            Worked::Ended(fault) => {
-                self.fault = Some(fault.into());
+            Worked::Piece(piece) => self.append(piece),
+            Worked::Cut(piece, fault) => {
+                self.append(piece)?;
+                self.end(fault);
                 Ok(())
             }
-            Worked::Piece(piece) => self.append(piece),
+            Worked::Ended(fault) => {
+                self.end(fault);
+                Ok(())
+            }
+        }
+    }
+
+    // Ends the rows, where no fault has ended them.
+    fn end(&mut self, fault: ScanFault)
+        ensures { self.new ≡ gathered self.old (Worked.Ended fault) }
+    {
+        if self.fault.is_none() {
+            self.fault = Some(fault.into());
         }
     }
 

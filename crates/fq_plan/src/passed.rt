@@ -6,6 +6,7 @@ ghost use Rattle.fq_plan.specs.Running.{IsUnder, passed_stream};
 use crate::faults::Fault;
 use crate::workers::Worked;
 use fq_column::{Batch, Schema};
+use fq_expr::Piece;
 
 /// Rows, where there are any, and the fault that ends them.
 #[derive(Drop)]
@@ -21,23 +22,35 @@ impl Passed {
         ensures stream { passed_stream result ≡ added_stream schema.now out }
     {
         match out {
+            Worked::Piece(piece) => Passed::from_piece(piece, schema),
+            Worked::Cut(piece, fault) => {
+                let Passed { batch, fault: before } = Passed::from_piece(piece, schema);
+                Passed {
+                    batch,
+                    fault: Some(before.unwrap_or(fault.into())),
+                }
+            }
             Worked::Ended(fault) => Passed {
                 batch: None,
                 fault: Some(fault.into()),
             },
-            Worked::Piece(piece) => {
-                if piece.batch.schema() == schema {
-                    Passed {
-                        batch: Some(piece.batch),
-                        fault: piece.fault.map(Fault::from),
-                    }
-                } else {
-                    Passed {
-                        batch: None,
-                        fault: None,
-                    }
-                }
-            }
+        }
+    }
+
+    // What a piece adds to rows of a schema; a batch of other columns is dropped.
+    fn from_piece(piece: Piece, schema: &Schema) -> Passed
+        ensures columns { IsUnder schema.now result.batch }
+        ensures stream { passed_stream result ≡ added_stream schema.now (Worked.Piece piece) }
+    {
+        if piece.batch.schema() != schema {
+            return Passed {
+                batch: None,
+                fault: None,
+            };
+        }
+        Passed {
+            batch: Some(piece.batch),
+            fault: piece.fault.map(Fault::from),
         }
     }
 }

@@ -32,9 +32,10 @@ impl Checked {
     /// Writes the frame that the plan means over the files, or answers the fault that it means.
     ///
     /// `inputs` are the files' readers, in argument order: those of the first source, then those of the next, and so on.
-    /// A thread for each reads its rows in batches of `batch_size` rows, from 1 to 65,536, and as many threads as
-    /// `workers`, from 1 to 16, do the leading row-wise steps. What is written does not depend on either, nor on the order in
-    /// which the threads take their steps. The report lists the file and serial of each batch, by file, then serial.
+    /// A thread for each cuts its records into runs of `batch_size`, from 1 to 65,536, and as many threads as `workers`, from
+    /// 1 to 16, make a batch of each run and do the leading row-wise steps. What is written does not depend on either, nor on
+    /// the order in which the threads take their steps. The report lists the file and serial of each batch, by file, then
+    /// serial.
     ///
     /// The first of these faults is answered: `Inputs` for another number of readers than `Checked::inputs`, and
     /// `Setting` for a batch size or a number of workers out of range, both before any reading; `Memory` where a growth

@@ -7,4 +7,4 @@ same true e = refl
 same false e = sym e
 
 pub apply-requires : goal.apply-requires
-apply-requires c = sym c.schema.ensures ∙ (same_fields_decides c.schema.result.now c.schema-2.result.now).0 (same _ (sym c.ne.ensures ∙ c.if-ne.false)) ∙ c.schema-2.ensures
+apply-requires c = sym c.schema.ensures ∙ (same_fields_decides c.schema.result.now c.schema-else-file-self.result.now).0 (same _ (sym c.ne.ensures ∙ c.if-ne.false)) ∙ c.schema-else-file-self.ensures

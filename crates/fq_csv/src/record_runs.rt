@@ -1,0 +1,105 @@
+// Runs of records, and the batches that they are.
+ghost use Rattle.std.specs.Prelude.{◌≡◌, ◌≤◌, ◌<◌, ◌+◌, ◌*◌, length, option_map, IfOk, IfSome};
+ghost use Rattle.csv.specs.Records.{fields_of};
+ghost use Rattle.fq_column.specs.Frame.{kinds_of};
+ghost use Rattle.fq_csv.specs.Records.{IsOfText};
+ghost use Rattle.fq_csv.specs.Taking.{HoldsRows, ReadsRun, bad_cell, records_in};
+
+use crate::batches::empty_columns;
+use crate::cells::push_rows;
+use crate::faults::ScanFault;
+use csv::ByteRecord;
+use fq_column::{Batch, Column, Memory, Schema};
+use std::alloc::Global;
+use std::marker::Model;
+
+/// Records of a file, one after the other, each with as many fields as the file has columns.
+///
+/// None of the fields was read as a cell yet, so a run may be handed to another thread, which makes a batch of it.
+#[derive(Drop)]
+pub struct RecordRun {
+    pub(crate) file: u16,
+    pub(crate) schema: Schema,
+    pub(crate) before: u32,
+    pub(crate) count: u32,
+    pub(crate) fields: ByteRecord,
+}
+
+impl Model for RecordRun {
+    ghost use Rattle.std.specs.Prelude.{◌≡◌, ◌≤◌, ◌*◌, ◌+◌, length};
+    ghost use Rattle.csv.specs.Records.{fields_of};
+    ghost use Rattle.fq_csv.specs.Taking.{FieldRun, records_in};
+
+    ghost Value = { FieldRun };
+
+    ghost view = { λ a. record {
+      file = a.file;
+      fields = a.schema;
+      before = a.before;
+      records = records_in a.count (length a.schema) (fields_of a.fields);
+    } };
+
+    ghost invariant = { λ a. (length (fields_of a.fields) ≡ a.count * length a.schema) × (a.before + a.count ≤ 2147483647) };
+}
+
+impl RecordRun {
+    /// How many records the run has.
+    pub fn len(&self) -> u32
+        ensures { result ≡ length self.now.records }
+    {
+        self.count
+    }
+
+    /// The rows that the records are, in a batch, and the fault that ends them: `BadCell` at the first record with a field
+    /// that is no cell of its column.
+    ///
+    /// Takes the memory of the batch's columns and of texts over 16 bytes. `Memory` where a growth is refused.
+    pub fn into_batch(self, alloc: Global) -> Result<(Batch, Option<ScanFault>), Memory>
+        ensures { IfOk result (λ r. ReadsRun self r.0 r.1) }
+    {
+        let RecordRun {
+            file,
+            schema,
+            before,
+            count,
+            fields,
+        } = self;
+        let (columns, bad) = columns_of(alloc, &schema, &fields, count)?;
+        let batch = match Batch::from_columns(schema, columns) {
+            Ok(batch) => batch,
+            Err(_) => unreachable!(),
+        };
+        Ok((batch, fault_of(file, before, bad)))
+    }
+}
+
+// The columns of the rows that `count` records are, up to the first with a field that is no cell, and its place.
+fn columns_of(
+    alloc: Global,
+    schema: &Schema,
+    fields: &ByteRecord,
+    count: u32,
+) -> Result<(Vec<Column>, Option<(u32, u16)>), Memory>
+    requires { length (fields_of fields.now) ≡ count * length schema.now }
+    ensures rows { IfOk result (λ r. HoldsRows (kinds_of schema.now) (records_in count (length schema.now) (fields_of fields.now)) r.0.items r.1) }
+    ensures some { IfOk result (λ r. 0 < length r.0.items) }
+{
+    let mut columns = empty_columns(alloc, schema, count as usize)?;
+    let bad = push_rows(columns.as_mut_slice(), fields, count)?;
+    Ok((columns, bad))
+}
+
+// The fault of a field that is no cell, by its place in a run after some rows.
+fn fault_of(file: u16, before: u32, bad: Option<(u32, u16)>) -> Option<ScanFault>
+    requires { IfSome bad (λ place. before + place.0 + 1 ≤ 2147483647) }
+    ensures fault { result ≡ option_map (bad_cell file before) bad }
+    ensures cause { IsOfText result }
+{
+    match bad {
+        None => None,
+        Some((row, column)) => {
+            let row = before + row + 1;
+            Some(ScanFault::BadCell { file, row, column })
+        }
+    }
+}

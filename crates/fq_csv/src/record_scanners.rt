@@ -1,0 +1,140 @@
+// Scanners of records: the records of a file, handed out in runs.
+ghost use Rattle.std.specs.Prelude.{◌≡◌, ◌≤◌, Option, Some, None, false, IfOk, option_map};
+ghost use Rattle.fq_csv.specs.RecordScan.{HandsOutRun, HasRunForm, last_run};
+ghost use Rattle.fq_csv.specs.Taking.{RecordStream, record_stream};
+ghost use Rattle.fq_csv.specs.declared.faults.ScanFault.{ScanFault};
+
+use crate::faults::ScanFault;
+use crate::record_runs::RecordRun;
+use crate::record_steps::next_records;
+use crate::records::Records;
+use crate::scanners::{MAX_BATCH_SIZE, MAX_ROWS};
+use crate::spans::Span;
+use crate::stages::Stage;
+use fq_column::{Memory, Schema};
+use std::alloc::Global;
+use std::io::Read;
+use std::marker::Model;
+
+/// A scan of a file that hands out its records in runs, and reads no field as a cell.
+///
+/// It judges what needs no cell: the header, how many fields a record has, and how many rows there are.
+/// [`RecordRun::into_batch`] judges the rest, in whatever thread.
+#[derive(Drop)]
+pub struct RecordScanner<R: Read> {
+    alloc: Global,
+    records: Records<R>,
+    schema: Schema,
+    span: Span,
+    stage: Stage,
+}
+
+impl<R: Read> Model for RecordScanner<R> {
+    ghost use Rattle.std.specs.Prelude.{◌≡◌, ◌-◌};
+    ghost use Rattle.fq_csv.specs.RecordScan.{RecordScanning, records_left_at};
+    ghost use Rattle.fq_csv.specs.Stage.{ending_of};
+    ghost use Rattle.fq_csv.specs.declared.stages.Stage.TheVariants.{Header};
+
+    ghost Value = { RecordScanning };
+
+    ghost view = { λ a. record {
+      file = a.records.file;
+      fields = a.schema;
+      run_size = a.span.size;
+      taken = a.span.from;
+      room = a.span.limit - a.span.from;
+      upcoming = records_left_at a.schema a.span.limit a.stage a.records a.span.from;
+      ending = ending_of a.stage;
+      stopped = a.records.stopped;
+    } };
+
+    ghost invariant = { λ a. a.stage ≡ Header → a.span.from ≡ 0 };
+}
+
+impl<R: Read> RecordScanner<R> {
+    /// A scan of the file number `file`, whose bytes a reader gives, in runs of `run_size` records, from 1 to
+    /// [`MAX_BATCH_SIZE`].
+    ///
+    /// The first record must be the schema's names. More rows than `limit`, at most [`MAX_ROWS`], are a fault. The reader's
+    /// bytes are buffered here, and nothing is read yet. `Memory` where a growth is refused.
+    pub fn new(
+        alloc: Global,
+        reader: R,
+        file: u16,
+        schema: Schema,
+        run_size: u32,
+        limit: u32,
+    ) -> Result<RecordScanner<R>, Memory>
+    where
+        R: Drop,
+        requires some { 1 ≤ run_size }
+        requires not_too_many { run_size ≤ MAX_BATCH_SIZE }
+        requires limit { limit ≤ MAX_ROWS }
+        ensures scanner { IfOk result (λ s. s ≡ record {
+          file = file;
+          fields = schema;
+          run_size = run_size;
+          taken = 0;
+          room = limit;
+          upcoming = option_map (record_stream file schema limit) (R.remaining reader);
+          ending = None;
+          stopped = false;
+        }) }
+    {
+        let records = Records::new(alloc, reader, file, schema.len())?;
+        Ok(RecordScanner {
+            alloc,
+            records,
+            schema,
+            span: Span {
+                from: 0,
+                limit,
+                size: run_size,
+            },
+            stage: Stage::Header,
+        })
+    }
+
+    /// The file's number.
+    pub fn file(&self) -> u16
+        ensures { result ≡ self.now.file }
+    {
+        self.records.file()
+    }
+
+    /// The schema of the file.
+    pub fn schema(&self) -> &Schema
+        ensures { result.now ≡ self.now.fields }
+    {
+        &self.schema
+    }
+
+    /// The next records of the file; none at its end.
+    ///
+    /// Each run but the last has `run_size` records, and none is empty. Before `Header`, `Width` and `TooLong` the records
+    /// before that place are handed out; at `Read`, where the reader failed, and `Memory`, where a growth was refused, those
+    /// that were read since the last run are dropped. Once the end was answered, each further call answers that same end.
+    /// Memory is taken for a run, none for a record or a field.
+    pub fn next_run(&mut self) -> Result<Option<RecordRun>, ScanFault>
+        ensures form { HasRunForm self.old result self.new }
+        ensures stream { (u : RecordStream) → self.old.upcoming ≡ Some u → HandsOutRun self.old.file self.old.run_size u result self.new.upcoming }
+        ensures ended { (fault : Option ScanFault) → self.old.ending ≡ Some fault → (result ≡ last_run fault) × (self.new ≡ self.old) }
+    {
+        let step = next_records(
+            self.alloc,
+            &mut self.records,
+            &self.schema,
+            self.span,
+            self.stage,
+        );
+        self.stage = step.stage;
+        if let Some(run) = step.run {
+            self.span.from += run.len();
+            return Ok(Some(run));
+        }
+        match step.stage.fault() {
+            None => Ok(None),
+            Some(fault) => Err(fault),
+        }
+    }
+}

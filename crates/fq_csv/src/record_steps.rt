@@ -1,0 +1,113 @@
+// The next records of a file as a run.
+ghost use Rattle.std.specs.Prelude.{◌≡◌, ◌≤◌, [], Option, Some, IfOk, IfErr, IsNone};
+ghost use Rattle.csv.specs.Records.{fields_of, partial_of};
+ghost use Rattle.fq_csv.specs.RecordScan.{IsRunStep};
+ghost use Rattle.fq_csv.specs.Records.{StopsBy};
+ghost use Rattle.fq_csv.specs.Stage.{ending_of};
+ghost use Rattle.fq_csv.specs.declared.faults.ScanFault.{ScanFault};
+
+use crate::batches::room_for;
+use crate::faults::ScanFault;
+use crate::headers::read_header;
+use crate::record_runs::RecordRun;
+use crate::records::Records;
+use crate::spans::Span;
+use crate::stages::Stage;
+use crate::taking::take_records;
+use csv::ByteRecord;
+use fq_column::{Memory, Schema};
+use std::alloc::Global;
+use std::io::Read;
+
+// Room for the bytes of a usual field.
+const FIELD_BYTES: usize = 8;
+
+/// A run, where there are records, and how the file goes on.
+#[derive(Drop)]
+pub(crate) struct RunStep {
+    pub(crate) run: Option<RecordRun>,
+    pub(crate) stage: Stage,
+}
+
+/// Reads the header where that wasn't done, and then the next records.
+pub(crate) fn next_records<R: Read>(
+    alloc: Global,
+    records: &mut Records<R>,
+    schema: &Schema,
+    span: Span,
+    stage: Stage,
+) -> RunStep
+    requires { stage ≡ Stage.Header → span.from ≡ 0 }
+    ensures file { records.new.file ≡ records.old.file }
+    ensures step { IsRunStep span schema.now records.old records.new stage result.stage result.run }
+    ensures over { (fault : Option ScanFault) → ending_of stage ≡ Some fault → (result.stage ≡ stage) × IsNone result.run × (records.new ≡ records.old) }
+{
+    let stage = match stage {
+        Stage::Header => read_header(records, schema),
+        stage => stage,
+    };
+    match stage {
+        Stage::Rows => read_run(alloc, records, schema, span),
+        stage => RunStep { run: None, stage },
+    }
+}
+
+// Reads the next records.
+fn read_run<R: Read>(
+    alloc: Global,
+    records: &mut Records<R>,
+    schema: &Schema,
+    span: Span,
+) -> RunStep
+    ensures file { records.new.file ≡ records.old.file }
+    ensures step { IsRunStep span schema.now records.old records.new Stage.Rows result.stage result.run }
+{
+    match try_read_run(alloc, records, schema, span) {
+        Ok(step) => step,
+        Err(fault) => RunStep {
+            run: None,
+            stage: Stage::Failed(fault),
+        },
+    }
+}
+
+// Reads the next records, or answers that the reader failed or memory was refused.
+fn try_read_run<R: Read>(
+    alloc: Global,
+    records: &mut Records<R>,
+    schema: &Schema,
+    span: Span,
+) -> Result<RunStep, ScanFault>
+    ensures file { records.new.file ≡ records.old.file }
+    ensures failed { IfErr result (StopsBy records.old.file records.new.stopped) }
+    ensures step { IfOk result (λ step. IsRunStep span schema.now records.old records.new Stage.Rows step.stage step.run) }
+{
+    let mut fields = empty_fields(alloc, room_for(span), schema.len())?;
+    let taken = take_records(records, &mut fields, schema.len(), span)?;
+    let stage = taken.stage;
+    let count = taken.count;
+    if count == 0 {
+        return Ok(RunStep { run: None, stage });
+    }
+    let run = RecordRun {
+        file: records.file(),
+        schema: schema.copy(alloc)?,
+        before: span.from,
+        count,
+        fields,
+    };
+    Ok(RunStep {
+        run: Some(run),
+        stage,
+    })
+}
+
+// No field, and room for those of so many records.
+fn empty_fields(alloc: Global, records: usize, width: usize) -> Result<ByteRecord, Memory>
+    requires few { records ≤ 2147483647 }
+    requires narrow { width ≤ 64 }
+    ensures { IfOk result (λ fields. (fields_of fields ≡ []) × (partial_of fields ≡ [])) }
+{
+    let count = records * width;
+    Ok(ByteRecord::with_capacity(alloc, count * FIELD_BYTES, count)?)
+}
