@@ -118,8 +118,10 @@ module _ (run : FieldRun) (limit size : ℕ) (u : RecordStream) (next : run.reco
       → (length batch.rows ≡ size) ⊎ ((length batch.rows ≤ size) × ((rows_of_records run.file run.fields limit (run.before + length run.records) (without_records size u)).rows ≡ []))
   short batch many = elim (le-or-lt size (length u.records)) [
     | inl l ↦ inl (omega (arith, many, ap length next, length-take-le size u.records l))
-    | inr l ↦ inr (omega (arith, many, ap length next, length-take size u.records, l),
-      ap (λ rs. (rows_of_records run.file run.fields limit (run.before + length run.records) (let v : RecordStream = record { records = rs; fault = u.fault } in v)).rows) (drop_all size u.records (omega (arith, l))))
+    | inr l ↦ inr (
+      omega (arith, many, ap length next, length-take size u.records, l),
+      ap (λ rs. (rows_of_records run.file run.fields limit (run.before + length run.records) (let v : RecordStream = record { records = rs; fault = u.fault } in v)).rows) (drop_all size u.records (omega (arith, l))),
+    )
   ]
 
   pub next-rows : (batch : Frame) (fault : Option ScanFault) → ReadsRun run batch fault
@@ -212,7 +214,7 @@ no-row-read run batch end fault e r none = record {
 pub scanner-of-records : (file size limit : ℕ) (fields : Fields) (bytes : Option (List ℕ)) (r : RecordScanning)
     → r ≡ record { file = file; fields = fields; run_size = size; taken = 0; room = limit; upcoming = option_map (record_stream file fields limit) bytes; ending = None; stopped = false }
     → ◌≡◌ {A = Scanning} (record { file = r.file; fields = r.fields; batch_size = r.run_size; serial = 0; room = r.taken + r.room - 0; upcoming = batches_left None r; ending = rows_ending None r.ending; stopped = r.stopped })
-      (record { file = file; fields = fields; batch_size = size; serial = 0; room = limit; upcoming = option_map (file_stream file fields limit) bytes; ending = None; stopped = false })
+    (record { file = file; fields = fields; batch_size = size; serial = 0; room = limit; upcoming = option_map (file_stream file fields limit) bytes; ending = None; stopped = false })
 scanner-of-records file size limit fields bytes r e =
     ap (λ (x : RecordScanning). let s : Scanning = record { file = x.file; fields = x.fields; batch_size = x.run_size; serial = 0; room = x.taken + x.room - 0; upcoming = batches_left None x; ending = rows_ending None x.ending; stopped = x.stopped } in s) e
     ∙ (λ i. let s : Scanning = record { file = file; fields = fields; batch_size = size; serial = 0; room = same i; upcoming = left bytes i; ending = None; stopped = false } in s)

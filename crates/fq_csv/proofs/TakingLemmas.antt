@@ -99,7 +99,7 @@ module _ (span : Span) (width : ℕ) (old : Unread) where
         let next : at + 1 ≡ span.from + (count + 1) = omega arith in
         let up : suc count ≡ count + 1 = omega arith in
         let grown : records_in count width fs ++ new.current ∷ [] ≡ records_in (count + 1) width fs2 =
-            sym (records_in-more count width fs new.current h.whole w) ∙ ap (records_in (suc count) width) (sym e) ∙ ap (λ n. records_in n width fs2) up in (
+        sym (records_in-more count width fs new.current h.whole w) ∙ ap (records_in (suc count) width) (sym e) ∙ ap (λ n. records_in n width fs2) up in (
           t.0,
           t.2,
           r.2

@@ -43,7 +43,11 @@ pub(crate) fn room_for(span: Span) -> usize
 }
 
 /// A column of each kind of the schema, with no cell and room for some.
-pub(crate) fn empty_columns(alloc: Global, schema: &Schema, room: usize) -> Result<Vec<Column>, Memory>
+pub(crate) fn empty_columns(
+    alloc: Global,
+    schema: &Schema,
+    room: usize,
+) -> Result<Vec<Column>, Memory>
     ensures some { IfOk result (λ columns. 0 < length columns.items) }
     ensures few { IfOk result (λ columns. length columns.items ≤ 64) }
     ensures empty { IfOk result (λ columns. Holds (kinds_of schema.now) columns.items []) }

@@ -35,11 +35,7 @@ pub(crate) fn push_rows(
 /// Adds the cells that a record's fields are to columns of as many cells as records went before, one to each.
 ///
 /// At a field that is no cell the columns are as before, and its place is the answer.
-fn push_row(
-    columns: &mut [Column],
-    fields: &ByteRecord,
-    row: u32,
-) -> Result<Option<usize>, Memory>
+fn push_row(columns: &mut [Column], fields: &ByteRecord, row: u32) -> Result<Option<usize>, Memory>
     requires few { length columns.old ≤ 64 }
     requires there { row * length columns.old + length columns.old ≤ length (fields_of fields.now) }
     requires height { All (λ (c : Cells). length c.cells ≡ row) columns.old }

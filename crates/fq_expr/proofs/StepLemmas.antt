@@ -1,7 +1,7 @@
 -- Row-wise steps on streams in a row.
-use Rattle.std.proofs.Common.{◌≡◌, ℕ, ◌+◌, List, [], ◌∷◌, ◌++◌, Option, Some, None, Result, Ok, Err, refl, ap, sym, ◌∙◌, append_assoc}
+use Rattle.std.proofs.Common.{◌≡◌, ℕ, ◌+◌, List, [], ◌∷◌, Option, Some, None, Result, refl, ap, sym, ◌∙◌}
 use Rattle.fq_column.specs.Frame.{Fields, Row}
-use Rattle.fq_column.specs.Stream.{Stream, then_stream, done, faulted, one_by_one, ended_as, rename_fault, step_on}
+use Rattle.fq_column.specs.Stream.{Stream, then_stream, one_by_one, ended_as, rename_fault, step_on}
 use Rattle.fq_column.proofs.StreamLemmas.{one_by_one-append, stream, then_stream-assoc}
 use Rattle.fq_expr.specs.Steps.{apply_step, apply_steps, fields_after}
 use Rattle.fq_expr.specs.Expression.{Step}

@@ -24,7 +24,10 @@ impl Passed {
         match out {
             Worked::Piece(piece) => Passed::from_piece(piece, schema),
             Worked::Cut(piece, fault) => {
-                let Passed { batch, fault: before } = Passed::from_piece(piece, schema);
+                let Passed {
+                    batch,
+                    fault: before,
+                } = Passed::from_piece(piece, schema);
                 Passed {
                     batch,
                     fault: Some(before.unwrap_or(fault.into())),
