@@ -1,9 +1,8 @@
 -- Records whose fields stand one after the other, and the rows that they are.
-use Rattle.std.specs.Prelude.{IfSome, option_map}
+use Rattle.std.specs.Prelude.{IfSome, option_map, slice_get}
 use Rattle.std.proofs.Common.{◌≡◌, ◌<◌, ◌≤◌, ◌+◌, ◌-◌, ◌*◌, ◌++◌, ◌∙◌, ℕ, zero, suc, List, [], ◌∷◌, Option, Some, None, Ok, Err, length, take, drop, refl, sym, ap, arith}
 use Rattle.std.proofs.lemmas.List.{drop-drop, length-append, length-drop, length-take-le}
 use Rattle.std.proofs.Math.Nat.{mul-le-mul_left}
-use Rattle.csv.specs.Records.{field_at}
 use Rattle.fq_column.specs.declared.cells.Kind.{Kind}
 use Rattle.fq_column.specs.Column.{Cells}
 use Rattle.fq_column.specs.Batch.{frame_of}
@@ -22,20 +21,18 @@ use Rattle.fq_csv.proofs.TakingLemmas.{length-records_in}
 
 -- ---- a field of a record
 
-field-after : (n : ℕ) (fs : Record) (i : ℕ) → field_at (drop n fs) i ≡ field_at fs (n + i)
-unfolding field_at
-field-after zero fs i = ap (field_at fs) (let e : i ≡ 0 + i = omega arith in e)
+field-after : (n : ℕ) (fs : Record) (i : ℕ) → slice_get (drop n fs) i ≡ slice_get fs (n + i)
+field-after zero fs i = ap (slice_get fs) (let e : i ≡ 0 + i = omega arith in e)
 field-after (suc n) [] i = refl
-field-after (suc n) (f ∷ fs) i = field-after n fs i ∙ ap (field_at (f ∷ fs)) (let e : suc (n + i) ≡ suc n + i = omega arith in e)
+field-after (suc n) (f ∷ fs) i = field-after n fs i ∙ ap (slice_get (f ∷ fs)) (let e : suc (n + i) ≡ suc n + i = omega arith in e)
 
-field-first : (n : ℕ) (fs : Record) (i : ℕ) → i < n → field_at (take n fs) i ≡ field_at fs i
-unfolding field_at
+field-first : (n : ℕ) (fs : Record) (i : ℕ) → i < n → slice_get (take n fs) i ≡ slice_get fs i
 field-first zero fs i h = absurd (omega (arith, h))
 field-first (suc n) [] i h = refl
 field-first (suc n) (f ∷ fs) zero h = refl
 field-first (suc n) (f ∷ fs) (suc i) h = field-first n fs i (omega (arith, h))
 
-pub field-of-record : (n width : ℕ) (fs : Record) (i : ℕ) → i < width → field_at (record_at n width fs) i ≡ field_at fs (n * width + i)
+pub field-of-record : (n width : ℕ) (fs : Record) (i : ℕ) → i < width → slice_get (record_at n width fs) i ≡ slice_get fs (n * width + i)
 field-of-record n width fs i h = field-first width (drop (n * width) fs) i h ∙ field-after (n * width) fs i
 
 pub length-record : (n width : ℕ) (fs : Record) → n * width + width ≤ length fs → length (record_at n width fs) ≡ width

@@ -1,10 +1,9 @@
 -- The names of a schema, and the fields of a record.
 use Rattle.std.specs.Prelude.{slice_get, nat_eq}
-use Rattle.std.proofs.Common.{◌≡◌, ◌≢◌, ◌<◌, ℕ, zero, suc, List, [], ◌∷◌, Bool, true, false, Option, Some, None, length, refl, sym, arith, inl, inr}
+use Rattle.std.proofs.Common.{◌≡◌, ◌≢◌, ◌<◌, ℕ, zero, suc, List, [], ◌∷◌, Bool, true, false, Option, Some, length, refl, sym, arith, inl, inr}
 use Rattle.std.specs.Prelude.{◌&&◌, not}
 use Rattle.std.specs.Cmp.Lexicographic.{pointwise, bytes_decides}
 use Rattle.std.proofs.lemmas.Bool.{cases_Bool, false_from_ne_true}
-use Rattle.csv.specs.Records.{field_at}
 use Rattle.fq_column.specs.Frame.{Name, same_name}
 use Rattle.fq_csv.specs.File.{Record}
 
@@ -17,10 +16,9 @@ and-false false = refl
 
 -- the names below i are the fields below i
 abbrev pub SameBelow : List Name → Record → ℕ → Type 0
-SameBelow names fs i = (k : ℕ) → k < i → slice_get names k ≡ field_at fs k
+SameBelow names fs i = (k : ℕ) → k < i → slice_get names k ≡ slice_get fs k
 
 pub names-same : (names : List Name) (fs : Record) → length fs ≡ length names → SameBelow names fs (length names) → true ≡ same_names names fs
-unfolding field_at
 names-same [] [] e h = refl
 names-same [] (f ∷ fs) e h = absurd (omega (arith, e))
 names-same (x ∷ xs) [] e h = absurd (omega (arith, e))
@@ -30,21 +28,13 @@ names-same (x ∷ xs) (f ∷ fs) e h =
     let more = names-same xs fs (omega (arith, e)) (λ k l. h (suc k) (omega (arith, l))) in
     rw (sym more, (bytes_decides x f).1 here) refl
 
-pub names-other : (names : List Name) (fs : Record) (i : ℕ) (x f : List ℕ) → slice_get names i ≡ Some x → Some f ≡ field_at fs i → f ≢ x → false ≡ same_names names fs
-unfolding field_at
+pub names-other : (names : List Name) (fs : Record) (i : ℕ) (x f : List ℕ) → slice_get names i ≡ Some x → Some f ≡ slice_get fs i → f ≢ x → false ≡ same_names names fs
 names-other [] fs i x f h e n = cc h
 names-other (y ∷ ys) [] i x f h e n = cc e
 names-other (y ∷ ys) (g ∷ gs) zero x f h e n =
     let b : same_name y g ≡ false = false_from_ne_true _ (λ t. n (cc ((bytes_decides y g).0 t, h, e))) in
     rw b refl
 names-other (y ∷ ys) (g ∷ gs) (suc i) x f h e n = rw (sym (names-other ys gs i x f h e n)) (sym (and-false (same_name y g)))
-
-pub names-missing : (names : List Name) (fs : Record) (i : ℕ) (x : List ℕ) → slice_get names i ≡ Some x → None ≡ field_at fs i → false ≡ same_names names fs
-unfolding field_at
-names-missing [] fs i x h e = cc h
-names-missing (y ∷ ys) [] i x h e = refl
-names-missing (y ∷ ys) (g ∷ gs) zero x h e = cc e
-names-missing (y ∷ ys) (g ∷ gs) (suc i) x h e = rw (sym (names-missing ys gs i x h e)) (sym (and-false (same_name y g)))
 
 pub bytes-differ : (x y : List ℕ) → true ≡ not (pointwise nat_eq x y) → x ≢ y
 bytes-differ x y t e = let h = (bytes_decides x y).1 e in cc (rw h at t)

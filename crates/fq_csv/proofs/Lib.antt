@@ -1,5 +1,7 @@
 mod DigitLemmas
 pub mod FieldLemmas
+pub mod BufferLemmas
+pub mod CutLemmas
 pub mod RecordLemmas
 pub mod RowLemmas
 pub mod StreamLemmas

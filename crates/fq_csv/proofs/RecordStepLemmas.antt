@@ -63,3 +63,10 @@ module _ (span : Span) (fields : Fields) (old new : Unread) (after : Stage) (cou
       go stage.Rows n g = absurd (omega (arith, n, none, span.some))
       go (stage.Closed fault) n g = (λ e. n.1, λ u e. let m = mapped (records_after old.file (length fields) span.limit span.from) old.upcoming u e in m.2 ∙ g m.0 m.1)
       go (stage.Failed fault) n g = absurd n
+
+-- the fields taken before are forgotten, and those taken were handed out
+pub forgets : (span : Span) (width : ℕ) (old start new last : Unread) (after : Stage) (count : ℕ) (fs : Record) → start ≡ record old { taken = [] } → last ≡ record new { taken = [] }
+    → ReadsRecords span width start new after count fs → ReadsRecords span width old last after count fs
+forgets span width old start new last after count fs e f r =
+    let q : ReadsRecords span width (record old { taken = [] }) new after count fs = subst (λ (u : Unread). ReadsRecords span width u new after count fs) e r in
+    subst (λ (u : Unread). ReadsRecords span width old u after count fs) (sym f) (record { whole = q.whole; in_limit = q.in_limit; ends = q.ends; goes_on = q.goes_on })

@@ -2,7 +2,6 @@
 use Rattle.std.specs.Prelude.{slice_get, All, replicate}
 use Rattle.std.proofs.Common.{◌≡◌, ◌<◌, ◌≤◌, ◌+◌, ◌++◌, ℕ, zero, suc, List, [], ◌∷◌, Option, Some, None, Ok, Err, length, map, take, drop, get_or, set, refl, sym, ap, arith, ◌∙◌}
 use Rattle.std.proofs.lemmas.List.{length-append, set-get_or, take_all}
-use Rattle.csv.specs.Records.{field_at}
 use Rattle.fq_column.specs.declared.cells.Kind.{Kind}
 use Rattle.fq_column.specs.declared.cells.Cell.{Cell}
 use Rattle.fq_column.specs.Column.{Cells}
@@ -39,9 +38,8 @@ columns-step (x ∷ xs) (suc i) [] cell d e h = absurd (omega (arith, e))
 columns-step (x ∷ xs) (suc i) (c ∷ cells) cell d e h = ap (λ ys. with_cell x c ∷ ys) (columns-step xs i cells cell d (omega (arith, e)) (omega (arith, h)))
 
 -- the cell, or none, that the next field is
-pub cell-at : (columns : List Cells) (fs : Record) (i : ℕ) (d : Cells) (f : List ℕ) → i < length columns → Some f ≡ field_at fs i
+pub cell-at : (columns : List Cells) (fs : Record) (i : ℕ) (d : Cells) (f : List ℕ) → i < length columns → Some f ≡ slice_get fs i
     → slice_get (zip_with cell_of (kinds_in columns) fs) i ≡ Some (cell_of (get_or columns i d).kind f)
-unfolding field_at
 cell-at [] fs i d f h e = absurd (omega (arith, h))
 cell-at (x ∷ xs) [] i d f h e = cc e
 cell-at (x ∷ xs) (g ∷ fs) zero d f h e = let s : f ≡ g = cc in rw s refl
@@ -69,12 +67,6 @@ missing-at (o ∷ os) (suc i) (c ∷ cells) e s =
     let first : o ≡ Some c = cc in
     let rest : map Some cells ≡ take i os = cc in
     rw (first, missing-at os i cells rest s) refl
-
-pub field-there : (fs : Record) (i : ℕ) → i < length fs → None ≡ field_at fs i → ⊥
-unfolding field_at
-field-there [] i l e = absurd (omega (arith, l))
-field-there (f ∷ fs) zero l e = cc e
-field-there (f ∷ fs) (suc i) l e = field-there fs i (omega (arith, l)) e
 
 -- the whole row
 pub row-done : (columns : List Cells) (fs : Record) (cells : List Cell) → length fs ≡ length columns → AreCells columns fs (length columns) cells → row_by_kinds (kinds_in columns) fs ≡ Ok cells
@@ -125,14 +117,14 @@ taken-back h (x ∷ xs) (suc i) (c ∷ cells) e a =
 abbrev pub Added : List Cells → Record → ℕ → List Cells → Type 0
 Added columns fs i now = (cells : List Cell) × AreCells columns fs i cells × (now ≡ columns_after columns i cells)
 
-option-at : (columns : List Cells) (fs : Record) (i : ℕ) (now : List Cells) (d : Cells) (f : List ℕ) → (a : Added columns fs i now) → i < length columns → Some f ≡ field_at fs i
+option-at : (columns : List Cells) (fs : Record) (i : ℕ) (now : List Cells) (d : Cells) (f : List ℕ) → (a : Added columns fs i now) → i < length columns → Some f ≡ slice_get fs i
     → slice_get (zip_with cell_of (kinds_in columns) fs) i ≡ Some (cell_of (get_or now i d).kind f)
 option-at columns fs i now d f a h e =
     let cells = a.0 in
     let same : get_or now i d ≡ get_or columns i d = ap (λ ys. get_or ys i d) a.2 ∙ column-at columns i cells d a.1.0 h in
     cell-at columns fs i d f h e ∙ ap (λ (y : Cells). Some (cell_of y.kind f)) (sym same)
 
-pub Added-more : (columns : List Cells) (fs : Record) (i : ℕ) (now : List Cells) (d new : Cells) (f : List ℕ) (cell : Cell) → Added columns fs i now → i < length columns → Some f ≡ field_at fs i
+pub Added-more : (columns : List Cells) (fs : Record) (i : ℕ) (now : List Cells) (d new : Cells) (f : List ℕ) (cell : Cell) → Added columns fs i now → i < length columns → Some f ≡ slice_get fs i
     → cell_of (get_or now i d).kind f ≡ Some cell → new ≡ with_cell (get_or now i d) cell → Added columns fs (i + 1) (set now i new)
 Added-more columns fs i now d new f cell a h e g n =
     let cells = a.0 in
@@ -145,7 +137,7 @@ Added-more columns fs i now d new f cell a h e g n =
     (cells ++ cell ∷ [], (count, more ∙ ap (λ n. take n (zip_with cell_of (kinds_in columns) fs)) up), set_is ∙ ap (λ n. columns_after columns n (cells ++ cell ∷ [])) up)
 
 -- a field that is no cell
-pub Added-bad : (height : ℕ) (columns : List Cells) (fs : Record) (i : ℕ) (now : List Cells) (d new : Cells) (f : List ℕ) → Added columns fs i now → i < length columns → Some f ≡ field_at fs i
+pub Added-bad : (height : ℕ) (columns : List Cells) (fs : Record) (i : ℕ) (now : List Cells) (d new : Cells) (f : List ℕ) → Added columns fs i now → i < length columns → Some f ≡ slice_get fs i
     → cell_of (get_or now i d).kind f ≡ None → new ≡ get_or now i d → All (λ (c : Cells). length c.cells ≡ height) columns
     → (row_by_kinds (kinds_in columns) fs ≡ Err i) × (map (first_cells height) (set now i new) ≡ columns)
 Added-bad height columns fs i now d new f a h e g n lengths = (

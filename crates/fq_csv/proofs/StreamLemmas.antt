@@ -1,5 +1,5 @@
 -- The stream of a file, record by record.
-use Rattle.std.proofs.Common.{◌≡◌, ◌≢◌, ◌<◌, ◌≤◌, ◌+◌, ◌++◌, ℕ, List, [], ◌∷◌, true, false, Option, Some, Ok, Err, length, refl, sym, ap, arith, ◌∙◌}
+use Rattle.std.proofs.Common.{◌≡◌, ◌≢◌, ◌<◌, ◌≤◌, ◌+◌, ◌++◌, ℕ, List, [], ◌∷◌, true, false, Option, Ok, Err, length, refl, sym, ap, arith, ◌∙◌}
 use Rattle.std.specs.Prelude.{◌==◌, zip, Result}
 use Rattle.std.specs.List.{range_with_len}
 use Rattle.std.proofs.lemmas.List.{append-nil, append_assoc, length-map}
@@ -12,7 +12,6 @@ use Rattle.fq_column.specs.Lists.{zip_with, all_or_missing}
 use Rattle.fq_column.specs.Stream.{Stream, done, faulted, one_by_one, then_stream}
 use Rattle.fq_csv.specs.Field.{cell_of}
 use Rattle.fq_csv.specs.File.{Record, row_of, rows_after}
-use Rattle.fq_csv.specs.Records.{Unread}
 use Rattle.fq_csv.specs.Rows.{Holds, row_by_kinds}
 use Rattle.fq_csv.specs.declared.faults.ScanFault.{ScanFault}
 use Rattle.fq_csv.specs.declared.faults.ScanFault.TheVariants.{BadCell, TooLong, Width}
@@ -70,7 +69,3 @@ then-end rows fault = ap (λ rs. let v : Stream ScanFault = record { rows = rs; 
 -- as many columns as kinds
 pub length-columns : (kinds : List Kind) (columns : List Cells) (rows : List Row) (fields : Fields) → Holds kinds columns rows → kinds_of fields ≡ kinds → length columns ≡ length fields
 length-columns kinds columns rows fields h e = sym (length-map columns (λ (c : Cells). c.kind)) ∙ ap length (h.same_kinds ∙ sym e) ∙ length-map fields (λ f. f.1)
-
--- what a read of a record that was found says of those before it
-abbrev pub Takes : Unread → Unread → Type 0
-Takes now new = (before : List Record) → now.upcoming ≡ Some before → (after : List Record) × (before ≡ new.current ∷ after) × (new.upcoming ≡ Some after)

@@ -4,27 +4,16 @@ use Rattle.std.proofs.Common.{◌≡◌, ◌≢◌, ◌<◌, ◌≤◌, ◌+◌,
 use Rattle.std.proofs.lemmas.List.{append-nil, append_assoc, drop-append-le, length-append, length-drop, take-append-le, take_all}
 use Rattle.std.proofs.lemmas.Bool.{le-ltb, lt-ltb}
 use Rattle.std.proofs.lemmas.Bool.Decides.{nat_tests}
-use Rattle.csv.specs.Records.{field_at}
 use Rattle.fq_csv.specs.File.{Record}
-use Rattle.fq_csv.specs.Records.{IsOfText, Unread}
+use Rattle.fq_csv.specs.Records.{IsOfText, Takes, Unread}
 use Rattle.fq_csv.specs.Taking.{ReadsRecords, RecordStream, over, record_fault, records_after, records_in, then_records}
 use Rattle.fq_csv.specs.declared.faults.ScanFault.{ScanFault}
 use Rattle.fq_csv.specs.declared.faults.ScanFault.TheVariants.{TooLong, Width}
 use Rattle.fq_csv.specs.declared.spans.Span.{Span}
 use Rattle.fq_csv.specs.declared.stages.Stage.TheVariants as stage
 use Rattle.fq_csv.proofs.RowLemmas.{no-item}
-use Rattle.fq_csv.proofs.StreamLemmas.{Takes}
 
 -- ---- fields one after the other
-
-take-field-suc : (fs : Record) (i : ℕ) (f : List ℕ) → Some f ≡ field_at fs i → take (suc i) fs ≡ take i fs ++ f ∷ []
-unfolding field_at
-take-field-suc [] i f e = cc e
-take-field-suc (g ∷ fs) zero f e = let same : f ≡ g = cc in rw same refl
-take-field-suc (g ∷ fs) (suc i) f e = ap (λ ys. g ∷ ys) (take-field-suc fs i f e)
-
-pub take-field : (fs : Record) (i : ℕ) (f : List ℕ) → Some f ≡ field_at fs i → take (i + 1) fs ≡ take i fs ++ f ∷ []
-take-field fs i f e = ap (λ n. take n fs) (let up : i + 1 ≡ suc i = omega arith in up) ∙ take-field-suc fs i f e
 
 pub take-first : {X : Type 0} (xs ys : List X) → take (length xs) (xs ++ ys) ≡ xs
 take-first [] ys = refl
@@ -33,6 +22,10 @@ take-first (x ∷ xs) ys = ap (λ zs. x ∷ zs) (take-first xs ys)
 pub drop-first : {X : Type 0} (xs ys : List X) → drop (length xs) (xs ++ ys) ≡ ys
 drop-first [] ys = refl
 drop-first (x ∷ xs) ys = drop-first xs ys
+
+-- the fields before those of a record that is given up
+pub taken-back : (fs r all : Record) (n : ℕ) → all ≡ fs ++ r → length fs ≡ n → take n all ≡ fs
+taken-back fs r all n e l = ap (take n) e ∙ ap (λ k. take k (fs ++ r)) (sym l) ∙ take-first fs r
 
 pub records_in-more : (n width : ℕ) (fs r : Record) → length fs ≡ n * width → length r ≡ width → records_in (suc n) width (fs ++ r) ≡ records_in n width fs ++ r ∷ []
 records_in-more zero width fs r e w =
@@ -88,25 +81,25 @@ module _ (span : Span) (width : ℕ) (old : Unread) where
     rest = λ before u. (before, u, ap (λ n. records_after old.file width span.limit n before) (let z : span.from ≡ span.from + 0 = omega arith in z));
   }
 
-  pub HasTaken-more : (now new : Unread) (count : ℕ) (fs fs2 : Record) → HasTaken span width old now count fs → span.from + count < span.limit → Takes now new
-      → length new.current ≡ width → fs2 ≡ fs ++ new.current → HasTaken span width old new (count + 1) fs2
-  HasTaken-more now new count fs fs2 h below takes w e = record {
-    whole = ap length e ∙ length-append fs new.current ∙ (let s : length fs + length new.current ≡ (count + 1) * width = grind (arith, h.whole, w) in s);
+  pub HasTaken-more : (now new : Unread) (count : ℕ) (fs r fs2 : Record) → HasTaken span width old now count fs → span.from + count < span.limit → Takes now r new
+      → length r ≡ width → fs2 ≡ fs ++ r → HasTaken span width old new (count + 1) fs2
+  HasTaken-more now new count fs r fs2 h below takes w e = record {
+    whole = ap length e ∙ length-append fs r ∙ (let s : length fs + length r ≡ (count + 1) * width = grind (arith, h.whole, w) in s);
     rest = λ before u.
-        let r = h.rest before u in
-        let t = takes r.0 r.1 in
+        let q = h.rest before u in
+        let t = takes.first q.0 q.1 in
         let at = span.from + count in
         let next : at + 1 ≡ span.from + (count + 1) = omega arith in
         let up : suc count ≡ count + 1 = omega arith in
-        let grown : records_in count width fs ++ new.current ∷ [] ≡ records_in (count + 1) width fs2 =
-        sym (records_in-more count width fs new.current h.whole w) ∙ ap (records_in (suc count) width) (sym e) ∙ ap (λ n. records_in n width fs2) up in (
+        let grown : records_in count width fs ++ r ∷ [] ≡ records_in (count + 1) width fs2 =
+        sym (records_in-more count width fs r h.whole w) ∙ ap (records_in (suc count) width) (sym e) ∙ ap (λ n. records_in n width fs2) up in (
           t.0,
           t.2,
-          r.2
+          q.2
               ∙ ap (λ rs. then_records (records_in count width fs) (records_after old.file width span.limit at rs)) t.1
-              ∙ ap (then_records (records_in count width fs)) (record-first old.file width span.limit at new.current t.0 (no-fault old.file width span.limit (at + 1) new.current (omega (arith, below)) w))
-              ∙ then-more (records_in count width fs) new.current (records_after old.file width span.limit (at + 1) t.0)
-              ∙ ap (λ n. then_records (records_in count width fs ++ new.current ∷ []) (records_after old.file width span.limit n t.0)) next
+              ∙ ap (then_records (records_in count width fs)) (record-first old.file width span.limit at r t.0 (no-fault old.file width span.limit (at + 1) r (omega (arith, below)) w))
+              ∙ then-more (records_in count width fs) r (records_after old.file width span.limit (at + 1) t.0)
+              ∙ ap (λ n. then_records (records_in count width fs ++ r ∷ []) (records_after old.file width span.limit n t.0)) next
               ∙ ap (λ rs. then_records rs (records_after old.file width span.limit (span.from + (count + 1)) t.0)) grown,
         );
   }
@@ -129,21 +122,21 @@ module _ (span : Span) (width : ℕ) (old : Unread) where
   ends-done now new count fs h room more none =
       ends now new count fs None h room more (λ after u. ap (λ rs. records_after old.file width span.limit (span.from + count) rs) (none after u)) tt
 
-  pub ends-long : (now new : Unread) (count : ℕ) (fs : Record) → HasTaken span width old now count fs → span.from + count ≡ span.limit → count < span.size → Takes now new
+  pub ends-long : (now mid new : Unread) (count : ℕ) (fs r : Record) → HasTaken span width old now count fs → span.from + count ≡ span.limit → count < span.size → Takes now r mid
       → ReadsRecords span width old new (stage.Closed (Some (TooLong old.file))) count fs
-  ends-long now new count fs h room more takes =
+  ends-long now mid new count fs r h room more takes =
       ends now new count fs (Some (TooLong old.file)) h (omega (arith, room)) more (λ after u.
-      let t = takes after u in
+      let t = takes.first after u in
       ap (λ rs. records_after old.file width span.limit (span.from + count) rs) t.1
-      ∙ fault-first old.file width span.limit (span.from + count) new.current t.0 (TooLong old.file) (fault-long old.file width span.limit (span.from + count + 1) new.current (omega (arith, room)))) tt
+      ∙ fault-first old.file width span.limit (span.from + count) r t.0 (TooLong old.file) (fault-long old.file width span.limit (span.from + count + 1) r (omega (arith, room)))) tt
 
-  pub ends-width : (now new : Unread) (count : ℕ) (fs : Record) → HasTaken span width old now count fs → span.from + count < span.limit → count < span.size → Takes now new
-      → length new.current ≢ width → ReadsRecords span width old new (stage.Closed (Some (Width old.file (span.from + count + 1)))) count fs
-  ends-width now new count fs h room more takes w =
+  pub ends-width : (now mid new : Unread) (count : ℕ) (fs r : Record) → HasTaken span width old now count fs → span.from + count < span.limit → count < span.size → Takes now r mid
+      → length r ≢ width → ReadsRecords span width old new (stage.Closed (Some (Width old.file (span.from + count + 1)))) count fs
+  ends-width now mid new count fs r h room more takes w =
       ends now new count fs (Some (Width old.file (span.from + count + 1))) h (omega (arith, room)) more (λ after u.
-      let t = takes after u in
+      let t = takes.first after u in
       ap (λ rs. records_after old.file width span.limit (span.from + count) rs) t.1
-      ∙ fault-first old.file width span.limit (span.from + count) new.current t.0 (Width old.file (span.from + count + 1)) (fault-width old.file width span.limit (span.from + count + 1) new.current (omega (arith, room)) w)) tt
+      ∙ fault-first old.file width span.limit (span.from + count) r t.0 (Width old.file (span.from + count + 1)) (fault-width old.file width span.limit (span.from + count + 1) r (omega (arith, room)) w)) tt
 
   -- as many records as are wanted
   pub ends-full : (now : Unread) (count : ℕ) (fs : Record) → HasTaken span width old now count fs → span.from + count ≤ span.limit → count ≡ span.size

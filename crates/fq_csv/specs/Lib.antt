@@ -1,3 +1,5 @@
+pub mod Buffer
+pub mod Cutting
 pub mod Field
 pub mod File
 pub mod Printed

@@ -1,5 +1,5 @@
 -- What a scanner of records has still to hand out, and what one call of it hands out.
-use Rattle.std.specs.Prelude.{◌≡◌, ◌+◌, ◌<◌, ◌≤◌, ◌⊎◌, ℕ, Bool, true, List, length, take, Option, Some, None, Result, Ok, Err, option_map}
+use Rattle.std.specs.Prelude.{◌≡◌, ◌+◌, ◌<◌, ◌≤◌, ◌⊎◌, ℕ, Bool, true, false, List, length, take, Option, Some, None, Result, Ok, Err, option_map}
 use Rattle.fq_column.specs.Frame.{Fields}
 use Rattle.fq_csv.specs.File.{Record}
 use Rattle.fq_csv.specs.Records.{IsFailure, IsOfText, StopsBy, Unread}
@@ -7,7 +7,7 @@ use Rattle.fq_csv.specs.Rows.{EndsAt}
 use Rattle.fq_csv.specs.Stage.{ending_of}
 use Rattle.fq_csv.specs.Taking.{FieldRun, RecordStream, over, records_after, records_under_header, without_records}
 use Rattle.fq_csv.specs.declared.faults.ScanFault.{ScanFault}
-use Rattle.fq_csv.specs.declared.faults.ScanFault.TheVariants.{Read, Memory}
+use Rattle.fq_csv.specs.declared.faults.ScanFault.TheVariants.{Header, Read, Memory}
 use Rattle.fq_csv.specs.declared.spans.Span.{Span}
 use Rattle.fq_csv.specs.declared.stages.Stage.{Stage}
 use Rattle.fq_csv.specs.declared.stages.Stage.TheVariants as stage
@@ -20,6 +20,11 @@ records_left_at fields limit stage.Header unread row = option_map (records_under
 records_left_at fields limit stage.Rows unread row = option_map (records_after unread.file (length fields) limit row) unread.upcoming
 records_left_at fields limit (stage.Closed fault) unread row = Some (over fault)
 records_left_at fields limit (stage.Failed fault) unread row = None
+
+-- the records that a scan gives of those still to come are those of the stream, once the header was read; or there are none
+abbrev pub OpensBy : Fields → Unread → Unread → Bool → Type 0
+OpensBy fields old new true = (limit : ℕ) (before : List Record) → old.upcoming ≡ Some before → option_map (records_after old.file (length fields) limit 0) new.upcoming ≡ Some (records_under_header old.file fields limit before)
+OpensBy fields old new false = (limit : ℕ) (before : List Record) → old.upcoming ≡ Some before → records_under_header old.file fields limit before ≡ over (Some (Header old.file))
 
 -- the header was read: the records follow, or there are none
 abbrev pub Opens : Fields → Unread → Unread → Stage → Type 0

@@ -1,34 +1,33 @@
--- The records that a reader has still to give.
-use Rattle.std.specs.Prelude.{◌≡◌, ◌+◌, ◌⊎◌, ⊤, Bool, true, ℕ, List, length, Option, Some, None, option_map}
-use Rattle.csv.specs.Reading.{Ready, default_config, is_flexible, reader_config, reader_state, reader_trim, records_from, source_of}
-use Rattle.csv.specs.declared.error.ErrorKind.{ErrorKind}
-use Rattle.csv.specs.declared.error.ErrorKind.TheVariants as kind
-use Rattle.csv.specs.declared.parser.State.{State}
-use Rattle.csv.specs.declared.reader.Reader.{Reader}
-use Rattle.csv.specs.declared.reader.Trim.TheVariants as trim
+-- The records that a file has still to give.
+use Rattle.std.specs.Prelude.{◌≡◌, ◌++◌, ◌∷◌, ◌⊎◌, ⊤, Bool, true, ℕ, List, [], Option, Some, None, option_map}
+use Rattle.csv.specs.Reading.{default_config, records}
+use Rattle.fq_csv.specs.Buffer.{unread_of}
 use Rattle.fq_csv.specs.File.{Record}
+use Rattle.fq_csv.specs.declared.buffers.Buffer.{Buffer}
 use Rattle.fq_csv.specs.declared.faults.ScanFault.{ScanFault}
 use Rattle.fq_csv.specs.declared.faults.ScanFault.TheVariants.{Header, Width, BadCell, TooLong, Read, Memory}
 
--- the file's number, the record read last, those still to come, where the reader tells its bytes and has not failed, and whether
--- a read was the last, since the reader failed in it or had no memory for its record
+-- the file's number, the fields of the records taken and not yet handed out, the records still to come, where the reader tells its
+-- bytes, and whether the reader failed
 pub record Unread : Type 0 where
   pub file : ℕ
-  pub current : Record
+  pub taken : Record
   pub upcoming : Option (List Record)
   pub stopped : Bool
 
--- a reader with the crate's defaults that takes records of any length, with no header row of its own
-abbrev pub IsSetUp : {R : Type 0} → Reader R → Type 0
-IsSetUp s = (reader_trim s ≡ trim.None) × Ready s × (reader_config s ≡ default_config) × (is_flexible s ≡ true)
+-- the records that a file has left, where its bytes are known
+abbrev pub upcoming_of : {R : Type 0} → (R → Option (List ℕ)) → Buffer R → Option (List Record)
+upcoming_of remaining b = option_map (records default_config) (unread_of remaining b)
 
--- the records of the bytes that are left, from a state of the parser
-abbrev pub records_left : State → List ℕ → List Record
-records_left s bytes = records_from default_config (length bytes + 1) s bytes
+-- the next record, which has these fields, was taken
+pub record Takes (old : Unread) (fields : Record) (new : Unread) : Type 0 where
+  pub added : new.taken ≡ old.taken ++ fields
+  pub first : (before : List Record) → old.upcoming ≡ Some before → (after : List Record) × (before ≡ fields ∷ after) × (new.upcoming ≡ Some after)
 
--- the records that a reader has left, where its bytes are known
-abbrev pub upcoming_of : {R : Type 0} → (R → Option (List ℕ)) → Reader R → Option (List Record)
-upcoming_of remaining s = option_map (records_left (reader_state s)) (source_of remaining s)
+-- no record is left
+pub record IsOver (old new : Unread) : Type 0 where
+  pub same : new.taken ≡ old.taken
+  pub none : (before : List Record) → old.upcoming ≡ Some before → before ≡ []
 
 -- the reader failed, or memory was refused
 abbrev pub IsFailure : ℕ → ScanFault → Type 0
@@ -47,13 +46,3 @@ IsOfText (Some (BadCell file row column)) = ⊤
 IsOfText (Some (TooLong file)) = ⊤
 IsOfText (Some (Read file)) = ⊥
 IsOfText (Some Memory) = ⊥
-
--- the fault that an error of the reader is: a failed read, or else want of memory, since a reader of records of any length has no
--- other error
-abbrev pub fault_of : ℕ → ErrorKind → ScanFault
-fault_of file (kind.Io error) = Read file
-fault_of file (kind.UnequalLengths pos expected len) = Memory
-fault_of file (kind.Utf8 pos error) = Memory
-fault_of file kind.OutOfMemory = Memory
-fault_of file (kind.Serialize text) = Memory
-fault_of file (kind.Deserialize pos error) = Memory

@@ -1,5 +1,6 @@
 // Why the rows of a file end before its bytes do.
 use fq_column::Memory;
+use std::alloc::AllocError;
 
 /// Why a scan of a file ended before the end of the file.
 ///
@@ -48,6 +49,17 @@ impl From<Memory> for ScanFault {
     ghost from_gives = { λ _ fault. fault ≡ OutOfMemory };
 
     fn from(_memory: Memory) -> ScanFault {
+        ScanFault::Memory
+    }
+}
+
+impl From<AllocError> for ScanFault {
+    ghost use Rattle.std.specs.Prelude.{◌≡◌};
+    ghost use Rattle.fq_csv.specs.declared.faults.ScanFault.TheVariants.{Memory as OutOfMemory};
+
+    ghost from_gives = { λ _ fault. fault ≡ OutOfMemory };
+
+    fn from(_error: AllocError) -> ScanFault {
         ScanFault::Memory
     }
 }

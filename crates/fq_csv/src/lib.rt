@@ -2,13 +2,16 @@
 #![tactic(auto)]
 
 mod batches;
+mod buffers;
 mod cells;
+mod cutting;
 mod faults;
 mod fields;
 mod frames;
 mod headers;
 mod laws;
 mod printing;
+mod raw_fields;
 mod record_runs;
 mod record_scanners;
 mod record_steps;

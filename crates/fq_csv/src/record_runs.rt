@@ -1,6 +1,5 @@
 // Runs of records, and the batches that they are.
 ghost use Rattle.std.specs.Prelude.{◌≡◌, ◌≤◌, ◌<◌, ◌+◌, ◌*◌, length, option_map, IfOk, IfSome};
-ghost use Rattle.csv.specs.Records.{fields_of};
 ghost use Rattle.fq_column.specs.Frame.{kinds_of};
 ghost use Rattle.fq_csv.specs.Records.{IsOfText};
 ghost use Rattle.fq_csv.specs.Taking.{HoldsRows, ReadsRun, bad_cell, records_in};
@@ -8,7 +7,7 @@ ghost use Rattle.fq_csv.specs.Taking.{HoldsRows, ReadsRun, bad_cell, records_in}
 use crate::batches::empty_columns;
 use crate::cells::push_rows;
 use crate::faults::ScanFault;
-use csv::ByteRecord;
+use crate::raw_fields::RawFields;
 use fq_column::{Batch, Column, Memory, Schema};
 use std::alloc::Global;
 use std::marker::Model;
@@ -22,12 +21,11 @@ pub struct RecordRun {
     pub(crate) schema: Schema,
     pub(crate) before: u32,
     pub(crate) count: u32,
-    pub(crate) fields: ByteRecord,
+    pub(crate) fields: RawFields,
 }
 
 impl Model for RecordRun {
     ghost use Rattle.std.specs.Prelude.{◌≡◌, ◌≤◌, ◌*◌, ◌+◌, length};
-    ghost use Rattle.csv.specs.Records.{fields_of};
     ghost use Rattle.fq_csv.specs.Taking.{FieldRun, records_in};
 
     ghost Value = { FieldRun };
@@ -36,10 +34,10 @@ impl Model for RecordRun {
       file = a.file;
       fields = a.schema;
       before = a.before;
-      records = records_in a.count (length a.schema) (fields_of a.fields);
+      records = records_in a.count (length a.schema) a.fields;
     } };
 
-    ghost invariant = { λ a. (length (fields_of a.fields) ≡ a.count * length a.schema) × (a.before + a.count ≤ 2147483647) };
+    ghost invariant = { λ a. (length a.fields ≡ a.count * length a.schema) × (a.before + a.count ≤ 2147483647) };
 }
 
 impl RecordRun {
@@ -77,15 +75,15 @@ impl RecordRun {
 fn columns_of(
     alloc: Global,
     schema: &Schema,
-    fields: &ByteRecord,
+    fields: &RawFields,
     count: u32,
 ) -> Result<(Vec<Column>, Option<(u32, u16)>), Memory>
-    requires { length (fields_of fields.now) ≡ count * length schema.now }
-    ensures rows { IfOk result (λ r. HoldsRows (kinds_of schema.now) (records_in count (length schema.now) (fields_of fields.now)) r.0.items r.1) }
+    requires { length fields.now ≡ count * length schema.now }
+    ensures rows { IfOk result (λ r. HoldsRows (kinds_of schema.now) (records_in count (length schema.now) fields.now) r.0.items r.1) }
     ensures some { IfOk result (λ r. 0 < length r.0.items) }
 {
     let mut columns = empty_columns(alloc, schema, count as usize)?;
-    let bad = push_rows(columns.as_mut_slice(), fields, count)?;
+    let bad = push_rows(alloc, columns.as_mut_slice(), fields, count)?;
     Ok((columns, bad))
 }
 

@@ -81,7 +81,7 @@ impl<R: Read> RecordScanner<R> {
           stopped = false;
         }) }
     {
-        let records = Records::new(alloc, reader, file, schema.len())?;
+        let records = Records::new(alloc, reader, file);
         Ok(RecordScanner {
             alloc,
             records,

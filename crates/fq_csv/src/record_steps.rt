@@ -1,6 +1,5 @@
 // The next records of a file as a run.
-ghost use Rattle.std.specs.Prelude.{◌≡◌, ◌≤◌, [], Option, Some, IfOk, IfErr, IsNone};
-ghost use Rattle.csv.specs.Records.{fields_of, partial_of};
+ghost use Rattle.std.specs.Prelude.{◌≡◌, ◌≤◌, Option, Some, IfOk, IfErr, IsNone};
 ghost use Rattle.fq_csv.specs.RecordScan.{IsRunStep};
 ghost use Rattle.fq_csv.specs.Records.{StopsBy};
 ghost use Rattle.fq_csv.specs.Stage.{ending_of};
@@ -14,13 +13,9 @@ use crate::records::Records;
 use crate::spans::Span;
 use crate::stages::Stage;
 use crate::taking::take_records;
-use csv::ByteRecord;
-use fq_column::{Memory, Schema};
+use fq_column::Schema;
 use std::alloc::Global;
 use std::io::Read;
-
-// Room for the bytes of a usual field.
-const FIELD_BYTES: usize = 8;
 
 /// A run, where there are records, and how the file goes on.
 #[derive(Drop)]
@@ -43,7 +38,7 @@ pub(crate) fn next_records<R: Read>(
     ensures over { (fault : Option ScanFault) → ending_of stage ≡ Some fault → (result.stage ≡ stage) × IsNone result.run × (records.new ≡ records.old) }
 {
     let stage = match stage {
-        Stage::Header => read_header(records, schema),
+        Stage::Header => read_header(alloc, records, schema),
         stage => stage,
     };
     match stage {
@@ -82,8 +77,9 @@ fn try_read_run<R: Read>(
     ensures failed { IfErr result (StopsBy records.old.file records.new.stopped) }
     ensures step { IfOk result (λ step. IsRunStep span schema.now records.old records.new Stage.Rows step.stage step.run) }
 {
-    let mut fields = empty_fields(alloc, room_for(span), schema.len())?;
-    let taken = take_records(records, &mut fields, schema.len(), span)?;
+    let width = schema.len();
+    records.start_anew(room_for(span) * width)?;
+    let taken = take_records(records, width, span)?;
     let stage = taken.stage;
     let count = taken.count;
     if count == 0 {
@@ -94,20 +90,10 @@ fn try_read_run<R: Read>(
         schema: schema.copy(alloc)?,
         before: span.from,
         count,
-        fields,
+        fields: records.hand_out(alloc)?,
     };
     Ok(RunStep {
         run: Some(run),
         stage,
     })
-}
-
-// No field, and room for those of so many records.
-fn empty_fields(alloc: Global, records: usize, width: usize) -> Result<ByteRecord, Memory>
-    requires few { records ≤ 2147483647 }
-    requires narrow { width ≤ 64 }
-    ensures { IfOk result (λ fields. (fields_of fields ≡ []) × (partial_of fields ≡ [])) }
-{
-    let count = records * width;
-    Ok(ByteRecord::with_capacity(alloc, count * FIELD_BYTES, count)?)
 }

@@ -1,6 +1,5 @@
-// Records of a file, taken into one buffer.
-ghost use Rattle.std.specs.Prelude.{◌≡◌, ◌≤◌, ◌++◌, [], length, IfOk, IfErr, OnOk};
-ghost use Rattle.csv.specs.Records.{fields_of, partial_of};
+// Records of a file, taken one after the other.
+ghost use Rattle.std.specs.Prelude.{◌≡◌, ◌≤◌, [], IfOk, IfErr, OnOk};
 ghost use Rattle.fq_csv.specs.Records.{StopsBy};
 ghost use Rattle.fq_csv.specs.Taking.{ReadsRecords};
 
@@ -8,8 +7,6 @@ use crate::faults::ScanFault;
 use crate::records::Records;
 use crate::spans::Span;
 use crate::stages::Stage;
-use csv::ByteRecord;
-use fq_column::Memory;
 use std::io::Read;
 
 /// How many records were taken, and how the file goes on after them.
@@ -19,19 +16,18 @@ pub(crate) struct Taken {
     pub(crate) stage: Stage,
 }
 
-/// Takes the next records of a file, each of `width` fields, which stand one after the other in an empty buffer.
+/// Takes the next records of a file, each of `width` fields.
 pub(crate) fn take_records<R: Read>(
     records: &mut Records<R>,
-    fields: &mut ByteRecord,
     width: usize,
     span: Span,
 ) -> Result<Taken, ScanFault>
-    requires empty { fields_of fields.old ≡ [] }
-    requires whole { partial_of fields.old ≡ [] }
+    requires empty { records.old.taken ≡ [] }
+    requires narrow { width ≤ 64 }
     ensures file { records.new.file ≡ records.old.file }
     ensures goes_on { OnOk result (records.new.stopped ≡ records.old.stopped) }
     ensures failed { IfErr result (StopsBy records.old.file records.new.stopped) }
-    ensures records { IfOk result (λ taken. ReadsRecords span width records.old records.new taken.stage taken.count (fields_of fields.new)) }
+    ensures records { IfOk result (λ taken. ReadsRecords span width records.old records.new taken.stage taken.count records.new.taken) }
 {
     let file = records.file();
     for count in 0..span.size {
@@ -39,36 +35,22 @@ pub(crate) fn take_records<R: Read>(
             let stage = Stage::Closed(None);
             return Ok(Taken { count, stage });
         }
+        let fields = count as usize * width;
         let before = span.from + count;
         if before == span.limit {
+            records.keep(fields);
             let stage = Stage::Closed(Some(ScanFault::TooLong { file }));
             return Ok(Taken { count, stage });
         }
-        let record = records.current();
-        if record.len() != width {
+        if records.field_count() != fields + width {
+            records.keep(fields);
             let row = before + 1;
             let stage = Stage::Closed(Some(ScanFault::Width { file, row }));
             return Ok(Taken { count, stage });
         }
-        append(fields, record)?;
     }
     Ok(Taken {
         count: span.size,
         stage: Stage::Rows,
     })
-}
-
-// Appends a record's fields.
-fn append(fields: &mut ByteRecord, row: &ByteRecord) -> Result<(), Memory>
-    requires whole { partial_of fields.old ≡ [] }
-    ensures fields { OnOk result (fields_of fields.new ≡ fields_of fields.old ++ fields_of row.now) }
-    ensures whole { OnOk result (partial_of fields.new ≡ []) }
-{
-    for i in 0..row.len() {
-        let Some(field) = row.get(i) else {
-            unreachable!()
-        };
-        fields.push_field(field)?;
-    }
-    Ok(())
 }

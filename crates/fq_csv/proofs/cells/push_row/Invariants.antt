@@ -1,8 +1,7 @@
 use Rattle.std.proofs.Common.{length}
-use Rattle.csv.specs.Records.{fields_of}
 use Rattle.fq_csv.specs.Taking.{record_at}
 use Rattle.fq_csv.proofs.RowLemmas.{Added}
 use Rattle.fq_csv.proofs.cells.push_row.Given as goal
 
 abbrev pub invariant-loop-i : goal.invariant-loop-i
-invariant-loop-i l = Added l.fn.columns (record_at l.row (length l.fn.columns) (fields_of l.fields)) l.i l.columns
+invariant-loop-i l = Added l.fn.columns (record_at l.row (length l.fn.columns) l.fields) l.i l.columns

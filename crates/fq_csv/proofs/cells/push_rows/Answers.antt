@@ -1,5 +1,4 @@
 use Rattle.std.proofs.Common.{◌∙◌, ap, arith, length, sym}
-use Rattle.csv.specs.Records.{fields_of}
 use Rattle.fq_csv.specs.Rows.{kinds_in, row_by_kinds}
 use Rattle.fq_csv.specs.Taking.{record_at}
 use Rattle.fq_csv.proofs.CellLemmas.{HasPushed-more, length-record, pushed-all, pushed-bad, record-there}
@@ -8,7 +7,7 @@ use Rattle.fq_csv.proofs.cells.push_rows.Goals as goal
 pub returns-in-Some : goal.returns-in-Some
 returns-in-Some c =
     let width = length c.args.columns.now in
-    let fs = fields_of c.args.fields.now in
+    let fs = c.args.fields.now in
     let wide = length-record c.loop-row.row width fs (record-there c.args.count width c.loop-row.row fs c.requires.whole c.loop-row-test.true) in
     let bad = rw c.in-Some.is at c.in_ok-column.ensures.bad in
     let same = c.loop-row.auto.columns in
@@ -19,7 +18,7 @@ returns-in-Some c =
 pub loop-row-preserved : goal.loop-row-preserved
 loop-row-preserved c =
     let width = length c.args.columns.now in
-    let fs = fields_of c.args.fields.now in
+    let fs = c.args.fields.now in
     let wide = length-record c.loop-row.row width fs (record-there c.args.count width c.loop-row.row fs c.requires.whole c.loop-row-test.true) in
     let row = rw c.in_default.is at c.in_ok-column.ensures.row in
     let same = c.loop-row.auto.columns in
@@ -29,4 +28,4 @@ loop-row-preserved c =
 
 pub returns : goal.returns
 returns c =
-    pushed-all (kinds_in c.args.columns.now) c.args.count (length c.args.columns.now) (fields_of c.args.fields.now) c.loop-row.row c.loop-row.columns c.loop-row.invariant (omega (arith, c.loop-row-test.false, c.loop-row.auto.row-end))
+    pushed-all (kinds_in c.args.columns.now) c.args.count (length c.args.columns.now) c.args.fields.now c.loop-row.row c.loop-row.columns c.loop-row.invariant (omega (arith, c.loop-row-test.false, c.loop-row.auto.row-end))

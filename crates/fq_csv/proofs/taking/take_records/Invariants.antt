@@ -1,5 +1,4 @@
-use Rattle.std.proofs.Common.{◌≡◌, ◌≤◌, ◌+◌, []}
-use Rattle.csv.specs.Records.{fields_of, partial_of}
+use Rattle.std.proofs.Common.{◌≡◌, ◌≤◌, ◌+◌}
 use Rattle.fq_csv.proofs.TakingLemmas.{HasTaken}
 use Rattle.fq_csv.proofs.taking.take_records.Given as goal
 
@@ -8,6 +7,5 @@ invariant-loop-count g l = record {
   file : l.records.file ≡ l.fn.records.file;
   goes_on : l.records.stopped ≡ l.fn.records.stopped;
   in_limit : l.span.from + l.count ≤ l.span.limit;
-  partial : partial_of l.fields ≡ [];
-  taken : HasTaken l.span l.width l.fn.records l.records l.count (fields_of l.fields);
+  taken : HasTaken l.span l.width l.fn.records l.records l.count l.records.taken;
 }

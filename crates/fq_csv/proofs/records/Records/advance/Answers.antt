@@ -1,32 +1,15 @@
-use Rattle.std.proofs.Common.{◌≡◌, ◌∷◌, [], List, true, false, Some, Bool}
-use Rattle.csv.specs.Records.{fields_of}
+use Rattle.std.specs.Prelude.{MatchBool, IfOk}
+use Rattle.std.proofs.Common.{subst}
 use Rattle.fq_csv.specs.File.{Record}
-use Rattle.fq_csv.specs.Records.{upcoming_of}
-use Rattle.fq_csv.proofs.RecordLemmas.{at-ok, found-none, found-record, no-ok}
+use Rattle.fq_csv.specs.Records.{IsOver, Takes, Unread}
+use Rattle.fq_csv.proofs.BufferLemmas.{advanced, seen}
 use Rattle.fq_csv.proofs.records.Records.advance.Goals as goal
-use Rattle.fq_csv.proofs.records.Records.advance.Goals.{in-Ok, in-Err+in-Serialize-1, in-Err+in-Deserialize+in-Message-1, in-Err+in-Deserialize+in-BorrowedKey-1, in-Err+in-Io-1}
 
-pub returns-clause-more : goal.returns-clause-more
-returns-clause-more g c =
-    let P = λ (found : Bool). found ≡ true → (records : List Record) → c.args.self.now.upcoming ≡ Some records
-    → (rest : List Record) × (records ≡ fields_of c.read_byte_record.new.row ∷ rest) × (upcoming_of (λ r. g.R.Read.remaining r.reader) c.read_byte_record.new.self ≡ Some rest) in
-    elim c.match-read_byte_record.branch [
-      | in-Ok w ↦ at-ok c.match-read_byte_record.result _ P w.result-is (λ yes records e.
-          found-record (λ r. g.R.Read.remaining r.reader) c.self.inside.reader c.read_byte_record.new.self (fields_of c.read_byte_record.new.row) records c.self.invariant (rw yes at w.in-Ok.ensures.reads) (rw (← c.self.view_is) at e))
-      | in-Err+in-Serialize-1 w ↦ no-ok c.match-read_byte_record.result _ P w.result-is
-      | in-Err+in-Deserialize+in-Message-1 w ↦ no-ok c.match-read_byte_record.result _ P w.result-is
-      | in-Err+in-Deserialize+in-BorrowedKey-1 w ↦ no-ok c.match-read_byte_record.result _ P w.result-is
-      | in-Err+in-Io-1 w ↦ no-ok c.match-read_byte_record.result _ P w.result-is
-    ]
-
-pub returns-clause-none : goal.returns-clause-none
-returns-clause-none g c =
-    let P = λ (found : Bool). found ≡ false → (records : List Record) → c.args.self.now.upcoming ≡ Some records → records ≡ [] in
-    elim c.match-read_byte_record.branch [
-      | in-Ok w ↦ at-ok c.match-read_byte_record.result _ P w.result-is (λ no records e.
-          found-none (λ r. g.R.Read.remaining r.reader) c.self.inside.reader c.read_byte_record.new.self (fields_of c.read_byte_record.new.row) records c.self.invariant (rw no at w.in-Ok.ensures.reads) (rw (← c.self.view_is) at e))
-      | in-Err+in-Serialize-1 w ↦ no-ok c.match-read_byte_record.result _ P w.result-is
-      | in-Err+in-Deserialize+in-Message-1 w ↦ no-ok c.match-read_byte_record.result _ P w.result-is
-      | in-Err+in-Deserialize+in-BorrowedKey-1 w ↦ no-ok c.match-read_byte_record.result _ P w.result-is
-      | in-Err+in-Io-1 w ↦ no-ok c.match-read_byte_record.result _ P w.result-is
-    ]
+pub returns-clause-taken : goal.returns-clause-taken
+returns-clause-taken g c =
+    let old = c.self.inside.buffer in
+    let new = c.take_record.new.self in
+    let before = c.self.inside.places.items in
+    let after = c.take_record.new.places.items in
+    subst (λ (u : Unread). IfOk c.take_record.result (λ b. MatchBool b ((fields : Record) × Takes u fields (seen {R = g.row.R.Denot} g.R.Read.remaining old new before after new after)) (IsOver u (seen {R = g.row.R.Denot} g.R.Read.remaining old new before after new after)))) c.self.view_is
+    (advanced {R = g.row.R.Denot} g.R.Read.remaining old new before after c.take_record.result c.take_record.ensures.taken c.take_record.ensures.kept)
