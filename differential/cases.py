@@ -302,8 +302,9 @@ def wrong_plan_text(draw, value):
 
 # ---- files
 
-# How often rows have numbers near the limits of 64 bits, and how often something is wrong with them, in percent.
-Care = namedtuple("Care", "edges wrong")
+# How often rows have numbers near the limits of 64 bits, texts that are longer than a read, and something wrong with them, in
+# percent.
+Care = namedtuple("Care", "edges long wrong")
 
 WRONG_FIELDS = ["1.5", "no", " 1", "1 ", "+-1", "+", "-", "9223372036854775808", "-9223372036854775809", "1e3", "٣", "truE "]
 
@@ -318,14 +319,20 @@ def field(draw, kind, care):
         return draw.choice(["%d", "%d", "%d", "%+d", "%03d"]).encode() % number
     if kind == "bool":
         return draw.choice([b"true", b"false", b"TRUE", b"False"])
+    if draw.often(care.long):
+        return (draw.choice(TEXTS) + "-").encode() * draw.choice([2_000, 11_000, 40_000])
     return draw.choice(TEXTS).encode()
 
 
 def quoted(draw, text, care):
-    """A field as it stands in a file: in quotes where it needs them, seldom without; and now and then where it does not."""
+    """A field as it stands in a file: in quotes where it needs them, seldom without; and now and then where it does not.
+    Seldom its last bytes stand after the last quote, where quotes and all else are what they are."""
     needs_quotes = any(mark in text for mark in (b",", b'"', b"\r", b"\n"))
     if draw.often(100 - care.wrong if needs_quotes else 4):
-        return b'"' + text.replace(b'"', b'""') + b'"'
+        last = len(text) - draw.choice([1, 1, 2]) if len(text) > 2 and draw.often(4) else len(text)
+        if any(mark in text[last:] for mark in (b",", b"\r", b"\n")) or text[last:].startswith(b'"'):
+            last = len(text)
+        return b'"' + text[:last].replace(b'"', b'""') + b'"' + text[last:]
     return text
 
 
@@ -356,16 +363,18 @@ def csv_file(draw, columns, most_rows, care):
         lines.append(row(draw, columns, care))
         if draw.often(3):
             lines.append(b"")
-    end = draw.choice([b"\n", b"\n", b"\r\n", b"\r"])
+    ends = draw.choice([[b"\n"], [b"\n"], [b"\r\n"], [b"\r"], [b"\n", b"\r\n", b"\r"]])
     mark = b"\xef\xbb\xbf" if draw.often(3) else b""
-    last = b"" if draw.often(20) else end
-    torn = b'"torn' if draw.often(care.wrong / 2) else b""
-    return mark + end.join(lines) + last + torn
+    if draw.often(20):
+        last = lines.pop()
+    else:
+        last = b'"torn' if draw.often(care.wrong / 2) else b""
+    return mark + b"".join(one + draw.choice(ends) for one in lines) + last
 
 
 def files_of(draw, value):
     """Files for all sources. Seldom the main source is large, with more rows than a batch has by default."""
-    care = Care(edges=draw.choice([0, 0, 2, 25]), wrong=draw.choice([0, 0, 0, 0.5, 4]))
+    care = Care(edges=draw.choice([0, 0, 2, 25]), long=draw.choice([0] * 29 + [8]), wrong=draw.choice([0, 0, 0, 0.5, 4]))
     files = []
     for place, one in enumerate(value["sources"]):
         is_main = place == len(value["sources"]) - 1

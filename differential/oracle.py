@@ -469,6 +469,9 @@ def one_by_one(stream, rows_of):
 
 # ---- files (fq_csv/specs/File, Field)
 
+csv.field_size_limit(1 << 30)
+
+
 def records_of(data):
     """The records of a CSV file (RFC 4180). A mark of the byte order is no part of it, and an empty line is no record."""
     data = data.removeprefix(b"\xef\xbb\xbf")
