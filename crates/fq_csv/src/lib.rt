@@ -4,6 +4,7 @@
 mod batches;
 mod cells;
 mod faults;
+mod field_text;
 mod fields;
 mod frames;
 mod headers;
@@ -12,6 +13,7 @@ mod printing;
 mod record_runs;
 mod record_scanners;
 mod record_steps;
+mod record_text;
 mod records;
 mod retrying;
 mod scanners;
