@@ -1,6 +1,6 @@
 -- Which bytes call for quotes, and what is left of a piece that was cut.
 use Rattle.std.specs.Prelude.{◌==◌, ◌||◌, ◌≤◌, not, replicate}
-use Rattle.std.proofs.Common.{◌≡◌, ◌<◌, ◌+◌, ◌*◌, ◌%◌, ◌^◌, ◌++◌, ◌∙◌, cond, Bool, true, false, ℕ, zero, suc, ℤ, pos, negsuc, List, [], ◌∷◌, length, map, take, drop, refl, sym, ap, arith, append_assoc, get_or, length-append}
+use Rattle.std.proofs.Common.{◌≡◌, ◌<◌, ◌+◌, ◌-◌, ◌*◌, ◌%◌, ◌^◌, ◌++◌, ◌∙◌, cond, Bool, true, false, ℕ, zero, suc, ℤ, pos, negsuc, List, [], ◌∷◌, length, map, take, drop, refl, sym, ap, arith, append_assoc, get_or, length-append}
 use Rattle.std.specs.List.{list_any}
 use Rattle.std.specs.Simd.Lanes.{mask_l}
 use Rattle.std.specs.Fmt.{decimal, signed_decimal}
@@ -8,8 +8,8 @@ use Rattle.std.proofs.lemmas.Bool.{ltb-true, ne_eqb}
 use Rattle.std.proofs.lemmas.Fmt.{decimal_by_steps}
 use Rattle.std.proofs.lemmas.List.{length-take, take-append-drop, take-append-le, take_at}
 use Rattle.std.proofs.lemmas.List.Folds.{list_any-append}
-use Rattle.csv.specs.Writing.{default_writer, escaped, needs_byte, needs_quotes}
-use Rattle.csv.proofs.WriteFacts.{quoted-step}
+use Rattle.csv.specs.Writing.{default_writer, escaped, needs_byte, needs_quotes, quoted}
+use Rattle.csv.proofs.WriteFacts.{escaped-double, quoted-end, quoted-past, slice-end, slice-run}
 use lib.IntN.{nat_abs}
 use lib.Signed.{lt_z, mag}
 
@@ -96,9 +96,25 @@ cut-within old field rest m n low high e =
 
 -- ---- a text between quotes
 
--- one more byte of it
-pub quoted-more : (old now new field : List ℕ) (i : ℕ) → i < length field → now ≡ old ++ (34 ∷ escaped default_writer (take i field)) → new ≡ now ++ escaped default_writer (get_or field i 0 ∷ [])
+-- a run with no quote, and then a quote
+pub quote-past : (old now new field : List ℕ) (start i : ℕ) → start ≤ i → i < length field → list_any (λ b. b == 34) (drop start (take i field)) ≡ false → get_or field i 0 ≡ 34
+    → now ≡ old ++ (34 ∷ escaped default_writer (take start field)) → new ≡ (now ++ take (i - start) (drop start field)) ++ (34 ∷ 34 ∷ [])
     → new ≡ old ++ (34 ∷ escaped default_writer (take (i + 1) field))
-quoted-more old now new field i below h e =
-    e ∙ ap (λ t. t ++ escaped default_writer (get_or field i 0 ∷ [])) h ∙ append_assoc old (34 ∷ escaped default_writer (take i field)) (escaped default_writer (get_or field i 0 ∷ []))
-    ∙ ap (λ t. old ++ t) (quoted-step default_writer 34 field i below)
+quote-past old now new field start i ordered below none same before e =
+    let run = drop start (take i field) in
+    let done = 34 ∷ escaped default_writer (take start field) in
+    let two = ap (λ (x : ℕ). x ∷ x ∷ []) (sym same) ∙ sym (escaped-double default_writer (get_or field i 0) same refl) in
+    e ∙ ap (λ t. (now ++ t) ++ (34 ∷ 34 ∷ [])) (slice-run field start i ordered) ∙ append_assoc now run (34 ∷ 34 ∷ [])
+    ∙ ap (λ t. t ++ (run ++ (34 ∷ 34 ∷ []))) before ∙ append_assoc old done (run ++ (34 ∷ 34 ∷ []))
+    ∙ ap (λ t. old ++ t) (ap (λ t. done ++ (run ++ t)) two ∙ quoted-past default_writer 34 field start i ordered below none)
+
+-- the last run
+pub quoted-ended : (old now mid new field : List ℕ) (start : ℕ) → list_any (λ b. b == 34) (drop start field) ≡ false
+    → now ≡ old ++ (34 ∷ escaped default_writer (take start field)) → mid ≡ now ++ take (length field - start) (drop start field) → new ≡ mid ++ (34 ∷ [])
+    → new ≡ old ++ quoted default_writer field
+quoted-ended old now mid new field start none before last e =
+    let run = drop start field in
+    let done = 34 ∷ escaped default_writer (take start field) in
+    e ∙ ap (λ t. t ++ (34 ∷ [])) (last ∙ ap (λ t. now ++ t) (slice-end field start)) ∙ append_assoc now run (34 ∷ [])
+    ∙ ap (λ t. t ++ (run ++ (34 ∷ []))) before ∙ append_assoc old done (run ++ (34 ∷ []))
+    ∙ ap (λ t. old ++ t) (quoted-end default_writer 34 34 field start none)

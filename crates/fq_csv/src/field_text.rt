@@ -82,18 +82,21 @@ fn push_short(text: &mut Vec<u8>, field: &[u8]) -> Result<(), Memory>
     Ok(())
 }
 
-// Appends a text between quotes, with its own quotes doubled.
+// Appends a text between quotes, with its own quotes doubled; what is between those is copied in one piece.
 #[inline(never)]
 fn push_quoted(text: &mut Vec<u8>, field: &[u8]) -> Result<(), Memory>
     ensures { OnOk result (text.new.items ≡ text.old.items ++ quoted default_writer field.now) }
 {
     text.push(b'"')?;
-    for byte in field {
+    let mut start = 0;
+    for (i, byte) in field.iter().enumerate() {
         if *byte == b'"' {
-            text.push(b'"')?;
+            text.extend_from_slice(&field[start..i])?;
+            text.extend_from_slice(b"\"\"")?;
+            start = i + 1;
         }
-        text.push(*byte)?;
     }
+    text.extend_from_slice(&field[start..])?;
     text.push(b'"')?;
     Ok(())
 }
