@@ -11,6 +11,7 @@ pub mod RecordStepLemmas
 pub mod ScanLemmas
 pub mod HeaderLemmas
 pub mod StepLemmas
+pub mod FieldTextLemmas
 pub mod PrintLemmas
 pub mod FrameLemmas
 pub mod RunLemmas

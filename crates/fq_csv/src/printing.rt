@@ -1,11 +1,12 @@
 // Batches as CSV text.
-ghost use Rattle.std.specs.Prelude.{◌≡◌, ◌<◌, ◌^◌, [], slice_index_or, map, length, Ok, IfOk, OnOk};
+ghost use Rattle.std.specs.Prelude.{◌≡◌, ◌<◌, ◌^◌, [], slice_index_or, map, length, IfOk, OnOk};
 ghost use Rattle.std.specs.Io.KnownBytes.{Appends, Keeps};
 ghost use Rattle.csv.specs.Writing.{default_writer, fields_written, has_written, tail_text, text_written, writer_setup};
 ghost use Rattle.fq_column.specs.Frame.{IsFrame, names_of, value_at};
 ghost use Rattle.fq_csv.specs.Printed.{cell_text, printed, printed_names, printed_rows};
 ghost use Rattle.fq_csv.specs.Writing.{IsBetween, PutsField, PutsRecord};
 
+use crate::record_text::{push_names, push_rows};
 use csv::{Writer, WriterBuilder};
 use fq_column::{Batch, Column, Memory, Schema, Values};
 use itoa::Buffer;
@@ -20,21 +21,27 @@ pub struct WriteFault;
 pub fn print_frame(alloc: Global, batch: &Batch) -> Result<Vec<u8>, Memory>
     ensures { IfOk result (λ text. text.items ≡ printed batch.now) }
 {
-    in_memory(write_frame(Vec::new(alloc), batch))
+    let mut text = print_names(alloc, batch.schema())?;
+    push_rows(&mut text, batch)?;
+    Ok(text)
 }
 
 /// The CSV text of the names of columns, the first line of each frame of them.
 pub fn print_names(alloc: Global, schema: &Schema) -> Result<Vec<u8>, Memory>
     ensures { IfOk result (λ text. text.items ≡ printed_names schema.now) }
 {
-    in_memory(write_names(Vec::new(alloc), schema))
+    let mut line = Vec::new(alloc);
+    push_names(&mut line, schema)?;
+    Ok(line)
 }
 
 /// The CSV text of the rows of a batch, without the names of its columns.
 pub fn print_rows(alloc: Global, batch: &Batch) -> Result<Vec<u8>, Memory>
     ensures { IfOk result (λ text. text.items ≡ printed_rows batch.now.rows) }
 {
-    in_memory(write_rows(Vec::new(alloc), batch))
+    let mut lines = Vec::new(alloc);
+    push_rows(&mut lines, batch)?;
+    Ok(lines)
 }
 
 /// Writes the CSV text of a batch after what a writer holds, and hands the writer back; takes no memory of its own.
@@ -75,16 +82,6 @@ fn writer_back<W: Write + Drop>(writer: Writer<W>) -> Result<W, WriteFault>
     match writer.into_inner() {
         Ok(out) => Ok(out),
         Err(_) => Err(WriteFault),
-    }
-}
-
-// A text that was written in memory, where a writer fails for want of it alone.
-fn in_memory(written: Result<Vec<u8>, WriteFault>) -> Result<Vec<u8>, Memory>
-    ensures { IfOk result (λ text. written ≡ Ok text) }
-{
-    match written {
-        Ok(text) => Ok(text),
-        Err(WriteFault) => Err(Memory),
     }
 }
 
