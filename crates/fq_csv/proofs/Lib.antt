@@ -2,6 +2,7 @@ mod DigitLemmas
 pub mod FieldLemmas
 pub mod BufferLemmas
 pub mod CutLemmas
+pub mod LaneLemmas
 pub mod RecordLemmas
 pub mod RowLemmas
 pub mod StreamLemmas

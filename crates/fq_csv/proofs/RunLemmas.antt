@@ -8,6 +8,7 @@ use Rattle.std.proofs.Math.Nat.{mul-le-mul_left, eq-or-lt_of_le}
 use Rattle.fq_column.specs.Frame.{Fields, Row}
 use Rattle.fq_column.specs.Lists.{pieces}
 use Rattle.fq_column.specs.Stream.{Stream}
+use Rattle.fq_csv.proofs.LaneLemmas.{le-or-lt}
 use Rattle.fq_csv.specs.Run.{Follows, IsRun, answers, answers_from, framed}
 use Rattle.fq_csv.specs.Scan.{IsFailed, IsLastWord, IsNextBatch, Scanning}
 use Rattle.fq_csv.specs.Stage.{ended, without}
@@ -29,11 +30,6 @@ fewer n b (suc q) (suc r) hb hn a c d e = elim (le-or-lt r q) [
   ]
 ]
   where
-    le-or-lt : (i j : ℕ) → (i ≤ j) ⊎ (j < i)
-    le-or-lt zero j = inl (omega arith)
-    le-or-lt (suc i) zero = inr (omega arith)
-    le-or-lt (suc i) (suc j) = elim (le-or-lt i j) [ inl l ↦ inl (omega (arith, l)) | inr l ↦ inr (omega (arith, l)) ]
-
     few : r ≤ q → ⊥
     few h = let m = mul-le-mul_left b (let g : suc r ≤ suc q = omega (arith, h) in g) in let w = mul-le-mul_left b (let g : 1 ≤ suc q = omega arith in g) in omega (arith, m, w, a, c, d, e, hb, hn)
 

@@ -1,10 +1,16 @@
 // Fields in a text.
-ghost use Rattle.std.specs.Prelude.{◌≡◌, ◌≤◌, ◌<◌, ◌==◌, ℕ, List, [], None, drop, length, true, get_or, IfOk, IfSome, IfNone, OnOk, OnErr};
+ghost use Rattle.std.specs.Prelude.{◌≡◌, ◌≤◌, ◌<◌, ◌==◌, ℕ, List, [], None, drop, length, map, true, get_or, IfOk, IfSome, IfNone, OnOk, OnErr};
+ghost use Rattle.std.specs.Simd.Lanes.{mask_l};
 ghost use Rattle.csv.specs.declared.parser.State.TheVariants.{AfterQuote, InQuoted, StartField};
 ghost use Rattle.fq_csv.specs.Cutting.{CutsRecord, FieldEnds, IsInside, NoneEnds, NoQuote, Stands, StartsAt, between, ends_field, ends_within, field_at, next_of, quotes_after, unquoted, without_quotes};
 ghost use Rattle.fq_csv.specs.declared.cutting.Quotes.TheVariants as quotes;
 
+use memchr::memchr;
 use std::alloc::AllocError;
+use std::simd::prelude::*;
+
+// How many bytes are looked at at once.
+const LANES: usize = 16;
 
 /// Where a field stands in a text.
 #[derive(Clone, Copy)]
@@ -22,6 +28,27 @@ fn ends_field(byte: u8) -> bool
     byte == b',' || byte == b'\r' || byte == b'\n'
 }
 
+// Which of sixteen bytes are this one: bit k tells of byte k.
+#[inline]
+fn marks_of(bytes: u8x16, byte: u8) -> u64
+    ensures { result ≡ mask_l (map (λ b. b == byte) bytes) }
+{
+    bytes.simd_eq(u8x16::splat(byte)).to_bitmask()
+}
+
+// Where the first of sixteen bytes is that ends a field.
+#[inline]
+fn first_end(bytes: u8x16) -> Option<usize>
+    ensures none { IfNone result (NoneEnds bytes 0 16) }
+    ensures some { IfSome result (λ i. (i < 16) × NoneEnds bytes 0 i × (ends_field (get_or bytes i 0) ≡ true)) }
+{
+    let marks = marks_of(bytes, b',') | marks_of(bytes, b'\r') | marks_of(bytes, b'\n');
+    if marks == 0 {
+        return None;
+    }
+    Some(marks.trailing_zeros() as usize)
+}
+
 /// Where a field that is not quoted ends.
 fn plain_end(text: &[u8], from: usize) -> usize
     requires { from ≤ length text.now }
@@ -30,7 +57,14 @@ fn plain_end(text: &[u8], from: usize) -> usize
     ensures plain { NoneEnds text.now from result }
     ensures ends { result < length text.now → ends_field (get_or text.now result 0) ≡ true }
 {
-    for i in from..text.len() {
+    let mut at = from;
+    'lanes: while text.len() - at >= LANES {
+        if let Some(i) = first_end(u8x16::from_slice(&text[at..])) {
+            return at + i;
+        }
+        at += LANES;
+    }
+    for i in at..text.len() {
         if ends_field(text[i]) {
             return i;
         }
@@ -57,12 +91,10 @@ fn quote_from(text: &[u8], from: usize) -> usize
     ensures none { NoQuote text.now from result }
     ensures quote { result < length text.now → (get_or text.now result 0 == 34) ≡ true }
 {
-    for i in from..text.len() {
-        if text[i] == b'"' {
-            return i;
-        }
+    match memchr(b'"', &text[from..]) {
+        Some(i) => from + i,
+        None => text.len(),
     }
-    text.len()
 }
 
 impl Quotes {
