@@ -368,7 +368,8 @@ sales <- function() fread('sales.csv')
 regions <- function() fread('regions.csv')
 orders <- function() fread('orders.csv')
 products <- function() fread('products.csv')
-visits <- function() fread('visits.csv')
+# its truth values as texts, since fwrite writes TRUE for true
+visits <- function() fread('visits.csv', colClasses = list(character = 'cached'))
 """
 
 
