@@ -53,16 +53,6 @@ left-read old bytes at (Some xs) None low h = absurd h
 left-read old bytes at (Some xs) (Some ys) low h =
     ap (λ zs. zs ++ ys) (drop-append-le at old bytes low) ∙ append_assoc (drop at old) bytes ys ∙ ap (λ zs. drop at old ++ zs) (sym h)
 
-pub keeps-trans : (a b c : Option (List ℕ)) → Keeps a b → Keeps b c → Keeps a c
-keeps-trans None b c h k = tt
-keeps-trans (Some x) None c h k = absurd h
-keeps-trans (Some x) (Some y) None h k = absurd k
-keeps-trans (Some x) (Some y) (Some z) h k = k ∙ h
-
-pub keeps-refl : (a : Option (List ℕ)) → Keeps a a
-keeps-refl None = tt
-keeps-refl (Some x) = refl
-
 -- ---- places in a longer text
 
 between-same : (text more : List ℕ) (start end : ℕ) → start ≤ end → end ≤ length text → between (text ++ more) start end ≡ between text start end

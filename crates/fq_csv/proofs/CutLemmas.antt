@@ -82,9 +82,6 @@ double-quote c e = rw e refl
 skip-line : (c : ℕ) → ((c == 13) || (c == 10)) ≡ true → step default_config st.StartRecord c ≡ (st.StartRecord, act.Skip)
 skip-line c e = rw e refl
 
-start-record : (c : ℕ) → ((c == 13) || (c == 10)) ≡ false → step default_config st.StartRecord c ≡ step default_config st.StartField c
-start-record c e = rw e refl
-
 no-quote : (c : ℕ) → ends_field c ≡ true → (c == 34) ≡ false
 no-quote c e = grind (arith, nat_tests, e)
 

@@ -1,5 +1,5 @@
 -- The bytes of a file that are left, and the record that is cut from them.
-use Rattle.std.specs.Prelude.{◌≡◌, ◌≤◌, ◌++◌, ◌⊎◌, true, false, ℕ, List, [], ◌∷◌, length, drop, Option, Some, option_map, if◌then◌else◌}
+use Rattle.std.specs.Prelude.{◌≡◌, ◌≤◌, ◌++◌, ◌⊎◌, Bool, MatchBool, true, false, ℕ, List, [], ◌∷◌, length, drop, Option, Some, option_map, if◌then◌else◌}
 use Rattle.std.specs.Io.KnownBytes.{IsAtEnd, Keeps, prepend_known}
 use Rattle.csv.specs.Reading.{default_config, records, strip_bom}
 use Rattle.fq_csv.specs.Cutting.{fields_at}
@@ -51,3 +51,7 @@ pub record TakesRecord {R : Type 0} (remaining : R → Option (List ℕ)) (old n
 pub record TakesNone {R : Type 0} (remaining : R → Option (List ℕ)) (old : Buffer R) (before after : List Place) : Type 0 where
   pub same : after ≡ before
   pub none : (bytes : List ℕ) → unread_of remaining old ≡ Some bytes → records default_config bytes ≡ []
+
+-- the next record was taken where there is one, or none is left
+abbrev pub TakesNext : {R : Type 0} → (R → Option (List ℕ)) → Buffer R → Buffer R → List Place → List Place → Bool → Type 0
+TakesNext remaining old new before after found = MatchBool found (TakesRecord remaining old new before after) (TakesNone remaining old before after)

@@ -1,7 +1,7 @@
 // The bytes of a file, from which records are cut.
-ghost use Rattle.std.specs.Prelude.{◌≡◌, ◌≤◌, ◌<◌, ◌++◌, ℕ, List, All, MatchBool, false, true, length, IfOk, IfErr, OnErr, OnOk};
+ghost use Rattle.std.specs.Prelude.{◌≡◌, ◌≤◌, ◌<◌, ◌++◌, ℕ, List, All, false, true, length, IfOk, IfErr, OnErr, OnOk};
 ghost use Rattle.std.specs.Io.KnownBytes.{Keeps};
-ghost use Rattle.fq_csv.specs.Buffer.{FailsBy, IsSound, KeepsFields, ReadsOn, TakesNone, TakesRecord, left_of, unread_of};
+ghost use Rattle.fq_csv.specs.Buffer.{FailsBy, IsSound, KeepsFields, ReadsOn, TakesNext, left_of, unread_of};
 ghost use Rattle.fq_csv.specs.Cutting.{IsInside};
 ghost use Rattle.fq_csv.specs.Records.{StopsBy};
 
@@ -130,9 +130,7 @@ impl<R: Read> Buffer<R> {
         ensures failed { IfErr result (StopsBy self.old.file self.new.has_failed) }
         ensures goes_on { OnOk result (self.new.has_failed ≡ self.old.has_failed) }
         ensures kept { OnOk result (KeepsFields self.old self.new places.old.items) }
-        ensures taken { IfOk result (λ found. MatchBool found
-            (TakesRecord R.remaining self.old self.new places.old.items places.new.items)
-            (TakesNone R.remaining self.old places.old.items places.new.items)) }
+        ensures taken { IfOk result (TakesNext R.remaining self.old self.new places.old.items places.new.items) }
     {
         loop {
             if let Some(next) = cut_record(self.text.as_slice(), self.at, self.is_last, places)? {
@@ -158,9 +156,7 @@ impl<R: Read> Buffer<R> {
         ensures failed { IfErr result (StopsBy self.old.file self.new.has_failed) }
         ensures goes_on { OnOk result (self.new.has_failed ≡ self.old.has_failed) }
         ensures kept { OnOk result (KeepsFields self.old self.new places.old.items) }
-        ensures taken { IfOk result (λ found. MatchBool found
-            (TakesRecord R.remaining self.old self.new places.old.items places.new.items)
-            (TakesNone R.remaining self.old places.old.items places.new.items)) }
+        ensures taken { IfOk result (TakesNext R.remaining self.old self.new places.old.items places.new.items) }
     {
         if !self.has_begun {
             self.begin()?;
@@ -174,7 +170,7 @@ impl<R: Read> Buffer<R> {
         ensures sound { IsSound R.remaining self.new }
         ensures file { self.new.file ≡ self.old.file }
         ensures failed { self.new.has_failed ≡ self.old.has_failed }
-        ensures at { OnErr result (self.new.at ≡ self.old.at) }
+        ensures refused { OnErr result (self.new ≡ self.old) }
         ensures text { IfOk result (λ text. text.items ≡ self.old.text.items) }
         ensures left { OnOk result (unread_of R.remaining self.new ≡ unread_of R.remaining self.old) }
     {

@@ -1,23 +1,20 @@
 // Fields in a text.
-ghost use Rattle.std.specs.Prelude.{◌≡◌, ◌≤◌, ◌<◌, ◌==◌, ℕ, List, [], None, drop, length, map, true, get_or, IfOk, IfSome, IfNone, OnOk, OnErr};
-ghost use Rattle.std.specs.Simd.Lanes.{mask_l};
+ghost use Rattle.std.specs.Prelude.{◌≡◌, ◌≤◌, ◌<◌, ◌==◌, ℕ, List, [], None, drop, length, true, get_or, IfOk, IfSome, IfNone, OnOk, OnErr};
 ghost use Rattle.csv.specs.declared.parser.State.TheVariants.{AfterQuote, InQuoted, StartField};
 ghost use Rattle.fq_csv.specs.Cutting.{CutsRecord, FieldEnds, IsInside, NoneEnds, NoQuote, Stands, StartsAt, between, ends_field, ends_within, field_at, next_of, quotes_after, unquoted, without_quotes};
 ghost use Rattle.fq_csv.specs.declared.cutting.Quotes.TheVariants as quotes;
 
+use crate::lanes::{LANES, marks_of};
 use memchr::memchr;
 use std::alloc::AllocError;
 use std::simd::prelude::*;
 
-// How many bytes are looked at at once.
-const LANES: usize = 16;
-
 /// Where a field stands in a text.
 #[derive(Clone, Copy)]
-pub struct Place {
+pub(crate) struct Place {
     pub(crate) start: usize,
     pub(crate) end: usize,
-    /// Whether there are quotes among its bytes that are no part of the field.
+    /// Whether its bytes contain quotes that aren't part of the field.
     pub(crate) is_raw: bool,
 }
 
@@ -26,14 +23,6 @@ fn ends_field(byte: u8) -> bool
     ensures { result ≡ ends_field byte }
 {
     byte == b',' || byte == b'\r' || byte == b'\n'
-}
-
-// Which of sixteen bytes are this one: bit k tells of byte k.
-#[inline]
-fn marks_of(bytes: u8x16, byte: u8) -> u64
-    ensures { result ≡ mask_l (map (λ b. b == byte) bytes) }
-{
-    bytes.simd_eq(u8x16::splat(byte)).to_bitmask()
 }
 
 // Where the first of sixteen bytes is that ends a field.
@@ -49,7 +38,7 @@ fn first_end(bytes: u8x16) -> Option<usize>
     Some(marks.trailing_zeros() as usize)
 }
 
-/// Where a field that is not quoted ends.
+// Where a field that is not quoted ends.
 fn plain_end(text: &[u8], from: usize) -> usize
     requires { from ≤ length text.now }
     ensures low { from ≤ result }
@@ -72,17 +61,6 @@ fn plain_end(text: &[u8], from: usize) -> usize
     text.len()
 }
 
-/// How far the quotes of a field are.
-#[derive(Clone, Copy)]
-enum Quotes {
-    /// The field is quoted from here on.
-    Open,
-    /// A quote came, which another one makes a quote of the field, and all else makes the last.
-    Closing,
-    /// The last quote came.
-    Closed,
-}
-
 // Where the first quote is, or the end of the text.
 fn quote_from(text: &[u8], from: usize) -> usize
     requires { from ≤ length text.now }
@@ -95,6 +73,17 @@ fn quote_from(text: &[u8], from: usize) -> usize
         Some(i) => from + i,
         None => text.len(),
     }
+}
+
+/// How far the quotes of a field are.
+#[derive(Clone, Copy)]
+enum Quotes {
+    /// The field is quoted from here on.
+    Open,
+    /// A quote came, which another one makes a quote of the field, and all else makes the last.
+    Closing,
+    /// The last quote came.
+    Closed,
 }
 
 impl Quotes {

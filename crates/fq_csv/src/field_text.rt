@@ -7,15 +7,13 @@ ghost use Rattle.std.specs.List.{list_any};
 ghost use Rattle.std.specs.Fmt.{decimal, signed_decimal};
 ghost use Rattle.csv.specs.Writing.{default_writer, field_text, needs_quotes, quoted};
 
+use crate::lanes::{LANES, marks_of};
 use fq_column::Memory;
 use itoa::write_digits;
 use std::simd::prelude::*;
 
 /// The most digits of a number.
 const DIGITS: usize = 20;
-
-/// How many bytes of a text are tested at a time.
-const LANES: usize = 16;
 
 /// Appends a field that needs no quotes, with no test of its bytes.
 #[inline]
@@ -139,5 +137,5 @@ fn has_special(bytes: u8x16) -> bool
 fn holds(bytes: u8x16, byte: u8) -> bool
     ensures { result ≡ list_any (λ b. b == byte) bytes }
 {
-    bytes.simd_eq(u8x16::splat(byte)).to_bitmask() != 0
+    marks_of(bytes, byte) != 0
 }

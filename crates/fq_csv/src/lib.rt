@@ -10,6 +10,7 @@ mod field_text;
 mod fields;
 mod frames;
 mod headers;
+mod lanes;
 mod laws;
 mod printing;
 mod raw_fields;

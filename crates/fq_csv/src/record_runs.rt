@@ -51,7 +51,7 @@ impl RecordRun {
     /// The rows that the records are, in a batch, and the fault that ends them: `BadCell` at the first record with a field
     /// that is no cell of its column.
     ///
-    /// Takes the memory of the batch's columns and of texts over 16 bytes. `Memory` where a growth is refused.
+    /// Takes the memory of the batch's columns, of texts over 16 bytes, and of one field with doubled quotes. `Memory` where a growth is refused.
     pub fn into_batch(self, alloc: Global) -> Result<(Batch, Option<ScanFault>), Memory>
         ensures { IfOk result (λ r. ReadsRun self r.0 r.1) }
     {

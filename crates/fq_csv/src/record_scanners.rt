@@ -56,7 +56,7 @@ impl<R: Read> RecordScanner<R> {
     /// [`MAX_BATCH_SIZE`].
     ///
     /// The first record must be the schema's names. More rows than `limit`, at most [`MAX_ROWS`], are a fault. The reader's
-    /// bytes are buffered here, and nothing is read yet. `Memory` where a growth is refused.
+    /// bytes are buffered here, and nothing is read yet, nor memory taken.
     pub fn new(
         alloc: Global,
         reader: R,

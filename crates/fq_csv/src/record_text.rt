@@ -7,7 +7,7 @@ ghost use Rattle.fq_csv.specs.Printed.{cell_text, printed_names, printed_rows, r
 use crate::field_text::{push_plain, push_text, push_whole};
 use fq_column::{Batch, Column, Memory, Schema, Values};
 
-/// How many bytes a field takes in most files; where fields take more, the text grows as they come.
+/// The bytes to reserve for each field. The text grows where fields are longer.
 const FIELD_ROOM: usize = 8;
 
 /// Appends the names of columns as a record.

@@ -1,5 +1,5 @@
 // The records of a file.
-ghost use Rattle.std.specs.Prelude.{◌≡◌, [], MatchBool, false, IfOk, IfErr, OnOk, length, option_map, take};
+ghost use Rattle.std.specs.Prelude.{◌≡◌, [], MatchBool, false, IfOk, IfErr, OnErr, OnOk, length, option_map, take};
 ghost use Rattle.csv.specs.Reading.{default_config, records as records_of, strip_bom};
 ghost use Rattle.fq_csv.specs.File.{Record};
 ghost use Rattle.fq_csv.specs.Records.{IsOver, StopsBy, Takes};
@@ -93,6 +93,7 @@ impl<R: Read> Records<R> {
         ensures file { self.new.file ≡ self.old.file }
         ensures fields { IfOk result (λ fields. fields ≡ self.old.taken) }
         ensures rest { OnOk result (self.new ≡ record self.old { taken = [] }) }
+        ensures refused { OnErr result (self.new ≡ self.old) }
     {
         let text = self.buffer.take_text(alloc)?;
         let places = mem::replace(&mut self.places, Vec::new(alloc));
