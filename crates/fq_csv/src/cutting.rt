@@ -4,7 +4,7 @@ ghost use Rattle.csv.specs.declared.parser.State.TheVariants.{AfterQuote, InQuot
 ghost use Rattle.fq_csv.specs.Cutting.{CutsRecord, FieldEnds, IsInside, NoneEnds, NoQuote, Stands, StartsAt, between, ends_field, ends_within, field_at, next_of, quotes_after, unquoted, without_quotes};
 ghost use Rattle.fq_csv.specs.declared.cutting.Quotes.TheVariants as quotes;
 
-use crate::lanes::{LANES, marks_of};
+use crate::blocks::{LANES, marks_of};
 use memchr::memchr;
 use std::alloc::AllocError;
 use std::simd::prelude::*;

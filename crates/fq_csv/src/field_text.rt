@@ -7,7 +7,7 @@ ghost use Rattle.std.specs.List.{list_any};
 ghost use Rattle.std.specs.Fmt.{decimal, signed_decimal};
 ghost use Rattle.csv.specs.Writing.{default_writer, field_text, needs_quotes, quoted};
 
-use crate::lanes::{LANES, marks_of};
+use crate::blocks::{LANES, marks_of};
 use fq_column::Memory;
 use itoa::write_digits;
 use std::simd::prelude::*;

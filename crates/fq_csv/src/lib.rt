@@ -2,6 +2,7 @@
 #![tactic(auto)]
 
 mod batches;
+mod blocks;
 mod buffers;
 mod cells;
 mod cutting;
@@ -10,7 +11,6 @@ mod field_text;
 mod fields;
 mod frames;
 mod headers;
-mod lanes;
 mod laws;
 mod printing;
 mod raw_fields;

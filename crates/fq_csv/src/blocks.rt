@@ -1,10 +1,10 @@
-// Bytes that are looked at sixteen at once.
+// Blocks of sixteen bytes, which are looked at at once.
 ghost use Rattle.std.specs.Prelude.{◌≡◌, ◌==◌, map};
 ghost use Rattle.std.specs.Simd.Lanes.{mask_l};
 
 use std::simd::prelude::*;
 
-/// How many bytes are looked at at once.
+/// How many bytes a block has.
 pub(crate) const LANES: usize = 16;
 
 /// Which of sixteen bytes are this one: bit k tells of byte k.
