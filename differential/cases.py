@@ -182,8 +182,19 @@ def source(draw):
     return {"files": draw.choice([1, 1, 1, 2, 3]), "columns": columns}
 
 
+def null_values(draw):
+    """Texts that are read as null: some that stand in the files, seldom the beginning or the end of one."""
+    texts = ["NA", "-", *TEXTS[:6], "0", "1", "-7", "true", "FALSE", "0x", str(GREATEST)[:-1]]
+    most = 17 if draw.often(2) else 4
+    return [draw.choice(texts) for _ in range(draw.randint(0, most))]
+
+
 def plan(draw):
+    version = draw.choice([1, 2])
     sources = [source(draw) for _ in range(draw.choice([1, 1, 2, 2, 3]))]
+    for one in sources:
+        if draw.often(60 if version == 2 else 0.5):
+            one["null_values"] = null_values(draw)
     if draw.often(3):
         sources[-1]["files"] = MOST_FILES - sum(one["files"] for one in sources[:-1])
     main = sources[-1]["columns"]
@@ -191,7 +202,7 @@ def plan(draw):
         if main and draw.often(80):
             key = draw.choice(main)
             joined["columns"] = [key] + [column for column in joined["columns"] if column[0] != key[0]]
-    return {"version": 1, "sources": sources, "steps": steps(draw, sources)}
+    return {"version": version, "sources": sources, "steps": steps(draw, sources)}
 
 
 def shuffled(draw, value):
@@ -233,7 +244,7 @@ def with_other_part(draw, value):
     if change == 0:
         del holder[key]
     elif change == 1 and isinstance(holder, dict):
-        holder[draw.choice(["extra", "min_samples", "col"])] = draw.choice(STRANGE)
+        holder[draw.choice(["extra", "min_samples", "col", "null_values"])] = draw.choice(STRANGE)
     elif change == 2 and isinstance(holder, list):
         holder.insert(key, draw.choice(STRANGE))
     else:
@@ -283,7 +294,7 @@ def with_other_bytes(draw, text):
 
 def with_double_version(draw, value):
     """A text in which the version is given twice; the last counts."""
-    first, last = draw.choice([(1, 2), (2, 1)])
+    first, last = draw.choice([(1, 2), (2, 1), (1, 3), (3, 2)])
     return text_of(draw, {**value, "version": first})[:-1] + b', "version": %d}' % last
 
 
@@ -309,7 +320,9 @@ Care = namedtuple("Care", "edges long wrong")
 WRONG_FIELDS = ["1.5", "no", " 1", "1 ", "+-1", "+", "-", "9223372036854775808", "-9223372036854775809", "1e3", "٣", "truE "]
 
 
-def field(draw, kind, care):
+def field(draw, kind, care, nulls):
+    if nulls and draw.often(15):
+        return draw.choice(nulls).encode()
     if draw.often(care.wrong):
         return draw.choice(WRONG_FIELDS).encode() if draw.often(90) else b"\xff"
     if draw.often(18):
@@ -348,19 +361,19 @@ def header(draw, columns, care):
     return line(draw, names, care)
 
 
-def row(draw, columns, care):
-    fields = [field(draw, kind, care) for _, kind in columns]
+def row(draw, columns, care, nulls):
+    fields = [field(draw, kind, care, nulls) for _, kind in columns]
     if draw.often(care.wrong / 2):
         fields = draw.choice([[*fields, b"1"], fields[1:] or [b"", b""]])
     return line(draw, fields, care)
 
 
-def csv_file(draw, columns, most_rows, care):
+def csv_file(draw, columns, most_rows, care, nulls):
     if draw.often(care.wrong / 2):
         return draw.choice([b"", b"\n\n", b"\xef\xbb\xbf"])
     lines = [header(draw, columns, care)]
     for _ in range(draw.randint(0, most_rows)):
-        lines.append(row(draw, columns, care))
+        lines.append(row(draw, columns, care, nulls))
         if draw.often(3):
             lines.append(b"")
     ends = draw.choice([[b"\n"], [b"\n"], [b"\r\n"], [b"\r"], [b"\n", b"\r\n", b"\r"]])
@@ -379,7 +392,8 @@ def files_of(draw, value):
     for place, one in enumerate(value["sources"]):
         is_main = place == len(value["sources"]) - 1
         most_rows = 1500 if is_main and draw.often(1) else 12
-        files += [csv_file(draw, one["columns"] or [["a", "int"]], most_rows, care) for _ in range(one["files"])]
+        columns, nulls = one["columns"] or [["a", "int"]], one.get("null_values", [])
+        files += [csv_file(draw, columns, most_rows, care, nulls) for _ in range(one["files"])]
     if draw.often(2):
         files = draw.choice([files + [b"a\n"], files[1:] or [b"a\n", b"a\n"]])
     return files

@@ -38,7 +38,7 @@ def fits(number):
 # ---- plans as data
 
 Plan = namedtuple("Plan", "sources steps")
-Source = namedtuple("Source", "files columns")
+Source = namedtuple("Source", "files columns nulls")
 
 Column = namedtuple("Column", "name")
 Literal = namedtuple("Literal", "kind cell")
@@ -256,16 +256,22 @@ def step_of(value):
     return STEPS[name](member)
 
 
-def source_of(value):
+def source_of(version, value):
+    texts = []
+    if version == 2 and isinstance(value, dict) and "null_values" in value:
+        texts = names_of(value["null_values"])
+        require(len(texts) <= 16)
+        value = {name: part for name, part in value.items() if name != "null_values"}
     files, columns = members_of(("files", "columns"), value)
     require(1 <= whole_of(files) <= 16)
-    return Source(files, list_of(lambda column: pair_of(name_of, kind_word, column), columns))
+    nulls = {text.encode() for text in texts}
+    return Source(files, list_of(lambda column: pair_of(name_of, kind_word, column), columns), nulls)
 
 
 def plan_of(value):
     version, sources, steps = members_of(("version", "sources", "steps"), value)
-    require(whole_of(version) == 1)
-    plan = Plan(list_of(source_of, sources), list_of(step_of, steps))
+    require(whole_of(version) in (1, 2))
+    plan = Plan(list_of(lambda source: source_of(version, source), sources), list_of(step_of, steps))
     require(1 <= len(plan.sources) <= 8 and len(plan.steps) <= 64 and files_wanted(plan) <= 16)
     return plan
 
@@ -496,8 +502,8 @@ def cell_of(kind, field):
     return int(field)
 
 
-def row_of(file, number, columns, record):
-    """The row that a record is: its width is judged first, then its fields from the left."""
+def row_of(file, number, columns, nulls, record):
+    """The row that a record is: its width is judged first, then its fields from the left. Those among `nulls` are null."""
     if number > MOST_ROWS_OF_A_FILE:
         raise Fault(f"file {file}: too many rows")
     if len(record) != len(columns):
@@ -505,19 +511,19 @@ def row_of(file, number, columns, record):
     row = {}
     for place, ((name, kind), field) in enumerate(zip(columns.items(), record)):
         try:
-            row[name] = cell_of(kind, field)
+            row[name] = None if field in nulls else cell_of(kind, field)
         except ValueError:
             raise Fault(f"file {file}, row {number}, column {place}: bad cell") from None
     return row
 
 
-def stream_of_file(file, columns, data):
+def stream_of_file(file, columns, nulls, data):
     """The stream of a file with this number: the first record is the header, each later one a row."""
     records = records_of(data)
     if not records or records[0] != [name.encode() for name in columns]:
         return Stream([], f"file {file}: header differs")
     numbered = Stream(list(enumerate(records[1:], 1)), None)
-    return one_by_one(numbered, lambda pair: [row_of(file, pair[0], columns, pair[1])])
+    return one_by_one(numbered, lambda pair: [row_of(file, pair[0], columns, nulls, pair[1])])
 
 
 def streams_of_sources(plan, sources, files):
@@ -525,7 +531,7 @@ def streams_of_sources(plan, sources, files):
     streams, first = [], 0
     for source, columns in zip(plan.sources, sources):
         numbers = range(first, first + source.files)
-        streams.append(joined([stream_of_file(number, columns, files[number]) for number in numbers]))
+        streams.append(joined([stream_of_file(number, columns, source.nulls, files[number]) for number in numbers]))
         first += source.files
     return streams
 

@@ -22,5 +22,5 @@ pub use cells::{Cell, Kind};
 pub use columns::{Column, Values};
 pub use faults::{BatchFault, Memory, StepFault};
 pub use laws::{cell_laws, stream_laws};
-pub use schemas::Schema;
+pub use schemas::{Schema, copy_strings};
 pub use texts::Text;

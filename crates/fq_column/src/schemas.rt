@@ -113,7 +113,7 @@ impl Schema {
     pub fn copy(&self, alloc: Global) -> Result<Schema, Memory>
         ensures { IfOk result (λ s. s ≡ self.now) }
     {
-        let names = copy_names(alloc, self.names.as_slice())?;
+        let names = copy_strings(alloc, self.names.as_slice())?;
         let mut kinds = Vec::with_capacity(alloc, self.kinds.len())?;
         kinds.extend_from_slice(self.kinds.as_slice())?;
         Ok(Schema { names, kinds })
@@ -148,13 +148,13 @@ fn has_double(names: &[String]) -> bool
     }
 }
 
-// Copies of the names.
-fn copy_names(alloc: Global, names: &[String]) -> Result<Vec<String>, Memory>
-    ensures { IfOk result (λ copies. map string_bytes copies.items ≡ map string_bytes names.now) }
+/// Copies of strings, in memory of their own.
+pub fn copy_strings(alloc: Global, strings: &[String]) -> Result<Vec<String>, Memory>
+    ensures { IfOk result (λ copies. map string_bytes copies.items ≡ map string_bytes strings.now) }
 {
-    let mut copies = Vec::with_capacity(alloc, names.len())?;
-    for name in names {
-        copies.push(String::from_str(alloc, name.as_str())?)?;
+    let mut copies = Vec::with_capacity(alloc, strings.len())?;
+    for string in strings {
+        copies.push(String::from_str(alloc, string.as_str())?)?;
     }
     Ok(copies)
 }

@@ -8,6 +8,7 @@ use Rattle.fq_csv.specs.RecordScan.{GivesNoRun, GivesRun, records_left_at}
 use Rattle.fq_csv.specs.Records.{Unread}
 use Rattle.fq_csv.specs.Rows.{EndsAt}
 use Rattle.fq_csv.specs.Taking.{ReadsRecords, RecordStream, RecordsGoOn, records_after, records_in, then_records, without_records}
+use Rattle.fq_csv.specs.declared.layouts.Layout.{Layout}
 use Rattle.fq_csv.specs.declared.spans.Span.{Span}
 use Rattle.fq_csv.specs.declared.stages.Stage.{Stage}
 use Rattle.fq_csv.specs.declared.stages.Stage.TheVariants as stage
@@ -31,37 +32,37 @@ cut (stage.Closed fault) size rs u v fields limit at new n g e =
     )
 cut (stage.Failed fault) size rs u v fields limit at new n g e = absurd n
 
-module _ (span : Span) (fields : Fields) (old new : Unread) (after : Stage) (count : ℕ) (fs : Record) where
-  pub gives-run : new.file ≡ old.file → new.stopped ≡ old.stopped → ReadsRecords span (length fields) old new after count fs → 0 < count
-      → GivesRun span fields old new stage.Rows after (record { file = old.file; fields = fields; before = span.from; records = records_in count (length fields) fs })
+module _ (span : Span) (layout : Layout) (old new : Unread) (after : Stage) (count : ℕ) (fs : Record) where
+  pub gives-run : new.file ≡ old.file → new.stopped ≡ old.stopped → ReadsRecords span (length layout.schema) old new after count fs → 0 < count
+      → GivesRun span layout old new stage.Rows after (record { file = old.file; layout = layout; before = span.from; records = records_in count (length layout.schema) fs })
   gives-run file stopped r some =
-      let rs = records_in count (length fields) fs in
-      let many : length rs ≡ count = length-records_in count (length fields) fs in
+      let rs = records_in count (length layout.schema) fs in
+      let many : length rs ≡ count = length-records_in count (length layout.schema) fs in
       let ends : EndsAt after span.size (length rs) = subst (λ n. EndsAt after span.size n) (sym many) r.ends in
       record {
         file = refl;
-        columns = refl;
+        same_layout = refl;
         place = refl;
         some = omega (arith, many, some);
         in_limit = omega (arith, many, r.in_limit);
         count = ends;
         stopped = stopped;
         stream = λ u e.
-            let m = mapped (records_after old.file (length fields) span.limit span.from) old.upcoming u e in
-            let g = subst (λ (w : RecordStream). RecordsGoOn after rs w (option_map (records_after old.file (length fields) span.limit (span.from + count)) new.upcoming)) (sym m.2) (r.goes_on m.0 m.1) in
-            cut after span.size rs u _ fields span.limit (span.from + length rs) new ends g
-            (ap (λ f. option_map (records_after f (length fields) span.limit (span.from + count)) new.upcoming) (sym file) ∙ ap (λ n. option_map (records_after new.file (length fields) span.limit (span.from + n)) new.upcoming) (sym many));
+            let m = mapped (records_after old.file (length layout.schema) span.limit span.from) old.upcoming u e in
+            let g = subst (λ (w : RecordStream). RecordsGoOn after rs w (option_map (records_after old.file (length layout.schema) span.limit (span.from + count)) new.upcoming)) (sym m.2) (r.goes_on m.0 m.1) in
+            cut after span.size rs u _ layout.schema span.limit (span.from + length rs) new ends g
+            (ap (λ f. option_map (records_after f (length layout.schema) span.limit (span.from + count)) new.upcoming) (sym file) ∙ ap (λ n. option_map (records_after new.file (length layout.schema) span.limit (span.from + n)) new.upcoming) (sym many));
       }
 
-  pub gives-none : ReadsRecords span (length fields) old new after count fs → count ≡ 0 → GivesNoRun span fields old new stage.Rows after
-  gives-none r none = go after r.ends (λ before e. subst (λ n. RecordsGoOn after (records_in n (length fields) fs) (records_after old.file (length fields) span.limit span.from before) (option_map (records_after old.file (length fields) span.limit (span.from + n)) new.upcoming)) none (r.goes_on before e))
+  pub gives-none : ReadsRecords span (length layout.schema) old new after count fs → count ≡ 0 → GivesNoRun span layout.schema old new stage.Rows after
+  gives-none r none = go after r.ends (λ before e. subst (λ n. RecordsGoOn after (records_in n (length layout.schema) fs) (records_after old.file (length layout.schema) span.limit span.from before) (option_map (records_after old.file (length layout.schema) span.limit (span.from + n)) new.upcoming)) none (r.goes_on before e))
     where
       go : (s : Stage) → EndsAt s span.size count
-          → ((before : List Record) → old.upcoming ≡ Some before → RecordsGoOn s [] (records_after old.file (length fields) span.limit span.from before) (option_map (records_after old.file (length fields) span.limit (span.from + 0)) new.upcoming))
-          → GivesNoRun span fields old new stage.Rows s
+          → ((before : List Record) → old.upcoming ≡ Some before → RecordsGoOn s [] (records_after old.file (length layout.schema) span.limit span.from before) (option_map (records_after old.file (length layout.schema) span.limit (span.from + 0)) new.upcoming))
+          → GivesNoRun span layout.schema old new stage.Rows s
       go stage.Header n g = absurd n
       go stage.Rows n g = absurd (omega (arith, n, none, span.some))
-      go (stage.Closed fault) n g = (λ e. n.1, λ u e. let m = mapped (records_after old.file (length fields) span.limit span.from) old.upcoming u e in m.2 ∙ g m.0 m.1)
+      go (stage.Closed fault) n g = (λ e. n.1, λ u e. let m = mapped (records_after old.file (length layout.schema) span.limit span.from) old.upcoming u e in m.2 ∙ g m.0 m.1)
       go (stage.Failed fault) n g = absurd n
 
 -- the fields taken before are forgotten, and those taken were handed out

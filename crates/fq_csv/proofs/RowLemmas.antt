@@ -8,7 +8,7 @@ use Rattle.fq_column.specs.Column.{Cells}
 use Rattle.fq_column.specs.Frame.{Row, rows_of}
 use Rattle.fq_column.specs.Lists.{zip_with, all_or_missing}
 use Rattle.fq_column.proofs.ListLemmas.{zip_with-append, length-zip_with}
-use Rattle.fq_csv.specs.Field.{cell_of}
+use Rattle.fq_csv.specs.Field.{cell_under}
 use Rattle.fq_csv.specs.File.{Record}
 use Rattle.fq_csv.specs.Rows.{Holds, first_cells, kinds_in, row_by_kinds, with_cell, with_row}
 
@@ -19,8 +19,8 @@ abbrev pub columns_after : List Cells → ℕ → List Cell → List Cells
 columns_after columns i cells = with_row (take i columns) cells ++ drop i columns
 
 -- the cells that the first i fields of a record are
-abbrev pub AreCells : List Cells → Record → ℕ → List Cell → Type 0
-AreCells columns fs i cells = (length cells ≡ i) × (map Some cells ≡ take i (zip_with cell_of (kinds_in columns) fs))
+abbrev pub AreCells : List (List ℕ) → List Cells → Record → ℕ → List Cell → Type 0
+AreCells nulls columns fs i cells = (length cells ≡ i) × (map Some cells ≡ take i (zip_with (cell_under nulls) (kinds_in columns) fs))
 
 -- the next column is as it was
 pub column-at : (columns : List Cells) (i : ℕ) (cells : List Cell) (d : Cells) → length cells ≡ i → i < length columns → get_or (columns_after columns i cells) i d ≡ get_or columns i d
@@ -38,12 +38,12 @@ columns-step (x ∷ xs) (suc i) [] cell d e h = absurd (omega (arith, e))
 columns-step (x ∷ xs) (suc i) (c ∷ cells) cell d e h = ap (λ ys. with_cell x c ∷ ys) (columns-step xs i cells cell d (omega (arith, e)) (omega (arith, h)))
 
 -- the cell, or none, that the next field is
-pub cell-at : (columns : List Cells) (fs : Record) (i : ℕ) (d : Cells) (f : List ℕ) → i < length columns → Some f ≡ slice_get fs i
-    → slice_get (zip_with cell_of (kinds_in columns) fs) i ≡ Some (cell_of (get_or columns i d).kind f)
-cell-at [] fs i d f h e = absurd (omega (arith, h))
-cell-at (x ∷ xs) [] i d f h e = cc e
-cell-at (x ∷ xs) (g ∷ fs) zero d f h e = let s : f ≡ g = cc in rw s refl
-cell-at (x ∷ xs) (g ∷ fs) (suc i) d f h e = cell-at xs fs i d f (omega (arith, h)) e
+pub cell-at : (nulls : List (List ℕ)) (columns : List Cells) (fs : Record) (i : ℕ) (d : Cells) (f : List ℕ) → i < length columns → Some f ≡ slice_get fs i
+    → slice_get (zip_with (cell_under nulls) (kinds_in columns) fs) i ≡ Some (cell_under nulls (get_or columns i d).kind f)
+cell-at nulls [] fs i d f h e = absurd (omega (arith, h))
+cell-at nulls (x ∷ xs) [] i d f h e = cc e
+cell-at nulls (x ∷ xs) (g ∷ fs) zero d f h e = let s : f ≡ g = cc in rw s refl
+cell-at nulls (x ∷ xs) (g ∷ fs) (suc i) d f h e = cell-at nulls xs fs i d f (omega (arith, h)) e
 
 pub cells-step : (os : List (Option Cell)) (i : ℕ) (cells : List Cell) (cell : Cell) → map Some cells ≡ take i os → slice_get os i ≡ Some (Some cell) → map Some (cells ++ cell ∷ []) ≡ take (suc i) os
 cells-step [] i cells cell e s = cc s
@@ -69,10 +69,10 @@ missing-at (o ∷ os) (suc i) (c ∷ cells) e s =
     rw (first, missing-at os i cells rest s) refl
 
 -- the whole row
-pub row-done : (columns : List Cells) (fs : Record) (cells : List Cell) → length fs ≡ length columns → AreCells columns fs (length columns) cells → row_by_kinds (kinds_in columns) fs ≡ Ok cells
-row-done columns fs cells e h = ap all_or_missing (sym (h.1 ∙ take_all _ _ (short columns fs))) ∙ all-there cells
+pub row-done : (nulls : List (List ℕ)) (columns : List Cells) (fs : Record) (cells : List Cell) → length fs ≡ length columns → AreCells nulls columns fs (length columns) cells → row_by_kinds nulls (kinds_in columns) fs ≡ Ok cells
+row-done nulls columns fs cells e h = ap all_or_missing (sym (h.1 ∙ take_all _ _ (short columns fs))) ∙ all-there cells
   where
-    short : (xs : List Cells) (gs : Record) → length (zip_with cell_of (kinds_in xs) gs) ≤ length xs
+    short : (xs : List Cells) (gs : Record) → length (zip_with (cell_under nulls) (kinds_in xs) gs) ≤ length xs
     short [] gs = omega arith
     short (x ∷ xs) [] = omega arith
     short (x ∷ xs) (g ∷ gs) = omega (arith, short xs gs)
@@ -114,45 +114,45 @@ taken-back h (x ∷ xs) (suc i) (c ∷ cells) e a =
 -- ---- one field of a record
 
 -- the columns that are being added to, and the cells that were added
-abbrev pub Added : List Cells → Record → ℕ → List Cells → Type 0
-Added columns fs i now = (cells : List Cell) × AreCells columns fs i cells × (now ≡ columns_after columns i cells)
+abbrev pub Added : List (List ℕ) → List Cells → Record → ℕ → List Cells → Type 0
+Added nulls columns fs i now = (cells : List Cell) × AreCells nulls columns fs i cells × (now ≡ columns_after columns i cells)
 
-option-at : (columns : List Cells) (fs : Record) (i : ℕ) (now : List Cells) (d : Cells) (f : List ℕ) → (a : Added columns fs i now) → i < length columns → Some f ≡ slice_get fs i
-    → slice_get (zip_with cell_of (kinds_in columns) fs) i ≡ Some (cell_of (get_or now i d).kind f)
-option-at columns fs i now d f a h e =
+option-at : (nulls : List (List ℕ)) (columns : List Cells) (fs : Record) (i : ℕ) (now : List Cells) (d : Cells) (f : List ℕ) → (a : Added nulls columns fs i now) → i < length columns → Some f ≡ slice_get fs i
+    → slice_get (zip_with (cell_under nulls) (kinds_in columns) fs) i ≡ Some (cell_under nulls (get_or now i d).kind f)
+option-at nulls columns fs i now d f a h e =
     let cells = a.0 in
     let same : get_or now i d ≡ get_or columns i d = ap (λ ys. get_or ys i d) a.2 ∙ column-at columns i cells d a.1.0 h in
-    cell-at columns fs i d f h e ∙ ap (λ (y : Cells). Some (cell_of y.kind f)) (sym same)
+    cell-at nulls columns fs i d f h e ∙ ap (λ (y : Cells). Some (cell_under nulls y.kind f)) (sym same)
 
-pub Added-more : (columns : List Cells) (fs : Record) (i : ℕ) (now : List Cells) (d new : Cells) (f : List ℕ) (cell : Cell) → Added columns fs i now → i < length columns → Some f ≡ slice_get fs i
-    → cell_of (get_or now i d).kind f ≡ Some cell → new ≡ with_cell (get_or now i d) cell → Added columns fs (i + 1) (set now i new)
-Added-more columns fs i now d new f cell a h e g n =
+pub Added-more : (nulls : List (List ℕ)) (columns : List Cells) (fs : Record) (i : ℕ) (now : List Cells) (d new : Cells) (f : List ℕ) (cell : Cell) → Added nulls columns fs i now → i < length columns → Some f ≡ slice_get fs i
+    → cell_under nulls (get_or now i d).kind f ≡ Some cell → new ≡ with_cell (get_or now i d) cell → Added nulls columns fs (i + 1) (set now i new)
+Added-more nulls columns fs i now d new f cell a h e g n =
     let cells = a.0 in
     let up : suc i ≡ i + 1 = omega arith in
     let same : get_or now i d ≡ get_or columns i d = ap (λ ys. get_or ys i d) a.2 ∙ column-at columns i cells d a.1.0 h in
     let set_is : set now i new ≡ columns_after columns (suc i) (cells ++ cell ∷ []) =
     ap (set now i) (n ∙ ap (λ y. with_cell y cell) same) ∙ ap (λ ys. set ys i (with_cell (get_or columns i d) cell)) a.2 ∙ columns-step columns i cells cell d a.1.0 h in
     let count : length (cells ++ cell ∷ []) ≡ i + 1 = simp length-append (omega (arith, a.1.0)) in
-    let more = cells-step (zip_with cell_of (kinds_in columns) fs) i cells cell a.1.1 (option-at columns fs i now d f a h e ∙ ap Some g) in
-    (cells ++ cell ∷ [], (count, more ∙ ap (λ n. take n (zip_with cell_of (kinds_in columns) fs)) up), set_is ∙ ap (λ n. columns_after columns n (cells ++ cell ∷ [])) up)
+    let more = cells-step (zip_with (cell_under nulls) (kinds_in columns) fs) i cells cell a.1.1 (option-at nulls columns fs i now d f a h e ∙ ap Some g) in
+    (cells ++ cell ∷ [], (count, more ∙ ap (λ n. take n (zip_with (cell_under nulls) (kinds_in columns) fs)) up), set_is ∙ ap (λ n. columns_after columns n (cells ++ cell ∷ [])) up)
 
 -- a field that is no cell
-pub Added-bad : (height : ℕ) (columns : List Cells) (fs : Record) (i : ℕ) (now : List Cells) (d new : Cells) (f : List ℕ) → Added columns fs i now → i < length columns → Some f ≡ slice_get fs i
-    → cell_of (get_or now i d).kind f ≡ None → new ≡ get_or now i d → All (λ (c : Cells). length c.cells ≡ height) columns
-    → (row_by_kinds (kinds_in columns) fs ≡ Err i) × (map (first_cells height) (set now i new) ≡ columns)
-Added-bad height columns fs i now d new f a h e g n lengths = (
-  missing-at (zip_with cell_of (kinds_in columns) fs) i a.0 a.1.1 (option-at columns fs i now d f a h e ∙ ap Some g),
+pub Added-bad : (nulls : List (List ℕ)) (height : ℕ) (columns : List Cells) (fs : Record) (i : ℕ) (now : List Cells) (d new : Cells) (f : List ℕ) → Added nulls columns fs i now → i < length columns → Some f ≡ slice_get fs i
+    → cell_under nulls (get_or now i d).kind f ≡ None → new ≡ get_or now i d → All (λ (c : Cells). length c.cells ≡ height) columns
+    → (row_by_kinds nulls (kinds_in columns) fs ≡ Err i) × (map (first_cells height) (set now i new) ≡ columns)
+Added-bad nulls height columns fs i now d new f a h e g n lengths = (
+  missing-at (zip_with (cell_under nulls) (kinds_in columns) fs) i a.0 a.1.1 (option-at nulls columns fs i now d f a h e ∙ ap Some g),
   ap (map (first_cells height)) (ap (set now i) n ∙ set-get_or now i d ∙ a.2) ∙ taken-back height columns i a.0 a.1.0 lengths,
 )
 
 -- the whole record
-pub Added-done : (columns : List Cells) (fs : Record) (i : ℕ) (now : List Cells) → Added columns fs i now → length columns ≤ i → i ≤ length columns → length fs ≡ length columns
-    → (row : Row) × (row_by_kinds (kinds_in columns) fs ≡ Ok row) × (now ≡ with_row columns row) × (length row ≡ length columns)
-Added-done columns fs i now a up down e =
+pub Added-done : (nulls : List (List ℕ)) (columns : List Cells) (fs : Record) (i : ℕ) (now : List Cells) → Added nulls columns fs i now → length columns ≤ i → i ≤ length columns → length fs ≡ length columns
+    → (row : Row) × (row_by_kinds nulls (kinds_in columns) fs ≡ Ok row) × (now ≡ with_row columns row) × (length row ≡ length columns)
+Added-done nulls columns fs i now a up down e =
     let n : i ≡ length columns = omega (arith, up, down) in
     let cells = a.0 in
-    let are : AreCells columns fs (length columns) cells = (a.1.0 ∙ n, a.1.1 ∙ ap (λ k. take k (zip_with cell_of (kinds_in columns) fs)) n) in
-    (cells, row-done columns fs cells e are, a.2 ∙ ap (λ k. columns_after columns k cells) n ∙ columns-done columns cells, a.1.0 ∙ n)
+    let are : AreCells nulls columns fs (length columns) cells = (a.1.0 ∙ n, a.1.1 ∙ ap (λ k. take k (zip_with (cell_under nulls) (kinds_in columns) fs)) n) in
+    (cells, row-done nulls columns fs cells e are, a.2 ∙ ap (λ k. columns_after columns k cells) n ∙ columns-done columns cells, a.1.0 ∙ n)
 
 -- ---- the rows that stand in columns
 

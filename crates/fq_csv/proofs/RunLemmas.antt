@@ -12,6 +12,7 @@ use Rattle.fq_csv.proofs.LaneLemmas.{le-or-lt}
 use Rattle.fq_csv.specs.Run.{Follows, IsRun, answers, answers_from, framed}
 use Rattle.fq_csv.specs.Scan.{IsFailed, IsLastWord, IsNextBatch, Scanning}
 use Rattle.fq_csv.specs.Stage.{ended, without}
+use Rattle.fq_csv.specs.declared.layouts.Layout.{Layout}
 use Rattle.fq_csv.specs.declared.faults.ScanFault.{ScanFault}
 use Rattle.fq_csv.specs.declared.scans.Scan.{Scan}
 use Rattle.fq_csv.specs.declared.scans.Scan.TheVariants.{Batch, End}
@@ -83,27 +84,27 @@ failed file serial number batches fields fault [] end xs h = inr h
 failed file serial number batches fields fault (p ∷ ps) end xs h = inr h
 
 pub run-follows : (xs : List Scan) (old new : Scanning) (u : Stream ScanFault) → 0 < old.batch_size → old.upcoming ≡ Some u → IsRun old xs new
-    → Follows old.file (answers old.file old.fields old.batch_size old.serial u) xs
+    → Follows old.file (answers old.file old.layout.schema old.batch_size old.serial u) xs
 run-follows [] old new u hs e r = tt
 run-follows (Batch number serial batch ∷ xs) old new u hs e r =
     let mid : Scanning = r.0 in
     let form : IsNextBatch old number serial batch mid = r.1 in
     let out : (batch.rows ≡ take old.batch_size u.rows) × (mid.upcoming ≡ Some (without old.batch_size u)) = r.2 u e in
     let some : 0 < length u.rows = omega (arith, form.some, ap length out.0, length-take old.batch_size u.rows) in
-    let step = answers-next old.file old.batch_size old.fields old.serial u hs some in
-    let same : batch ≡ framed old.fields (take old.batch_size u.rows) = λ i. record { fields = form.schema i; rows = out.0 i } in
-    let first : ◌≡◌ {A = Scan} (Batch old.file old.serial (framed old.fields (take old.batch_size u.rows))) (Batch number serial batch) =
-    ap (λ f. Batch f old.serial (framed old.fields (take old.batch_size u.rows))) (sym form.number) ∙ ap (λ n. Batch number n (framed old.fields (take old.batch_size u.rows))) (sym form.in_order) ∙ ap (Batch number serial) (sym same) in
+    let step = answers-next old.file old.batch_size old.layout.schema old.serial u hs some in
+    let same : batch ≡ framed old.layout.schema (take old.batch_size u.rows) = λ i. record { fields = form.schema i; rows = out.0 i } in
+    let first : ◌≡◌ {A = Scan} (Batch old.file old.serial (framed old.layout.schema (take old.batch_size u.rows))) (Batch number serial batch) =
+    ap (λ f. Batch f old.serial (framed old.layout.schema (take old.batch_size u.rows))) (sym form.number) ∙ ap (λ n. Batch number n (framed old.layout.schema (take old.batch_size u.rows))) (sym form.in_order) ∙ ap (Batch number serial) (sym same) in
     let more = run-follows xs mid new (without old.batch_size u) (omega (arith, hs, form.same.size)) out.1 r.3 in
-    let rest = moved mid.file old.file mid.batch_size mid.serial (old.serial + 1) mid.fields old.fields old.batch_size (without old.batch_size u) xs form.same.file form.same.schema form.same.size form.counted more in
+    let rest = moved mid.file old.file mid.batch_size mid.serial (old.serial + 1) mid.layout.schema old.layout.schema old.batch_size (without old.batch_size u) xs form.same.file (ap (λ (l : Layout). l.schema) form.same.layout) form.same.size form.counted more in
     subst (λ (ys : List Scan). Follows old.file ys (Batch number serial batch ∷ xs)) (sym step) (first, rest)
 run-follows (End number batches fault ∷ xs) old new u hs e r =
     let form : IsLastWord old number batches fault r.0 = r.1 in
     let out : ((u ≡ ended fault) × (r.0.upcoming ≡ Some u)) ⊎ IsFailed old.file fault = r.2 u e in
     elim out [
       | inl h ↦
-          let step = ap (answers old.file old.fields old.batch_size old.serial) h.0 ∙ answers-last old.file old.batch_size old.fields old.serial fault in
+          let step = ap (answers old.file old.layout.schema old.batch_size old.serial) h.0 ∙ answers-last old.file old.batch_size old.layout.schema old.serial fault in
           let first : ◌≡◌ {A = Scan} (End old.file old.serial fault) (End number batches fault) = ap (λ f. End f old.serial fault) (sym form.number) ∙ ap (λ n. End number n fault) (sym form.counted) in
           subst (λ (ys : List Scan). Follows old.file ys (End number batches fault ∷ xs)) (sym step) (inl first)
-      | inr h ↦ failed old.file old.serial number batches old.fields fault (pieces old.batch_size u.rows) _ xs h
+      | inr h ↦ failed old.file old.serial number batches old.layout.schema fault (pieces old.batch_size u.rows) _ xs h
     ]

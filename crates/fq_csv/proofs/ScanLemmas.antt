@@ -4,7 +4,7 @@ use Rattle.std.proofs.Common.{◌≡◌, ◌<◌, ◌≤◌, ◌+◌, ◌-◌, �
 use Rattle.std.proofs.lemmas.Bool.{cases_Bool}
 use Rattle.std.proofs.lemmas.List.{append-nil, drop_all, length-take, length-take-le, take-append-drop, take_all}
 use Rattle.std.specs.Cmp.Lexicographic.{pointwise}
-use Rattle.fq_column.specs.Frame.{Fields, Frame, Row, names_of, same_name}
+use Rattle.fq_column.specs.Frame.{Frame, Row, names_of, same_name}
 use Rattle.fq_column.specs.Stream.{Stream, done, then_stream}
 use Rattle.fq_column.proofs.StreamLemmas.{then_stream-assoc}
 use Rattle.csv.specs.Reading.{default_config, records, strip_bom}
@@ -15,6 +15,7 @@ use Rattle.fq_csv.specs.Scan.{Scanning, batches_left, rows_ending}
 use Rattle.fq_csv.specs.Stage.{ended, without}
 use Rattle.fq_csv.specs.Taking.{FieldRun, HasNoRow, ReadsRun, RecordStream, over, record_fault, records_after, record_stream, records_under_header, rows_of_records, without_records}
 use Rattle.fq_csv.specs.declared.faults.ScanFault.{ScanFault}
+use Rattle.fq_csv.specs.declared.layouts.Layout.{Layout}
 use Rattle.fq_csv.specs.declared.faults.ScanFault.TheVariants.{TooLong, Width}
 use Rattle.fq_csv.proofs.RecordLemmas.{mapped}
 use Rattle.fq_csv.proofs.RowLemmas.{no-item}
@@ -36,58 +37,58 @@ option-case (Some x) = inr (x, refl)
 
 -- ---- the rows of records are those of the records that may be rows
 
-module _ (file : ℕ) (fields : Fields) (limit : ℕ) where
+module _ (file : ℕ) (layout : Layout) (limit : ℕ) where
   -- a fault that shows without a cell
-  fault-of-row : (n : ℕ) (r : Record) (fault : ScanFault) → record_fault file (length fields) limit n r ≡ Some fault → row_of file fields limit n r ≡ Err fault
+  fault-of-row : (n : ℕ) (r : Record) (fault : ScanFault) → record_fault file (length layout.schema) limit n r ≡ Some fault → row_of file layout limit n r ≡ Err fault
   fault-of-row n r fault e =
       elim (cases_Bool (nat_lt limit n)) [
         | inl t ↦ let s : TooLong file ≡ fault = (let q = rw t at e in cc q) in rw t (ap Err s)
-        | inr f ↦ elim (cases_Bool (not (length r == length fields))) [
+        | inr f ↦ elim (cases_Bool (not (length r == length layout.schema))) [
           | inl t ↦ let s : Width file n ≡ fault = (let q = rw (f, t) at e in cc q) in rw (f, t) (ap Err s)
           | inr g ↦ let q = rw (f, g) at e in cc q
         ]
       ]
 
-  pub rows-split : (n : ℕ) (xs ys : List Record) → rows_after file fields limit n (xs ++ ys) ≡ then_stream (rows_after file fields limit n xs) (rows_after file fields limit (n + length xs) ys)
-  rows-split n [] ys = ap (λ k. rows_after file fields limit k ys) (let z : n ≡ n + 0 = omega arith in z)
+  pub rows-split : (n : ℕ) (xs ys : List Record) → rows_after file layout limit n (xs ++ ys) ≡ then_stream (rows_after file layout limit n xs) (rows_after file layout limit (n + length xs) ys)
+  rows-split n [] ys = ap (λ k. rows_after file layout limit k ys) (let z : n ≡ n + 0 = omega arith in z)
   rows-split n (x ∷ xs) ys =
-      elim (result-case (row_of file fields limit (n + 1) x)) [
+      elim (result-case (row_of file layout limit (n + 1) x)) [
         | inl (rows, e) ↦
-            after-rows file fields limit n x (xs ++ ys) rows e
+            after-rows file layout limit n x (xs ++ ys) rows e
             ∙ ap (then_stream (done rows)) (rows-split (n + 1) xs ys)
-            ∙ sym (then_stream-assoc (done rows) (rows_after file fields limit (n + 1) xs) (rows_after file fields limit (n + 1 + length xs) ys))
-            ∙ ap (λ u. then_stream u (rows_after file fields limit (n + 1 + length xs) ys)) (sym (after-rows file fields limit n x xs rows e))
-            ∙ ap (λ k. then_stream (rows_after file fields limit n (x ∷ xs)) (rows_after file fields limit k ys)) (let z : n + 1 + length xs ≡ n + suc (length xs) = omega arith in z)
+            ∙ sym (then_stream-assoc (done rows) (rows_after file layout limit (n + 1) xs) (rows_after file layout limit (n + 1 + length xs) ys))
+            ∙ ap (λ u. then_stream u (rows_after file layout limit (n + 1 + length xs) ys)) (sym (after-rows file layout limit n x xs rows e))
+            ∙ ap (λ k. then_stream (rows_after file layout limit n (x ∷ xs)) (rows_after file layout limit k ys)) (let z : n + 1 + length xs ≡ n + suc (length xs) = omega arith in z)
         | inr (fault, e) ↦
-            after-fault file fields limit n x (xs ++ ys) fault e
-            ∙ ap (λ u. then_stream u (rows_after file fields limit (n + suc (length xs)) ys)) (sym (after-fault file fields limit n x xs fault e))
+            after-fault file layout limit n x (xs ++ ys) fault e
+            ∙ ap (λ u. then_stream u (rows_after file layout limit (n + suc (length xs)) ys)) (sym (after-fault file layout limit n x xs fault e))
       ]
 
-  pub rows-of-records : (n : ℕ) (rs : List Record) → rows_after file fields limit n rs ≡ rows_of_records file fields limit n (records_after file (length fields) limit n rs)
+  pub rows-of-records : (n : ℕ) (rs : List Record) → rows_after file layout limit n rs ≡ rows_of_records file layout limit n (records_after file (length layout.schema) limit n rs)
   rows-of-records n [] = refl
   rows-of-records n (r ∷ rs) =
-      elim (option-case (record_fault file (length fields) limit (n + 1) r)) [
+      elim (option-case (record_fault file (length layout.schema) limit (n + 1) r)) [
         | inr (fault, e) ↦
-            after-fault file fields limit n r rs fault (fault-of-row (n + 1) r fault e)
-            ∙ ap (rows_of_records file fields limit n) (sym (fault-first file (length fields) limit n r rs fault e))
+            after-fault file layout limit n r rs fault (fault-of-row (n + 1) r fault e)
+            ∙ ap (rows_of_records file layout limit n) (sym (fault-first file (length layout.schema) limit n r rs fault e))
         | inl e ↦
-            let u = records_after file (length fields) limit (n + 1) rs in
-            elim (result-case (row_of file fields limit (n + 1) r)) [
+            let u = records_after file (length layout.schema) limit (n + 1) rs in
+            elim (result-case (row_of file layout limit (n + 1) r)) [
               | inl (rows, g) ↦
-                  after-rows file fields limit n r rs rows g
+                  after-rows file layout limit n r rs rows g
                   ∙ ap (then_stream (done rows)) (rows-of-records (n + 1) rs)
-                  ∙ sym (then_stream-assoc (done rows) (rows_after file fields limit (n + 1) u.records) (ended u.fault))
-                  ∙ ap (λ v. then_stream v (ended u.fault)) (sym (after-rows file fields limit n r u.records rows g))
+                  ∙ sym (then_stream-assoc (done rows) (rows_after file layout limit (n + 1) u.records) (ended u.fault))
+                  ∙ ap (λ v. then_stream v (ended u.fault)) (sym (after-rows file layout limit n r u.records rows g))
               | inr (fault, g) ↦
-                  after-fault file fields limit n r rs fault g
-                  ∙ ap (λ v. then_stream v (ended u.fault)) (sym (after-fault file fields limit n r u.records fault g))
+                  after-fault file layout limit n r rs fault g
+                  ∙ ap (λ v. then_stream v (ended u.fault)) (sym (after-fault file layout limit n r u.records fault g))
             ]
-            ∙ ap (rows_of_records file fields limit n) (sym (record-first file (length fields) limit n r rs e))
+            ∙ ap (rows_of_records file layout limit n) (sym (record-first file (length layout.schema) limit n r rs e))
       ]
 
-  pub rows-under-header : (rs : List Record) → rows_under_header file fields limit rs ≡ rows_of_records file fields limit 0 (records_under_header file fields limit rs)
+  pub rows-under-header : (rs : List Record) → rows_under_header file layout limit rs ≡ rows_of_records file layout limit 0 (records_under_header file layout.schema limit rs)
   rows-under-header [] = refl
-  rows-under-header (r ∷ rs) = elim (cases_Bool (pointwise same_name (names_of fields) r)) [
+  rows-under-header (r ∷ rs) = elim (cases_Bool (pointwise same_name (names_of layout.schema) r)) [
     | inl t ↦ rw t (rows-of-records 0 rs)
     | inr f ↦ rw f refl
   ]
@@ -100,56 +101,56 @@ cut-here size xs ys (inr (few, none)) = rw (none, append-nil xs) (take_all size 
 
 -- what is left of the rows after a run
 abbrev pub rest_after : FieldRun → ℕ → ℕ → RecordStream → Option ScanFault → Stream ScanFault
-rest_after run limit size u None = rows_of_records run.file run.fields limit (run.before + length run.records) (without_records size u)
+rest_after run limit size u None = rows_of_records run.file run.layout limit (run.before + length run.records) (without_records size u)
 rest_after run limit size u (Some fault) = ended (Some fault)
 
 module _ (run : FieldRun) (limit size : ℕ) (u : RecordStream) (next : run.records ≡ take size u.records) (room : run.before + length run.records ≤ limit) where
-  split : rows_of_records run.file run.fields limit run.before u ≡ then_stream (rows_after run.file run.fields limit run.before run.records) (rows_of_records run.file run.fields limit (run.before + length run.records) (without_records size u))
+  split : rows_of_records run.file run.layout limit run.before u ≡ then_stream (rows_after run.file run.layout limit run.before run.records) (rows_of_records run.file run.layout limit (run.before + length run.records) (without_records size u))
   split =
       let rest = drop size u.records in
       let at = run.before + length run.records in
       let all : u.records ≡ run.records ++ rest = sym (ap (λ xs. xs ++ rest) next ∙ take-append-drop size u.records) in
-      ap (λ rs. then_stream (rows_after run.file run.fields limit run.before rs) (ended u.fault)) all
-      ∙ ap (λ v. then_stream v (ended u.fault)) (rows-split run.file run.fields limit run.before run.records rest)
-      ∙ then_stream-assoc (rows_after run.file run.fields limit run.before run.records) (rows_after run.file run.fields limit at rest) (ended u.fault)
+      ap (λ rs. then_stream (rows_after run.file run.layout limit run.before rs) (ended u.fault)) all
+      ∙ ap (λ v. then_stream v (ended u.fault)) (rows-split run.file run.layout limit run.before run.records rest)
+      ∙ then_stream-assoc (rows_after run.file run.layout limit run.before run.records) (rows_after run.file run.layout limit at rest) (ended u.fault)
 
   -- there are as many rows as are wanted, or no record is left
   short : (batch : Frame) → length batch.rows ≡ length run.records
-      → (length batch.rows ≡ size) ⊎ ((length batch.rows ≤ size) × ((rows_of_records run.file run.fields limit (run.before + length run.records) (without_records size u)).rows ≡ []))
+      → (length batch.rows ≡ size) ⊎ ((length batch.rows ≤ size) × ((rows_of_records run.file run.layout limit (run.before + length run.records) (without_records size u)).rows ≡ []))
   short batch many = elim (le-or-lt size (length u.records)) [
     | inl l ↦ inl (omega (arith, many, ap length next, length-take-le size u.records l))
     | inr l ↦ inr (
       omega (arith, many, ap length next, length-take size u.records, l),
-      ap (λ rs. (rows_of_records run.file run.fields limit (run.before + length run.records) (let v : RecordStream = record { records = rs; fault = u.fault } in v)).rows) (drop_all size u.records (omega (arith, l))),
+      ap (λ rs. (rows_of_records run.file run.layout limit (run.before + length run.records) (let v : RecordStream = record { records = rs; fault = u.fault } in v)).rows) (drop_all size u.records (omega (arith, l))),
     )
   ]
 
   pub next-rows : (batch : Frame) (fault : Option ScanFault) → ReadsRun run batch fault
-      → (batch.rows ≡ take size (rows_of_records run.file run.fields limit run.before u).rows) × (rest_after run limit size u fault ≡ without size (rows_of_records run.file run.fields limit run.before u))
+      → (batch.rows ≡ take size (rows_of_records run.file run.layout limit run.before u).rows) × (rest_after run limit size u fault ≡ without size (rows_of_records run.file run.layout limit run.before u))
   next-rows batch None r =
-      let rest = rows_of_records run.file run.fields limit (run.before + length run.records) (without_records size u) in
-      let whole : rows_of_records run.file run.fields limit run.before u ≡ then_stream (done batch.rows) rest = split ∙ ap (λ v. then_stream v rest) (r.stream limit room) in
+      let rest = rows_of_records run.file run.layout limit (run.before + length run.records) (without_records size u) in
+      let whole : rows_of_records run.file run.layout limit run.before u ≡ then_stream (done batch.rows) rest = split ∙ ap (λ v. then_stream v rest) (r.stream limit room) in
       let many : length batch.rows ≡ length run.records = r.all refl in
       let here = cut-here size batch.rows rest.rows (short batch many) in
       rw whole (sym here.0, sym (ap (λ rs. let v : Stream ScanFault = record { rows = rs; fault = rest.fault } in v) here.1))
   next-rows batch (Some fault) r =
-      let rest = rows_of_records run.file run.fields limit (run.before + length run.records) (without_records size u) in
-      let whole : rows_of_records run.file run.fields limit run.before u ≡ record { rows = batch.rows; fault = Some fault } = split ∙ ap (λ v. then_stream v rest) (r.stream limit room) in
+      let rest = rows_of_records run.file run.layout limit (run.before + length run.records) (without_records size u) in
+      let whole : rows_of_records run.file run.layout limit run.before u ≡ record { rows = batch.rows; fault = Some fault } = split ∙ ap (λ v. then_stream v rest) (r.stream limit room) in
       let few : length batch.rows ≤ size = omega (arith, r.fewer, ap length next, length-take size u.records) in
       rw whole (sym (take_all size batch.rows few), sym (ap (λ rs. let v : Stream ScanFault = record { rows = rs; fault = Some fault } in v) (drop_all size batch.rows few)))
 
-  pub no-row : (fault : ScanFault) → HasNoRow run fault → rows_of_records run.file run.fields limit run.before u ≡ ended (Some fault)
-  no-row fault h = split ∙ ap (λ v. then_stream v (rows_of_records run.file run.fields limit (run.before + length run.records) (without_records size u))) (h.stream limit room)
+  pub no-row : (fault : ScanFault) → HasNoRow run fault → rows_of_records run.file run.layout limit run.before u ≡ ended (Some fault)
+  no-row fault h = split ∙ ap (λ v. then_stream v (rows_of_records run.file run.layout limit (run.before + length run.records) (without_records size u))) (h.stream limit room)
 
 -- ---- one call of a scanner
 
 what-comes : (old : RecordScanning) (u : Stream ScanFault) → batches_left None old ≡ Some u
-    → (w : RecordStream) × (old.upcoming ≡ Some w) × (u ≡ rows_of_records old.file old.fields (old.taken + old.room) old.taken w)
-what-comes old u e = mapped (rows_of_records old.file old.fields (old.taken + old.room) old.taken) old.upcoming u e
+    → (w : RecordStream) × (old.upcoming ≡ Some w) × (u ≡ rows_of_records old.file old.layout (old.taken + old.room) old.taken w)
+what-comes old u e = mapped (rows_of_records old.file old.layout (old.taken + old.room) old.taken) old.upcoming u e
 
 module _ (old new : RecordScanning) (run : FieldRun) (form : IsNextRun old run new) where
-  under-run : (w : RecordStream) → rows_of_records old.file old.fields (old.taken + old.room) old.taken w ≡ rows_of_records run.file run.fields (old.taken + old.room) run.before w
-  under-run w i = rows_of_records (sym form.number i) (sym form.schema i) (old.taken + old.room) (sym form.place i) w
+  under-run : (w : RecordStream) → rows_of_records old.file old.layout (old.taken + old.room) old.taken w ≡ rows_of_records run.file run.layout (old.taken + old.room) run.before w
+  under-run w i = rows_of_records (sym form.number i) (sym form.layout i) (old.taken + old.room) (sym form.place i) w
 
   room : run.before + length run.records ≤ old.taken + old.room
   room = omega (arith, form.place, form.in_room)
@@ -159,9 +160,9 @@ module _ (old new : RecordScanning) (run : FieldRun) (form : IsNextRun old run n
       let limit : new.taken + new.room ≡ old.taken + old.room = omega (arith, form.counted, form.in_room) in
       let at : new.taken ≡ run.before + length run.records = omega (arith, form.counted, form.place) in
       let file : new.file ≡ run.file = form.same.file ∙ sym form.number in
-      let fields : new.fields ≡ run.fields = form.same.schema ∙ sym form.schema in
-      ap (option_map (rows_of_records new.file new.fields (new.taken + new.room) new.taken)) e
-      ∙ (λ i. Some (rows_of_records (file i) (fields i) (limit i) (at i) (without_records old.run_size w)))
+      let layout : new.layout ≡ run.layout = form.same.layout ∙ sym form.layout in
+      ap (option_map (rows_of_records new.file new.layout (new.taken + new.room) new.taken)) e
+      ∙ (λ i. Some (rows_of_records (file i) (layout i) (limit i) (at i) (without_records old.run_size w)))
   rest-left w (Some fault) e = refl
 
   pub batch-next : (batch : Frame) (fault : Option ScanFault) (u : Stream ScanFault) → ReadsRun run batch fault
@@ -189,9 +190,9 @@ pub batch-end : (old new : RecordScanning) (u : Stream ScanFault) → ((w : Reco
 batch-end old new u hands e =
     let m = what-comes old u e in
     let h = hands m.0 m.1 in
-    let end : u ≡ ended None = m.2 ∙ ap (rows_of_records old.file old.fields (old.taken + old.room) old.taken) h.0 in (
+    let end : u ≡ ended None = m.2 ∙ ap (rows_of_records old.file old.layout (old.taken + old.room) old.taken) h.0 in (
       end,
-      ap (option_map (rows_of_records new.file new.fields (new.taken + new.room) new.taken)) (h.1 ∙ ap Some h.0) ∙ ap Some (sym end),
+      ap (option_map (rows_of_records new.file new.layout (new.taken + new.room) new.taken)) (h.1 ∙ ap Some h.0) ∙ ap Some (sym end),
     )
 
 -- an answer that was the last
@@ -211,18 +212,18 @@ no-row-read run batch end fault e r none = record {
 }
 
 -- what a scanner hands out of records that were not begun
-pub scanner-of-records : (file size limit : ℕ) (fields : Fields) (bytes : Option (List ℕ)) (r : RecordScanning)
-    → r ≡ record { file = file; fields = fields; run_size = size; taken = 0; room = limit; upcoming = option_map (record_stream file fields limit) bytes; ending = None; stopped = false }
-    → ◌≡◌ {A = Scanning} (record { file = r.file; fields = r.fields; batch_size = r.run_size; serial = 0; room = r.taken + r.room - 0; upcoming = batches_left None r; ending = rows_ending None r.ending; stopped = r.stopped })
-    (record { file = file; fields = fields; batch_size = size; serial = 0; room = limit; upcoming = option_map (file_stream file fields limit) bytes; ending = None; stopped = false })
-scanner-of-records file size limit fields bytes r e =
-    ap (λ (x : RecordScanning). let s : Scanning = record { file = x.file; fields = x.fields; batch_size = x.run_size; serial = 0; room = x.taken + x.room - 0; upcoming = batches_left None x; ending = rows_ending None x.ending; stopped = x.stopped } in s) e
-    ∙ (λ i. let s : Scanning = record { file = file; fields = fields; batch_size = size; serial = 0; room = same i; upcoming = left bytes i; ending = None; stopped = false } in s)
+pub scanner-of-records : (file size limit : ℕ) (layout : Layout) (bytes : Option (List ℕ)) (r : RecordScanning)
+    → r ≡ record { file = file; layout = layout; run_size = size; taken = 0; room = limit; upcoming = option_map (record_stream file layout.schema limit) bytes; ending = None; stopped = false }
+    → ◌≡◌ {A = Scanning} (record { file = r.file; layout = r.layout; batch_size = r.run_size; serial = 0; room = r.taken + r.room - 0; upcoming = batches_left None r; ending = rows_ending None r.ending; stopped = r.stopped })
+    (record { file = file; layout = layout; batch_size = size; serial = 0; room = limit; upcoming = option_map (file_stream file layout limit) bytes; ending = None; stopped = false })
+scanner-of-records file size limit layout bytes r e =
+    ap (λ (x : RecordScanning). let s : Scanning = record { file = x.file; layout = x.layout; batch_size = x.run_size; serial = 0; room = x.taken + x.room - 0; upcoming = batches_left None x; ending = rows_ending None x.ending; stopped = x.stopped } in s) e
+    ∙ (λ i. let s : Scanning = record { file = file; layout = layout; batch_size = size; serial = 0; room = same i; upcoming = left bytes i; ending = None; stopped = false } in s)
   where
     same : 0 + limit - 0 ≡ limit
     same = omega arith
 
-    left : (o : Option (List ℕ)) → option_map (rows_of_records file fields (0 + limit) 0) (option_map (record_stream file fields limit) o) ≡ option_map (file_stream file fields limit) o
+    left : (o : Option (List ℕ)) → option_map (rows_of_records file layout (0 + limit) 0) (option_map (record_stream file layout.schema limit) o) ≡ option_map (file_stream file layout limit) o
     left None = refl
     left (Some xs) =
-        ap Some (ap (λ n. rows_of_records file fields n 0 (record_stream file fields limit xs)) (let z : 0 + limit ≡ limit = omega arith in z) ∙ sym (rows-under-header file fields limit (records default_config (strip_bom xs))))
+        ap Some (ap (λ n. rows_of_records file layout n 0 (record_stream file layout.schema limit xs)) (let z : 0 + limit ≡ limit = omega arith in z) ∙ sym (rows-under-header file layout limit (records default_config (strip_bom xs))))

@@ -10,18 +10,19 @@ use Rattle.fq_column.specs.Column.{Cells}
 use Rattle.fq_column.specs.Frame.{Fields, Row, kinds_of}
 use Rattle.fq_column.specs.Lists.{zip_with, all_or_missing}
 use Rattle.fq_column.specs.Stream.{Stream, done, faulted, one_by_one, then_stream}
-use Rattle.fq_csv.specs.Field.{cell_of}
+use Rattle.fq_csv.specs.Field.{cell_under}
 use Rattle.fq_csv.specs.File.{Record, row_of, rows_after}
 use Rattle.fq_csv.specs.Rows.{Holds, row_by_kinds}
+use Rattle.fq_csv.specs.declared.layouts.Layout.{Layout}
 use Rattle.fq_csv.specs.declared.faults.ScanFault.{ScanFault}
 use Rattle.fq_csv.specs.declared.faults.ScanFault.TheVariants.{BadCell, TooLong, Width}
 
 -- ---- one record
 
-by_kinds : (fields : Fields) (fs : Record) → zip_with (λ f field. cell_of f.1 field) fields fs ≡ zip_with cell_of (kinds_of fields) fs
-by_kinds [] fs = refl
-by_kinds (f ∷ fields) [] = refl
-by_kinds (f ∷ fields) (x ∷ fs) = ap (λ os. cell_of f.1 x ∷ os) (by_kinds fields fs)
+by_kinds : (nulls : List (List ℕ)) (fields : Fields) (fs : Record) → zip_with (λ f field. cell_under nulls f.1 field) fields fs ≡ zip_with (cell_under nulls) (kinds_of fields) fs
+by_kinds nulls [] fs = refl
+by_kinds nulls (f ∷ fields) [] = refl
+by_kinds nulls (f ∷ fields) (x ∷ fs) = ap (λ os. cell_under nulls f.1 x ∷ os) (by_kinds nulls fields fs)
 
 one-row : {X F : Type 0} (step : X → Result (List Row) F) (x : X) (xs : List X) (rows : List Row) → step x ≡ Ok rows → one_by_one step (x ∷ xs) ≡ then_stream (done rows) (one_by_one step xs)
 one-row step x xs rows e = rw (e, one_by_one) refl
@@ -29,34 +30,34 @@ one-row step x xs rows e = rw (e, one_by_one) refl
 one-fault : {X F : Type 0} (step : X → Result (List Row) F) (x : X) (xs : List X) (fault : F) → step x ≡ Err fault → one_by_one step (x ∷ xs) ≡ faulted fault
 one-fault step x xs fault e = rw (e, one_by_one) refl
 
-module _ (file : ℕ) (fields : Fields) (limit : ℕ) where
-  row-long : (n : ℕ) (fs : Record) → limit < n → row_of file fields limit n fs ≡ Err (TooLong file)
+module _ (file : ℕ) (layout : Layout) (limit : ℕ) where
+  row-long : (n : ℕ) (fs : Record) → limit < n → row_of file layout limit n fs ≡ Err (TooLong file)
   row-long n fs h = rw (lt-ltb limit n h) refl
 
-  row-width : (n : ℕ) (fs : Record) → n ≤ limit → length fs ≢ length fields → row_of file fields limit n fs ≡ Err (Width file n)
-  row-width n fs h w = let e : (length fs == length fields) ≡ false = grind (arith, nat_tests) in rw (le-ltb limit n h, e) refl
+  row-width : (n : ℕ) (fs : Record) → n ≤ limit → length fs ≢ length layout.schema → row_of file layout limit n fs ≡ Err (Width file n)
+  row-width n fs h w = let e : (length fs == length layout.schema) ≡ false = grind (arith, nat_tests) in rw (le-ltb limit n h, e) refl
 
-  pub row-bad : (n : ℕ) (fs : Record) (i : ℕ) → n ≤ limit → length fs ≡ length fields → row_by_kinds (kinds_of fields) fs ≡ Err i → row_of file fields limit n fs ≡ Err (BadCell file n i)
+  pub row-bad : (n : ℕ) (fs : Record) (i : ℕ) → n ≤ limit → length fs ≡ length layout.schema → row_by_kinds layout.nulls (kinds_of layout.schema) fs ≡ Err i → row_of file layout limit n fs ≡ Err (BadCell file n i)
   row-bad n fs i h w b =
-      let e : (length fs == length fields) ≡ true = grind (arith, nat_tests) in
-      let s : all_or_missing (zip_with (λ f field. cell_of f.1 field) fields fs) ≡ Err i = ap all_or_missing (by_kinds fields fs) ∙ b in
+      let e : (length fs == length layout.schema) ≡ true = grind (arith, nat_tests) in
+      let s : all_or_missing (zip_with (λ f field. cell_under layout.nulls f.1 field) layout.schema fs) ≡ Err i = ap all_or_missing (by_kinds layout.nulls layout.schema fs) ∙ b in
       rw (le-ltb limit n h, e, s) refl
 
-  pub row-good : (n : ℕ) (fs : Record) (row : Row) → n ≤ limit → length fs ≡ length fields → row_by_kinds (kinds_of fields) fs ≡ Ok row → row_of file fields limit n fs ≡ Ok (row ∷ [])
+  pub row-good : (n : ℕ) (fs : Record) (row : Row) → n ≤ limit → length fs ≡ length layout.schema → row_by_kinds layout.nulls (kinds_of layout.schema) fs ≡ Ok row → row_of file layout limit n fs ≡ Ok (row ∷ [])
   row-good n fs row h w b =
-      let e : (length fs == length fields) ≡ true = grind (arith, nat_tests) in
-      let s : all_or_missing (zip_with (λ f field. cell_of f.1 field) fields fs) ≡ Ok row = ap all_or_missing (by_kinds fields fs) ∙ b in
+      let e : (length fs == length layout.schema) ≡ true = grind (arith, nat_tests) in
+      let s : all_or_missing (zip_with (λ f field. cell_under layout.nulls f.1 field) layout.schema fs) ≡ Ok row = ap all_or_missing (by_kinds layout.nulls layout.schema fs) ∙ b in
       rw (le-ltb limit n h, e, s) refl
 
   -- the stream goes on after a row, and ends at a fault
-  pub after-row : (n : ℕ) (fs : Record) (rs : List Record) (row : Row) → row_of file fields limit (n + 1) fs ≡ Ok (row ∷ []) → rows_after file fields limit n (fs ∷ rs) ≡ then_stream (done (row ∷ [])) (rows_after file fields limit (n + 1) rs)
-  after-row n fs rs row e = one-row (λ (p : ℕ × Record). row_of file fields limit p.0 p.1) (n + 1, fs) (zip (range_with_len (n + 1 + 1) (length rs)) rs) (row ∷ []) e
+  pub after-row : (n : ℕ) (fs : Record) (rs : List Record) (row : Row) → row_of file layout limit (n + 1) fs ≡ Ok (row ∷ []) → rows_after file layout limit n (fs ∷ rs) ≡ then_stream (done (row ∷ [])) (rows_after file layout limit (n + 1) rs)
+  after-row n fs rs row e = one-row (λ (p : ℕ × Record). row_of file layout limit p.0 p.1) (n + 1, fs) (zip (range_with_len (n + 1 + 1) (length rs)) rs) (row ∷ []) e
 
-  pub after-rows : (n : ℕ) (fs : Record) (rs : List Record) (rows : List Row) → row_of file fields limit (n + 1) fs ≡ Ok rows → rows_after file fields limit n (fs ∷ rs) ≡ then_stream (done rows) (rows_after file fields limit (n + 1) rs)
-  after-rows n fs rs rows e = one-row (λ (p : ℕ × Record). row_of file fields limit p.0 p.1) (n + 1, fs) (zip (range_with_len (n + 1 + 1) (length rs)) rs) rows e
+  pub after-rows : (n : ℕ) (fs : Record) (rs : List Record) (rows : List Row) → row_of file layout limit (n + 1) fs ≡ Ok rows → rows_after file layout limit n (fs ∷ rs) ≡ then_stream (done rows) (rows_after file layout limit (n + 1) rs)
+  after-rows n fs rs rows e = one-row (λ (p : ℕ × Record). row_of file layout limit p.0 p.1) (n + 1, fs) (zip (range_with_len (n + 1 + 1) (length rs)) rs) rows e
 
-  pub after-fault : (n : ℕ) (fs : Record) (rs : List Record) (fault : ScanFault) → row_of file fields limit (n + 1) fs ≡ Err fault → rows_after file fields limit n (fs ∷ rs) ≡ faulted fault
-  after-fault n fs rs fault e = one-fault (λ (p : ℕ × Record). row_of file fields limit p.0 p.1) (n + 1, fs) (zip (range_with_len (n + 1 + 1) (length rs)) rs) fault e
+  pub after-fault : (n : ℕ) (fs : Record) (rs : List Record) (fault : ScanFault) → row_of file layout limit (n + 1) fs ≡ Err fault → rows_after file layout limit n (fs ∷ rs) ≡ faulted fault
+  after-fault n fs rs fault e = one-fault (λ (p : ℕ × Record). row_of file layout limit p.0 p.1) (n + 1, fs) (zip (range_with_len (n + 1 + 1) (length rs)) rs) fault e
 
 -- ---- rows before a stream
 

@@ -1,5 +1,7 @@
--- The cell that a field is, by the kind of its column. A whole number is read as Rust reads one, a truth value as Polars writes one but in any letter case.
+-- The cell that a field is, by the kind of its column. A whole number is read as Rust reads one, a truth value as Polars writes one but in any letter case;
+-- texts that stand for null are those that Polars calls `null_values`.
 use Rattle.std.specs.Prelude.{◌&&◌, Bool, true, false, ℕ, ℤ, List, [], ◌∷◌, Option, Some, None, option_map, map, if◌then◌else◌}
+use Rattle.std.specs.List.{list_any}
 use Rattle.std.specs.Str.{is_utf8, all_ascii_digits, bytes_eq}
 use Rattle.std.specs.Char.{to_ascii_lowercase}
 use Rattle.std.specs.Str.Parse.{signed_digits_value, without_leading_sign, true_text, false_text}
@@ -36,3 +38,11 @@ cell_of k [] = Some Null
 cell_of kind.Whole (c ∷ cs) = option_map Whole (whole_of (c ∷ cs))
 cell_of kind.Text (c ∷ cs) = option_map Text (text_of (c ∷ cs))
 cell_of kind.Truth (c ∷ cs) = option_map Truth (truth_of (c ∷ cs))
+
+-- whether a field is one of these texts, byte for byte
+abbrev pub is_one_of : List (List ℕ) → List ℕ → Bool
+is_one_of texts field = list_any (λ text. bytes_eq text field) texts
+
+-- the same, in a file where these texts are read as null, whatever the kind of their column
+abbrev pub cell_under : List (List ℕ) → Kind → List ℕ → Option Cell
+cell_under nulls k field = if is_one_of nulls field then Some Null else cell_of k field

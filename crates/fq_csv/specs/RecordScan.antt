@@ -8,6 +8,7 @@ use Rattle.fq_csv.specs.Stage.{ending_of}
 use Rattle.fq_csv.specs.Taking.{FieldRun, RecordStream, over, records_after, records_under_header, without_records}
 use Rattle.fq_csv.specs.declared.faults.ScanFault.{ScanFault}
 use Rattle.fq_csv.specs.declared.faults.ScanFault.TheVariants.{Header, Read, Memory}
+use Rattle.fq_csv.specs.declared.layouts.Layout.{Layout}
 use Rattle.fq_csv.specs.declared.spans.Span.{Span}
 use Rattle.fq_csv.specs.declared.stages.Stage.{Stage}
 use Rattle.fq_csv.specs.declared.stages.Stage.TheVariants as stage
@@ -34,16 +35,16 @@ Opens fields old new (stage.Closed fault) = IsOfText fault × ((limit : ℕ) (be
 Opens fields old new (stage.Failed fault) = StopsBy old.file new.stopped fault
 
 -- the run's records are the next `size` of the stream, or all that are left of it, and at least one
-pub record GivesRun (span : Span) (fields : Fields) (old new : Unread) (before after : Stage) (run : FieldRun) : Type 0 where
+pub record GivesRun (span : Span) (layout : Layout) (old new : Unread) (before after : Stage) (run : FieldRun) : Type 0 where
   pub file : run.file ≡ old.file
-  pub columns : run.fields ≡ fields
+  pub same_layout : run.layout ≡ layout
   pub place : run.before ≡ span.from
   pub some : 0 < length run.records
   pub in_limit : span.from + length run.records ≤ span.limit
   pub count : EndsAt after span.size (length run.records)
   pub stopped : new.stopped ≡ old.stopped
-  pub stream : (u : RecordStream) → records_left_at fields span.limit before old span.from ≡ Some u
-      → (run.records ≡ take span.size u.records) × (records_left_at fields span.limit after new (span.from + length run.records) ≡ Some (without_records span.size u))
+  pub stream : (u : RecordStream) → records_left_at layout.schema span.limit before old span.from ≡ Some u
+      → (run.records ≡ take span.size u.records) × (records_left_at layout.schema span.limit after new (span.from + length run.records) ≡ Some (without_records span.size u))
 
 -- no record is left, and the text and the stream end so, or the reader failed and has stopped, or memory was refused
 abbrev pub GivesNoRun : Span → Fields → Unread → Unread → Stage → Stage → Type 0
@@ -53,18 +54,18 @@ GivesNoRun span fields old new before (stage.Closed fault) = (ending_of before �
 GivesNoRun span fields old new before (stage.Failed fault) = ending_of before ≡ None → StopsBy old.file new.stopped fault
 
 -- a step from one stage to the next gives a run, or none where the records are over
-abbrev pub IsRunStep : Span → Fields → Unread → Unread → Stage → Stage → Option FieldRun → Type 0
-IsRunStep span fields old new before after None = GivesNoRun span fields old new before after
-IsRunStep span fields old new before after (Some run) = GivesRun span fields old new before after run
+abbrev pub IsRunStep : Span → Layout → Unread → Unread → Stage → Stage → Option FieldRun → Type 0
+IsRunStep span layout old new before after None = GivesNoRun span layout.schema old new before after
+IsRunStep span layout old new before after (Some run) = GivesRun span layout old new before after run
 
 -- ---- a scan of records
 
--- the file and its columns, the size of a run, how many rows went before, how many may still come, the records still to come,
+-- the file and its layout, the size of a run, how many rows went before, how many may still come, the records still to come,
 -- where the reader tells its bytes and has not failed, the end, once it is known, and whether a read was the last, since the reader
 -- failed in it or had no memory for its record
 pub record RecordScanning : Type 0 where
   pub file : ℕ
-  pub fields : Fields
+  pub layout : Layout
   pub run_size : ℕ
   pub taken : ℕ
   pub room : ℕ
@@ -72,16 +73,16 @@ pub record RecordScanning : Type 0 where
   pub ending : Option (Option ScanFault)
   pub stopped : Bool
 
--- the file, its columns and the size of a run are the same
+-- the file, its layout and the size of a run are the same
 pub record IsSameRecordScan (old new : RecordScanning) : Type 0 where
   pub file : new.file ≡ old.file
-  pub schema : new.fields ≡ old.fields
+  pub layout : new.layout ≡ old.layout
   pub size : new.run_size ≡ old.run_size
 
 -- the form of a run, whatever the reader gives: the next records, which count, and as many as are wanted unless the text ends them
 pub record IsNextRun (old : RecordScanning) (run : FieldRun) (new : RecordScanning) : Type 0 where
   pub number : run.file ≡ old.file
-  pub schema : run.fields ≡ old.fields
+  pub layout : run.layout ≡ old.layout
   pub place : run.before ≡ old.taken
   pub some : 0 < length run.records
   pub fits : length run.records ≤ old.run_size

@@ -1,6 +1,6 @@
 -- What a scanner has still to hand out, and what one call of it hands out.
 use Rattle.std.specs.Prelude.{◌≡◌, ◌+◌, ◌<◌, ◌≤◌, ◌⊎◌, ℕ, Bool, true, length, take, Option, Some, None, option_map}
-use Rattle.fq_column.specs.Frame.{Fields, Frame}
+use Rattle.fq_column.specs.Frame.{Frame}
 use Rattle.fq_column.specs.Stream.{Stream}
 use Rattle.fq_csv.specs.RecordScan.{RecordScanning}
 use Rattle.fq_csv.specs.Records.{IsOfText}
@@ -8,15 +8,16 @@ use Rattle.fq_csv.specs.Stage.{ended, without}
 use Rattle.fq_csv.specs.Taking.{rows_of_records}
 use Rattle.fq_csv.specs.declared.faults.ScanFault.{ScanFault}
 use Rattle.fq_csv.specs.declared.faults.ScanFault.TheVariants.{Read, Memory}
+use Rattle.fq_csv.specs.declared.layouts.Layout.{Layout}
 use Rattle.fq_csv.specs.declared.scans.Scan.{Scan}
 use Rattle.fq_csv.specs.declared.scans.Scan.TheVariants.{Batch, End}
 
--- the file and its schema, the size of a batch, how many batches went before, how many rows may still come,
+-- the file and its layout, the size of a batch, how many batches went before, how many rows may still come,
 -- the stream still to come, where the reader tells its bytes and has not failed, the end, once it is known, and whether a read
 -- was the last, since the reader failed in it or had no memory for its record
 pub record Scanning : Type 0 where
   pub file : ℕ
-  pub fields : Fields
+  pub layout : Layout
   pub batch_size : ℕ
   pub serial : ℕ
   pub room : ℕ
@@ -26,7 +27,7 @@ pub record Scanning : Type 0 where
 
 -- the rows of the records still to come; none but the fault, where that ended the rows before the records
 abbrev pub batches_left : Option ScanFault → RecordScanning → Option (Stream ScanFault)
-batches_left None r = option_map (rows_of_records r.file r.fields (r.taken + r.room) r.taken) r.upcoming
+batches_left None r = option_map (rows_of_records r.file r.layout (r.taken + r.room) r.taken) r.upcoming
 batches_left (Some fault) r = Some (ended (Some fault))
 
 -- the end of the rows, once it is known: that fault, or the records' end
@@ -34,17 +35,17 @@ abbrev pub rows_ending : Option ScanFault → Option (Option ScanFault) → Opti
 rows_ending None ending = ending
 rows_ending (Some fault) ending = Some (Some fault)
 
--- the file, its schema and the size of a batch are the same
+-- the file, its layout and the size of a batch are the same
 pub record IsSameScan (old new : Scanning) : Type 0 where
   pub file : new.file ≡ old.file
-  pub schema : new.fields ≡ old.fields
+  pub layout : new.layout ≡ old.layout
   pub size : new.batch_size ≡ old.batch_size
 
 -- the form of a batch, whatever the reader gives: it has the next serial and some rows, which count, and it is full unless the text ends the rows after it
 pub record IsNextBatch (old : Scanning) (file serial : ℕ) (batch : Frame) (new : Scanning) : Type 0 where
   pub number : file ≡ old.file
   pub in_order : serial ≡ old.serial
-  pub schema : batch.fields ≡ old.fields
+  pub schema : batch.fields ≡ old.layout.schema
   pub some : 0 < length batch.rows
   pub fits : length batch.rows ≤ old.batch_size
   pub full : length batch.rows < old.batch_size → (fault : Option ScanFault) × (new.ending ≡ Some fault) × IsOfText fault

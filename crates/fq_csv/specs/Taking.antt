@@ -11,6 +11,7 @@ use Rattle.fq_csv.specs.Rows.{EndsAt, Holds}
 use Rattle.fq_csv.specs.Stage.{ended}
 use Rattle.fq_csv.specs.declared.faults.ScanFault.{ScanFault}
 use Rattle.fq_csv.specs.declared.faults.ScanFault.TheVariants.{Header, Width, BadCell, TooLong}
+use Rattle.fq_csv.specs.declared.layouts.Layout.{Layout}
 use Rattle.fq_csv.specs.declared.spans.Span.{Span}
 use Rattle.fq_csv.specs.declared.stages.Stage.{Stage}
 use Rattle.fq_csv.specs.declared.stages.Stage.TheVariants as stage
@@ -55,15 +56,15 @@ abbrev pub record_stream : ℕ → Fields → ℕ → List ℕ → RecordStream
 record_stream file fields limit bytes = records_under_header file fields limit (records default_config (strip_bom bytes))
 
 -- the rows that such records are, after n rows: up to the first with a field that is no cell
-abbrev pub rows_of_records : ℕ → Fields → ℕ → ℕ → RecordStream → Stream ScanFault
-rows_of_records file fields limit n u = then_stream (rows_after file fields limit n u.records) (ended u.fault)
+abbrev pub rows_of_records : ℕ → Layout → ℕ → ℕ → RecordStream → Stream ScanFault
+rows_of_records file layout limit n u = then_stream (rows_after file layout limit n u.records) (ended u.fault)
 
 -- ---- a run of records
 
--- the file and its columns, how many rows of it went before, and the records
+-- the file and its layout, how many rows of it went before, and the records
 pub record FieldRun : Type 0 where
   pub file : ℕ
-  pub fields : Fields
+  pub layout : Layout
   pub before : ℕ
   pub records : List Record
 
@@ -99,25 +100,25 @@ record_at n width fs = take width (drop (n * width) fs)
 abbrev pub bad_cell : ℕ → ℕ → ℕ × ℕ → ScanFault
 bad_cell file before place = BadCell file (before + place.0 + 1) place.1
 
--- columns hold the rows that records are, up to the first with a field that is no cell, at this place
-pub record HoldsRows (kinds : List Kind) (rs : List Record) (columns : List Cells) (bad : Option (ℕ × ℕ)) : Type 0 where
+-- columns hold the rows that records are, where these texts are null, up to the first with a field that is no cell, at this place
+pub record HoldsRows (nulls : List (List ℕ)) (kinds : List Kind) (rs : List Record) (columns : List Cells) (bad : Option (ℕ × ℕ)) : Type 0 where
   pub rows : List Row
   pub held : Holds kinds columns rows
   pub all : bad ≡ None → length rows ≡ length rs
   pub place : IfSome bad (λ p. (p.0 ≡ length rows) × (length rows < length rs))
-  pub stream : (file before limit : ℕ) (fields : Fields) → kinds_of fields ≡ kinds → before + length rs ≤ limit
-      → rows_after file fields limit before rs ≡ record { rows = rows; fault = option_map (bad_cell file before) bad }
+  pub stream : (file before limit : ℕ) (layout : Layout) → layout.nulls ≡ nulls → kinds_of layout.schema ≡ kinds → before + length rs ≤ limit
+      → rows_after file layout limit before rs ≡ record { rows = rows; fault = option_map (bad_cell file before) bad }
 
 -- the rows of a batch are those of a run, up to the first record with a field that is no cell, which is this fault
 pub record ReadsRun (run : FieldRun) (batch : Frame) (fault : Option ScanFault) : Type 0 where
-  pub columns : batch.fields ≡ run.fields
+  pub columns : batch.fields ≡ run.layout.schema
   pub in_limit : run.before + length run.records ≤ 2147483647
   pub all : fault ≡ None → length batch.rows ≡ length run.records
   pub fewer : length batch.rows ≤ length run.records
   pub cause : IsOfText fault
-  pub stream : (limit : ℕ) → run.before + length run.records ≤ limit → rows_after run.file run.fields limit run.before run.records ≡ record { rows = batch.rows; fault = fault }
+  pub stream : (limit : ℕ) → run.before + length run.records ≤ limit → rows_after run.file run.layout limit run.before run.records ≡ record { rows = batch.rows; fault = fault }
 
 -- the first record of a run has a field that is no cell, which is this fault
 pub record HasNoRow (run : FieldRun) (fault : ScanFault) : Type 0 where
   pub cause : IsOfText (Some fault)
-  pub stream : (limit : ℕ) → run.before + length run.records ≤ limit → rows_after run.file run.fields limit run.before run.records ≡ ended (Some fault)
+  pub stream : (limit : ℕ) → run.before + length run.records ≤ limit → rows_after run.file run.layout limit run.before run.records ≡ ended (Some fault)

@@ -3,9 +3,10 @@ ghost use Rattle.std.specs.Prelude.{◌≡◌, ◌≤◌, ◌++◌, ◌∷◌, [
 ghost use Rattle.std.specs.Option.{SomeIff};
 ghost use Rattle.std.specs.Str.Parse.{digits_value, starts_with_minus, without_leading_sign};
 ghost use Rattle.fq_column.specs.declared.cells.Cell.{Cell};
-ghost use Rattle.fq_csv.specs.Field.{cell_of, is_numeral, text_of, truth_of, whole_of};
+ghost use Rattle.fq_csv.specs.Field.{cell_under, is_numeral, text_of, truth_of, whole_of};
 ghost use Rattle.fq_csv.specs.Rows.{with_cell};
 
+use crate::layouts::NullValues;
 use fq_column::{Column, Kind, Memory};
 use std::str;
 
@@ -91,15 +92,19 @@ fn text(field: &[u8]) -> Option<&str>
     }
 }
 
-/// Appends the cell that a field is to a column, and says whether it is one.
+/// Appends the cell that a field is, where these texts are null, to a column, and says whether it is one.
 ///
 /// Takes memory for a text, and where the column grows.
-pub(crate) fn push_field(column: &mut Column, field: &[u8]) -> Result<bool, Memory>
+pub(crate) fn push_field(
+    column: &mut Column,
+    field: &[u8],
+    nulls: &NullValues,
+) -> Result<bool, Memory>
     ensures good { IfOk result (λ good. MatchBool good
-        ((cell : Cell) × (cell_of column.old.kind field.now ≡ Some cell) × (column.new ≡ with_cell column.old cell))
-        ((cell_of column.old.kind field.now ≡ None) × (column.new ≡ column.old))) }
+        ((cell : Cell) × (cell_under nulls.now column.old.kind field.now ≡ Some cell) × (column.new ≡ with_cell column.old cell))
+        ((cell_under nulls.now column.old.kind field.now ≡ None) × (column.new ≡ column.old))) }
 {
-    if field.is_empty() {
+    if field.is_empty() || nulls.has(field) {
         column.push_null()?;
         return Ok(true);
     }

@@ -16,7 +16,7 @@ use std::io::Read;
 ///
 /// The batches are put together by moving their values.
 pub fn scan_all<R: Read + Drop>(alloc: Global, mut scanner: Scanner<R>) -> Result<Batch, ScanFault>
-    ensures schema { IfOk result (λ frame. frame.fields ≡ scanner.fields) }
+    ensures schema { IfOk result (λ frame. frame.fields ≡ scanner.layout.schema) }
     ensures rows { IfOk result (λ frame. (u : Stream ScanFault) → scanner.upcoming ≡ Some u → u ≡ record { rows = frame.rows; fault = None }) }
     ensures fault { IfErr result (λ fault. (u : Stream ScanFault) → scanner.upcoming ≡ Some u → (u.fault ≡ Some fault) ⊎ IsFailure scanner.file fault) }
 {

@@ -2,6 +2,8 @@
 ghost use Rattle.std.specs.Prelude.{◌≡◌, ◌+◌, ◌<◌, ◌∷◌, [], ℕ, List, Option, Some, length, take};
 ghost use Rattle.fq_column.specs.Frame.{Fields};
 ghost use Rattle.fq_column.specs.Stream.{Stream};
+ghost use Rattle.fq_csv.specs.Field.{cell_of};
+ghost use Rattle.fq_csv.specs.File.{file_stream, plain, stream_by};
 ghost use Rattle.fq_csv.specs.Run.{Follows, IsRun, answers, framed};
 ghost use Rattle.fq_csv.specs.Scan.{Scanning};
 ghost use Rattle.fq_csv.specs.Stage.{ended, without};
@@ -10,12 +12,14 @@ ghost use Rattle.fq_csv.specs.declared.scans.Scan.{Scan as Answer};
 ghost use Rattle.fq_csv.specs.declared.scans.Scan.TheVariants.{Batch, End};
 
 /// What a scanner hands out, call by call, is the pieces of its stream's rows with serials in order, and then their
-/// number and the stream's end; where a read fails or memory is refused, it is the first of these.
+/// number and the stream's end; where a read fails or memory is refused, it is the first of these. Where no text is read as
+/// null, each field is read by its column's kind alone.
 pub fn scan_laws()
+    ensures plain { (file limit : ℕ) (fields : Fields) (bytes : List ℕ) → file_stream file (plain fields) limit bytes ≡ stream_by cell_of file fields limit bytes }
     ensures next { (file size serial : ℕ) (fields : Fields) (u : Stream ScanFault) → 0 < size → 0 < length u.rows
         → answers file fields size serial u ≡ Batch file serial (framed fields (take size u.rows)) ∷ answers file fields size (serial + 1) (without size u) }
     ensures last { (file size serial : ℕ) (fields : Fields) (fault : Option ScanFault)
         → answers file fields size serial (ended fault) ≡ End file serial fault ∷ [] }
     ensures run { (old new : Scanning) (handed_out : List Answer) (u : Stream ScanFault) → 0 < old.batch_size → old.upcoming ≡ Some u → IsRun old handed_out new
-        → Follows old.file (answers old.file old.fields old.batch_size old.serial u) handed_out }
+        → Follows old.file (answers old.file old.layout.schema old.batch_size old.serial u) handed_out }
 {}

@@ -7,8 +7,9 @@ ghost use Rattle.fq_csv.specs.Taking.{HoldsRows, ReadsRun, bad_cell, records_in}
 use crate::batches::empty_columns;
 use crate::cells::push_rows;
 use crate::faults::ScanFault;
+use crate::layouts::Layout;
 use crate::raw_fields::RawFields;
-use fq_column::{Batch, Column, Memory, Schema};
+use fq_column::{Batch, Column, Memory};
 use std::alloc::Global;
 use std::marker::Model;
 
@@ -18,7 +19,7 @@ use std::marker::Model;
 #[derive(Drop)]
 pub struct RecordRun {
     pub(crate) file: u16,
-    pub(crate) schema: Schema,
+    pub(crate) layout: Layout,
     pub(crate) before: u32,
     pub(crate) count: u32,
     pub(crate) fields: RawFields,
@@ -32,12 +33,12 @@ impl Model for RecordRun {
 
     ghost view = { λ a. record {
       file = a.file;
-      fields = a.schema;
+      layout = a.layout;
       before = a.before;
-      records = records_in a.count (length a.schema) a.fields;
+      records = records_in a.count (length a.layout.schema) a.fields;
     } };
 
-    ghost invariant = { λ a. (length a.fields ≡ a.count * length a.schema) × (a.before + a.count ≤ 2147483647) };
+    ghost invariant = { λ a. (length a.fields ≡ a.count * length a.layout.schema) × (a.before + a.count ≤ 2147483647) };
 }
 
 impl RecordRun {
@@ -57,13 +58,13 @@ impl RecordRun {
     {
         let RecordRun {
             file,
-            schema,
+            layout,
             before,
             count,
             fields,
         } = self;
-        let (columns, bad) = columns_of(alloc, &schema, &fields, count)?;
-        let batch = match Batch::from_columns(schema, columns) {
+        let (columns, bad) = columns_of(alloc, &layout, &fields, count)?;
+        let batch = match Batch::from_columns(layout.schema, columns) {
             Ok(batch) => batch,
             Err(_) => unreachable!(),
         };
@@ -74,16 +75,16 @@ impl RecordRun {
 // The columns of the rows that `count` records are, up to the first with a field that is no cell, and its place.
 fn columns_of(
     alloc: Global,
-    schema: &Schema,
+    layout: &Layout,
     fields: &RawFields,
     count: u32,
 ) -> Result<(Vec<Column>, Option<(u32, u16)>), Memory>
-    requires { length fields.now ≡ count * length schema.now }
-    ensures rows { IfOk result (λ r. HoldsRows (kinds_of schema.now) (records_in count (length schema.now) fields.now) r.0.items r.1) }
+    requires { length fields.now ≡ count * length layout.now.schema }
+    ensures rows { IfOk result (λ r. HoldsRows layout.now.nulls (kinds_of layout.now.schema) (records_in count (length layout.now.schema) fields.now) r.0.items r.1) }
     ensures some { IfOk result (λ r. 0 < length r.0.items) }
 {
-    let mut columns = empty_columns(alloc, schema, count as usize)?;
-    let bad = push_rows(alloc, columns.as_mut_slice(), fields, count)?;
+    let mut columns = empty_columns(alloc, &layout.schema, count as usize)?;
+    let bad = push_rows(alloc, columns.as_mut_slice(), fields, count, &layout.nulls)?;
     Ok((columns, bad))
 }
 

@@ -5,13 +5,14 @@ ghost use Rattle.fq_csv.specs.Taking.{RecordStream, record_stream};
 ghost use Rattle.fq_csv.specs.declared.faults.ScanFault.{ScanFault};
 
 use crate::faults::ScanFault;
+use crate::layouts::Layout;
 use crate::record_runs::RecordRun;
 use crate::record_steps::next_records;
 use crate::records::Records;
 use crate::scanners::{MAX_BATCH_SIZE, MAX_ROWS};
 use crate::spans::Span;
 use crate::stages::Stage;
-use fq_column::{Memory, Schema};
+use fq_column::Memory;
 use std::alloc::Global;
 use std::io::Read;
 use std::marker::Model;
@@ -24,7 +25,7 @@ use std::marker::Model;
 pub struct RecordScanner<R: Read> {
     alloc: Global,
     records: Records<R>,
-    schema: Schema,
+    layout: Layout,
     span: Span,
     stage: Stage,
 }
@@ -39,11 +40,11 @@ impl<R: Read> Model for RecordScanner<R> {
 
     ghost view = { λ a. record {
       file = a.records.file;
-      fields = a.schema;
+      layout = a.layout;
       run_size = a.span.size;
       taken = a.span.from;
       room = a.span.limit - a.span.from;
-      upcoming = records_left_at a.schema a.span.limit a.stage a.records a.span.from;
+      upcoming = records_left_at a.layout.schema a.span.limit a.stage a.records a.span.from;
       ending = ending_of a.stage;
       stopped = a.records.stopped;
     } };
@@ -55,13 +56,13 @@ impl<R: Read> RecordScanner<R> {
     /// A scan of the file number `file`, whose bytes a reader gives, in runs of `run_size` records, from 1 to
     /// [`MAX_BATCH_SIZE`].
     ///
-    /// The first record must be the schema's names. More rows than `limit`, at most [`MAX_ROWS`], are a fault. The reader's
+    /// The first record must be the names of the layout's schema. More rows than `limit`, at most [`MAX_ROWS`], are a fault. The reader's
     /// bytes are buffered here, and nothing is read yet, nor memory taken.
     pub fn new(
         alloc: Global,
         reader: R,
         file: u16,
-        schema: Schema,
+        layout: Layout,
         run_size: u32,
         limit: u32,
     ) -> Result<RecordScanner<R>, Memory>
@@ -72,11 +73,11 @@ impl<R: Read> RecordScanner<R> {
         requires limit { limit ≤ MAX_ROWS }
         ensures scanner { IfOk result (λ s. s ≡ record {
           file = file;
-          fields = schema;
+          layout = layout;
           run_size = run_size;
           taken = 0;
           room = limit;
-          upcoming = option_map (record_stream file schema limit) (R.remaining reader);
+          upcoming = option_map (record_stream file layout.schema limit) (R.remaining reader);
           ending = None;
           stopped = false;
         }) }
@@ -85,7 +86,7 @@ impl<R: Read> RecordScanner<R> {
         Ok(RecordScanner {
             alloc,
             records,
-            schema,
+            layout,
             span: Span {
                 from: 0,
                 limit,
@@ -102,11 +103,11 @@ impl<R: Read> RecordScanner<R> {
         self.records.file()
     }
 
-    /// The schema of the file.
-    pub fn schema(&self) -> &Schema
-        ensures { result.now ≡ self.now.fields }
+    /// The layout of the file.
+    pub fn layout(&self) -> &Layout
+        ensures { result.now ≡ self.now.layout }
     {
-        &self.schema
+        &self.layout
     }
 
     /// The next records of the file; none at its end.
@@ -123,7 +124,7 @@ impl<R: Read> RecordScanner<R> {
         let step = next_records(
             self.alloc,
             &mut self.records,
-            &self.schema,
+            &self.layout,
             self.span,
             self.stage,
         );

@@ -8,12 +8,12 @@ ghost use Rattle.fq_csv.specs.declared.faults.ScanFault.{ScanFault};
 use crate::batches::room_for;
 use crate::faults::ScanFault;
 use crate::headers::read_header;
+use crate::layouts::Layout;
 use crate::record_runs::RecordRun;
 use crate::records::Records;
 use crate::spans::Span;
 use crate::stages::Stage;
 use crate::taking::take_records;
-use fq_column::Schema;
 use std::alloc::Global;
 use std::io::Read;
 
@@ -28,21 +28,21 @@ pub(crate) struct RunStep {
 pub(crate) fn next_records<R: Read>(
     alloc: Global,
     records: &mut Records<R>,
-    schema: &Schema,
+    layout: &Layout,
     span: Span,
     stage: Stage,
 ) -> RunStep
     requires { stage ≡ Stage.Header → span.from ≡ 0 }
     ensures file { records.new.file ≡ records.old.file }
-    ensures step { IsRunStep span schema.now records.old records.new stage result.stage result.run }
+    ensures step { IsRunStep span layout.now records.old records.new stage result.stage result.run }
     ensures over { (fault : Option ScanFault) → ending_of stage ≡ Some fault → (result.stage ≡ stage) × IsNone result.run × (records.new ≡ records.old) }
 {
     let stage = match stage {
-        Stage::Header => read_header(alloc, records, schema),
+        Stage::Header => read_header(alloc, records, &layout.schema),
         stage => stage,
     };
     match stage {
-        Stage::Rows => read_run(alloc, records, schema, span),
+        Stage::Rows => read_run(alloc, records, layout, span),
         stage => RunStep { run: None, stage },
     }
 }
@@ -51,13 +51,13 @@ pub(crate) fn next_records<R: Read>(
 fn read_run<R: Read>(
     alloc: Global,
     records: &mut Records<R>,
-    schema: &Schema,
+    layout: &Layout,
     span: Span,
 ) -> RunStep
     ensures file { records.new.file ≡ records.old.file }
-    ensures step { IsRunStep span schema.now records.old records.new Stage.Rows result.stage result.run }
+    ensures step { IsRunStep span layout.now records.old records.new Stage.Rows result.stage result.run }
 {
-    match try_read_run(alloc, records, schema, span) {
+    match try_read_run(alloc, records, layout, span) {
         Ok(step) => step,
         Err(fault) => RunStep {
             run: None,
@@ -70,14 +70,14 @@ fn read_run<R: Read>(
 fn try_read_run<R: Read>(
     alloc: Global,
     records: &mut Records<R>,
-    schema: &Schema,
+    layout: &Layout,
     span: Span,
 ) -> Result<RunStep, ScanFault>
     ensures file { records.new.file ≡ records.old.file }
     ensures failed { IfErr result (StopsBy records.old.file records.new.stopped) }
-    ensures step { IfOk result (λ step. IsRunStep span schema.now records.old records.new Stage.Rows step.stage step.run) }
+    ensures step { IfOk result (λ step. IsRunStep span layout.now records.old records.new Stage.Rows step.stage step.run) }
 {
-    let width = schema.len();
+    let width = layout.schema.len();
     records.start_anew(room_for(span) * width)?;
     let taken = take_records(records, width, span)?;
     let stage = taken.stage;
@@ -87,7 +87,7 @@ fn try_read_run<R: Read>(
     }
     let run = RecordRun {
         file: records.file(),
-        schema: schema.copy(alloc)?,
+        layout: layout.copy(alloc)?,
         before: span.from,
         count,
         fields: records.hand_out(alloc)?,

@@ -8,6 +8,7 @@ ghost use Rattle.fq_csv.specs.declared.faults.ScanFault.{ScanFault as AnyFault};
 ghost use Rattle.fq_csv.specs.declared.faults.ScanFault.TheVariants as fault;
 
 use crate::faults::ScanFault;
+use crate::layouts::{Layout, NullValues};
 use crate::record_runs::RecordRun;
 use crate::record_scanners::RecordScanner;
 use crate::scans::Scan;
@@ -41,7 +42,7 @@ impl<R: Read> Model for Scanner<R> {
 
     ghost view = { λ a. record {
       file = a.records.file;
-      fields = a.records.fields;
+      layout = a.records.layout;
       batch_size = a.records.run_size;
       serial = a.serial;
       room = a.records.taken + a.records.room - a.rows;
@@ -56,13 +57,15 @@ impl<R: Read> Model for Scanner<R> {
 impl<R: Read> Scanner<R> {
     /// A scan of the file number `file`, whose bytes a reader gives, in batches of `batch_size` rows.
     ///
-    /// The first record must be the schema's names. More rows than `limit` are a fault. The reader's bytes are buffered
+    /// The first record must be the schema's names. In each later one a field that is one of `nulls`, byte for byte, is null,
+    /// whatever the kind of its column; so is an empty one. More rows than `limit` are a fault. The reader's bytes are buffered
     /// here, and nothing is read yet.
     pub fn new(
         alloc: Global,
         reader: R,
         file: u16,
         schema: Schema,
+        nulls: NullValues,
         batch_size: u32,
         limit: u32,
     ) -> Result<Scanner<R>, Memory>
@@ -73,16 +76,17 @@ impl<R: Read> Scanner<R> {
         requires limit { limit ≤ MAX_ROWS }
         ensures scanner { IfOk result (λ s. s ≡ record {
           file = file;
-          fields = schema;
+          layout = record { schema = schema; nulls = nulls };
           batch_size = batch_size;
           serial = 0;
           room = limit;
-          upcoming = option_map (file_stream file schema limit) (R.remaining reader);
+          upcoming = option_map (file_stream file (record { schema = schema; nulls = nulls }) limit) (R.remaining reader);
           ending = None;
           stopped = false;
         }) }
     {
-        let records = RecordScanner::new(alloc, reader, file, schema, batch_size, limit)?;
+        let layout = Layout { schema, nulls };
+        let records = RecordScanner::new(alloc, reader, file, layout, batch_size, limit)?;
         Ok(Scanner {
             alloc,
             records,
@@ -94,9 +98,9 @@ impl<R: Read> Scanner<R> {
 
     /// The schema of the file.
     pub fn schema(&self) -> &Schema
-        ensures { result.now ≡ self.now.fields }
+        ensures { result.now ≡ self.now.layout.schema }
     {
-        self.records.schema()
+        &self.records.layout().schema
     }
 
     /// The next rows of the file, or its end.

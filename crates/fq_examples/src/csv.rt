@@ -4,24 +4,24 @@ ghost use Rattle.fq_column.specs.declared.cells.Cell.TheVariants as cell;
 ghost use Rattle.fq_column.specs.declared.cells.Kind.TheVariants as kind;
 ghost use Rattle.fq_column.specs.Frame.{Fields};
 ghost use Rattle.fq_column.specs.Stream.{done, faulted};
-ghost use Rattle.fq_csv.specs.File.{file_stream};
+ghost use Rattle.fq_csv.specs.File.{file_stream, plain};
 ghost use Rattle.fq_csv.specs.Printed.{printed};
 ghost use Rattle.fq_csv.specs.declared.faults.ScanFault.TheVariants.{BadCell, Header, TooLong, Width};
 
 /// Files as streams.
 pub fn worked_files()
-    ensures numbers { file_stream 0 ((codes "x", kind.Whole) ∷ []) 9 (codes "x\n+9223372036854775807\n-0\n007\n")
+    ensures numbers { file_stream 0 (plain ((codes "x", kind.Whole) ∷ [])) 9 (codes "x\n+9223372036854775807\n-0\n007\n")
         ≡ done ((cell.Whole (pos 9223372036854775807) ∷ []) ∷ (cell.Whole (pos 0) ∷ []) ∷ (cell.Whole (pos 7) ∷ []) ∷ []) }
-    ensures past_64_bits { file_stream 0 ((codes "x", kind.Whole) ∷ []) 9 (codes "x\n-9223372036854775808\n-9223372036854775809\n")
+    ensures past_64_bits { file_stream 0 (plain ((codes "x", kind.Whole) ∷ [])) 9 (codes "x\n-9223372036854775808\n-9223372036854775809\n")
         ≡ record { rows = (cell.Whole (negsuc 9223372036854775807) ∷ []) ∷ []; fault = Some (BadCell 0 2 0) } }
-    ensures texts { file_stream 0 ((codes "t", kind.Text) ∷ []) 9 (codes "t\n\"\"\n\"a,b\"\n\"say \"\"hi\"\"\"\n\"x\ny\"\n")
+    ensures texts { file_stream 0 (plain ((codes "t", kind.Text) ∷ [])) 9 (codes "t\n\"\"\n\"a,b\"\n\"say \"\"hi\"\"\"\n\"x\ny\"\n")
         ≡ done ((cell.Null ∷ []) ∷ (cell.Text (codes "a,b") ∷ []) ∷ (cell.Text (codes "say \"hi\"") ∷ []) ∷ (cell.Text (codes "x\ny") ∷ []) ∷ []) }
-    ensures truth_values { file_stream 0 ((codes "id", kind.Whole) ∷ (codes "ok", kind.Truth) ∷ []) 9 (codes "id,ok\r\n1,TRUE\r\n2,False")
+    ensures truth_values { file_stream 0 (plain ((codes "id", kind.Whole) ∷ (codes "ok", kind.Truth) ∷ [])) 9 (codes "id,ok\r\n1,TRUE\r\n2,False")
         ≡ done ((cell.Whole (pos 1) ∷ cell.Truth true ∷ []) ∷ (cell.Whole (pos 2) ∷ cell.Truth false ∷ []) ∷ []) }
-    ensures no_utf8 { file_stream 0 ((codes "t", kind.Text) ∷ []) 9 (116 ∷ 10 ∷ 255 ∷ 10 ∷ []) ≡ faulted (BadCell 0 1 0) }
-    ensures no_record { file_stream 7 ((codes "x", kind.Whole) ∷ []) 9 [] ≡ faulted (Header 7) }
-    ensures ragged { file_stream 0 ((codes "a", kind.Whole) ∷ (codes "b", kind.Whole) ∷ []) 9 (codes "a,b\nx\n") ≡ faulted (Width 0 1) }
-    ensures too_long { file_stream 5 ((codes "v", kind.Whole) ∷ []) 2 (codes "v\n1\n2\n3\n")
+    ensures no_utf8 { file_stream 0 (plain ((codes "t", kind.Text) ∷ [])) 9 (116 ∷ 10 ∷ 255 ∷ 10 ∷ []) ≡ faulted (BadCell 0 1 0) }
+    ensures no_record { file_stream 7 (plain ((codes "x", kind.Whole) ∷ [])) 9 [] ≡ faulted (Header 7) }
+    ensures ragged { file_stream 0 (plain ((codes "a", kind.Whole) ∷ (codes "b", kind.Whole) ∷ [])) 9 (codes "a,b\nx\n") ≡ faulted (Width 0 1) }
+    ensures too_long { file_stream 5 (plain ((codes "v", kind.Whole) ∷ [])) 2 (codes "v\n1\n2\n3\n")
         ≡ record { rows = (cell.Whole (pos 1) ∷ []) ∷ (cell.Whole (pos 2) ∷ []) ∷ []; fault = Some (TooLong 5) } }
 {}
 

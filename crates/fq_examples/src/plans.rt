@@ -1,5 +1,5 @@
 //! Plans over files, texts that spell no plan, and plans that the check refuses.
-ghost use Rattle.fq_plan.specs.Examples.{FilteredRows, EmptyFiles, FilesInOrder, LogicWithNulls, EarliestRow, GroupSums, GroupOrder, AggregatesOfNulls, JoinedRows, SuffixedNames, RollingSums, WholeNumbers, BadRows, Texts, TruthValues, Division, FileOrStep, UnusedSource, NoPlans, DoubleMembers, RefusedPlans, RefusedStarts, ItemsAtAnySize, Traces};
+ghost use Rattle.fq_plan.specs.Examples.{FilteredRows, EmptyFiles, FilesInOrder, LogicWithNulls, EarliestRow, GroupSums, GroupOrder, AggregatesOfNulls, JoinedRows, SuffixedNames, RollingSums, WholeNumbers, BadRows, Texts, TruthValues, Division, FileOrStep, UnusedSource, NoPlans, NullTexts, DoubleMembers, RefusedPlans, RefusedStarts, ItemsAtAnySize, Traces};
 
 /// Plans over files.
 pub fn worked_plans()
@@ -21,6 +21,7 @@ pub fn worked_plans()
     ensures division { Division }
     ensures order { FileOrStep }
     ensures unused { UnusedSource }
+    ensures null_texts { NullTexts }
 {}
 
 /// Texts that spell no plan, and plans that the check refuses.

@@ -3,8 +3,8 @@ ghost use Rattle.std.specs.Prelude.{◌≡◌, ◌≤◌, ◌+◌, ℕ, List, []
 ghost use Rattle.std.specs.Vec.Iter.{into_iter_items, into_iter_len};
 ghost use Rattle.std.specs.Thread.{IsSync};
 ghost use Rattle.fq_lanes.specs.WorkerLanes.{worker_names, worker_view, worker_views, idle_worker, AreNewWorkers};
-ghost use Rattle.fq_lanes.specs.FeedLane.{feed_names, feed_view, new_feed, tolds_of, AreNewFeeds};
-ghost use Rattle.fq_lanes.specs.Lane.{put_items, taken_items, IsLane, SamePut, SameTake};
+ghost use Rattle.fq_lanes.specs.FeedLane.{feed_names, feed_view, new_feed, told_of, tolds_of, AreNewFeeds};
+ghost use Rattle.fq_lanes.specs.Lane.{Name, put_items, put_name, taken_items, IsLane, SamePut, SameTake};
 ghost use Rattle.fq_lanes.specs.Lists.{Each};
 ghost use Rattle.fq_lanes.specs.FeedThread.{Scanned, Began};
 ghost use Rattle.fq_lanes.specs.HubView.{WorkerView, AllReplied};
@@ -243,6 +243,24 @@ fn open_feed<'s, X: Drop>(
     }
 }
 
+/// Takes off the last lane, whose thread has ended, and drops what was not taken from it.
+fn close_feed<X: Drop>(lanes: &mut Vec<FeedLane<'_, X>>, put: Put<FromFeed<X>>)
+    requires { (names : List Name) × (feed_names lanes.old.items ≡ names ++ put_name put ∷ []) }
+    ensures names { (names : List Name) → feed_names lanes.old.items ≡ names ++ put_name put ∷ [] → feed_names lanes.new.items ≡ names }
+    ensures last { (hub : FeedLane X) × (lanes.old.items ≡ lanes.new.items ++ hub ∷ []) × ((left : List (FromFeed X)) × (told_of hub ++ left ≡ put_items put)) }
+{
+    let Some(lane) = lanes.pop() else {
+        unreachable!()
+    };
+    let FeedLane {
+        waiter: _,
+        take,
+        items: _,
+        ended: _,
+    } = lane;
+    drop(rejoin(put, take));
+}
+
 /// Starts a thread for each feed that is left, then the workers, runs the core, and joins them.
 pub(crate) fn start_feeds<
     's,
@@ -298,17 +316,7 @@ where
             let outcome = start_feeds(
                 scope, rt, alloc, parkers, work, gate, count, feeds, lanes, hub,
             );
-            let put = child.join(rt);
-            let Some(lane) = lanes.pop() else {
-                unreachable!()
-            };
-            let FeedLane {
-                waiter: _,
-                take,
-                items: _,
-                ended: _,
-            } = lane;
-            drop(rejoin(put, take));
+            close_feed(lanes, child.join(rt));
             outcome
         }
         Err(refused) => {

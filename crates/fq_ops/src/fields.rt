@@ -93,17 +93,6 @@ pub fn copy_name(alloc: Global, name: &str) -> Result<String, StepFault>
     String::from_str(alloc, name).map_err(|_| StepFault::Memory)
 }
 
-/// Copies of names.
-pub fn copy_names(alloc: Global, names: &[String]) -> Result<Vec<String>, Memory>
-    ensures { IfOk result (λ copies. map string_bytes copies.items ≡ map string_bytes names.now) }
-{
-    let mut copies = Vec::with_capacity(alloc, names.len())?;
-    for name in names {
-        copies.push(String::from_str(alloc, name.as_str())?)?;
-    }
-    Ok(copies)
-}
-
 /// The places of named columns.
 pub fn positions(alloc: Global, schema: &Schema, names: &[String]) -> Result<Vec<usize>, Memory>
     requires { AllPass (has_name (names_of schema.now)) (map string_bytes names.now) }

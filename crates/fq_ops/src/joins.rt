@@ -12,12 +12,12 @@ ghost use Rattle.fq_ops.specs.Join.{AreKeys, join_schema as judged_join, joined_
 ghost use Rattle.fq_ops.specs.Picks.{columns_of};
 ghost use Rattle.fq_ops.specs.Pairs.{IsIndex, join_picks, matches_of, pairs_of, pairs_within};
 
-use crate::fields::{copy_names, positions};
+use crate::fields::positions;
 use crate::index::number_of;
 use crate::keys::{Key, key_law};
 use crate::pairs::Pairs;
 use crate::schemas::{contains, join_schema};
-use fq_column::{Batch, Column, Memory};
+use fq_column::{Batch, Column, Memory, copy_strings};
 use indexmap::IndexSet;
 use smallvec::SmallVec;
 use std::alloc::Global;
@@ -121,7 +121,7 @@ impl JoinTable {
         ensures { IfOk result (λ t. t ≡ record { fields = right.now.fields; rows = right.now.rows; on = map string_bytes on.now }) }
     {
         let right = right.copy(alloc)?;
-        let on = copy_names(alloc, on)?;
+        let on = copy_strings(alloc, on)?;
         JoinTable::build_from(alloc, right, on)
     }
 

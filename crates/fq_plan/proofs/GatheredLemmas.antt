@@ -10,10 +10,10 @@ use Rattle.fq_plan.specs.EngineRun.{Gives, opened, records_of_files}
 use Rattle.fq_plan.specs.Feeding.{Feeding, MayCome}
 use Rattle.fq_plan.specs.GatheredRun.{HasGathered}
 use Rattle.fq_plan.specs.Kept.{AreSound, Takes}
-use Rattle.fq_plan.specs.Plan.{file_fields, files_wanted, join_files}
+use Rattle.fq_plan.specs.Plan.{file_layouts, files_wanted, join_files}
 use Rattle.fq_plan.specs.Run.{Tell}
 use Rattle.fq_plan.specs.Sources.{file_streams}
-use Rattle.fq_plan.specs.Stages.{IsChecked}
+use Rattle.fq_plan.specs.Stages.{checked_layout, IsChecked}
 use Rattle.fq_plan.specs.Standing.{TailTakes, Waits}
 use Rattle.fq_plan.specs.Working.{work_on}
 use Rattle.fq_plan.specs.declared.feeds.Scanned.{Scanned}
@@ -42,7 +42,7 @@ module _ (sources : List CheckedSource) (front : NumberedSteps) (stages : List S
 
   pub has-gathered : {R : Type 0} (remaining : R → Option (List ℕ)) (readers : List R) (b : ℕ) (feeds : List Feeding) (first last : RunTail) (trace : List (ℕ × ℕ)) →
       0 < b → length readers ≡ files_wanted (plan sources front stages inputs c) →
-      feeds ≡ opened remaining b 0 (flat_map (λ (s : CheckedSource). replicate s.files s.schema) sources) readers →
+      feeds ≡ opened remaining b 0 (flat_map (λ (s : CheckedSource). replicate s.files (checked_layout s)) sources) readers →
       first.join_files ≡ join_files (plan sources front stages inputs c) →
       Waits stages (before_main sources front stages inputs c joins main parts) (main_one sources front stages inputs c joins main parts) first →
       Finishes MayCome (λ file item out. out ≡ work_on front (inputs - main.files) file item) TailTakes feeds first trace last →
@@ -61,7 +61,7 @@ module _ (sources : List CheckedSource) (front : NumberedSteps) (stages : List S
         ap length feeds-are,
         count,
         wanted-is sources front stages inputs c joins main parts,
-        length-opened remaining b 0 (flat_map (λ (s : CheckedSource). replicate s.files s.schema) sources) readers,
+        length-opened remaining b 0 (flat_map (λ (s : CheckedSource). replicate s.files (checked_layout s)) sources) readers,
       ))) in
       let taken : List Gathered = all_taken (answers_in log) at_first in
       let stood : StandsFor stages (length front.steps) c.leads.1 last taken =
@@ -69,8 +69,8 @@ module _ (sources : List CheckedSource) (front : NumberedSteps) (stages : List S
       finished.2.2 order file-count (ap (λ n. n + main.files) (join-file-count sources front stages inputs c joins main parts)) (leads-over sources front stages inputs c joins main parts) waits in
       let took : Finishes MayCome works Takes feeds at_first trace taken = (items, finished.1, (log, finished.2.1, took-sources log at_first, finished.2.3)) in
       let gives : (files : List (List ℕ)) → Tell remaining readers files → Gives (plan sources front stages inputs c) b (file_streams (plan sources front stages inputs c) files) taken trace =
-      λ files tell. subst (λ (us : List (Stream ScanFault)). Gives (plan sources front stages inputs c) b us taken trace) (rows-of-bytes 0 (file_fields (plan sources front stages inputs c)) files)
-      (ran-gives (plan sources front stages inputs c) b (records_of_files 0 (file_fields (plan sources front stages inputs c)) files) front (inputs - main.files) feeds at_first taken trace
+      λ files tell. subst (λ (us : List (Stream ScanFault)). Gives (plan sources front stages inputs c) b us taken trace) (rows-of-bytes 0 (file_layouts (plan sources front stages inputs c)) files)
+      (ran-gives (plan sources front stages inputs c) b (records_of_files 0 (file_layouts (plan sources front stages inputs c)) files) front (inputs - main.files) feeds at_first taken trace
       (ran-over sources front stages inputs c joins main parts remaining b readers files feeds at_first taken trace some count tell feeds-are refl took)) in
       record {
         stages = stages;

@@ -30,3 +30,4 @@ mod OutcomeOfPipeline
 mod StandingLemmas
 mod LogLemmas
 mod GatheredLemmas
+mod VersionLemmas

@@ -3,15 +3,15 @@ use Rattle.std.proofs.Common.{◌≡◌, ℕ, suc, ◌+◌, ◌<◌, List, [], �
 use Rattle.std.specs.List.{slice_get}
 use Rattle.std.proofs.lemmas.List.{length-map, take_all}
 use Rattle.std.proofs.lemmas.List.Sums.{sum_by-cons}
-use Rattle.fq_column.specs.Frame.{Fields}
 use Rattle.fq_column.specs.Stream.{Stream, rename_fault}
 use Rattle.fq_csv.specs.Taking.{RecordStream}
+use Rattle.fq_csv.specs.declared.layouts.Layout.{Layout}
 use Rattle.fq_csv.specs.declared.faults.ScanFault.{ScanFault}
 use Rattle.fq_expr.specs.Front.{NumberedSteps}
 use Rattle.fq_lanes.specs.Numbering.{numbered, numbers}
 use Rattle.fq_plan.specs.Feeding.{Feeding}
 use Rattle.fq_plan.specs.Meaning.{meaning, outcome}
-use Rattle.fq_plan.specs.Plan.{Source, Query, but_last, file_fields, files_wanted, front_of, join_files, rest_of}
+use Rattle.fq_plan.specs.Plan.{Source, Query, but_last, file_layouts, files_wanted, front_of, join_files, rest_of}
 use Rattle.fq_plan.specs.EngineRun.{Gives, RanOver, front_fields, items_of_files, leading_steps, main_files, no_rows, nothing_taken, outcome_of_gathered, rows_of_files}
 use Rattle.fq_plan.specs.Run.{trace_of}
 use Rattle.fq_plan.specs.Sources.{concat_streams, first_fault, scan_fault}
@@ -21,7 +21,7 @@ use Rattle.fq_plan.specs.declared.feeds.Scanned.{Scanned}
 use Rattle.fq_plan.specs.declared.gathering.Gathered.{Gathered}
 use Rattle.fq_plan.proofs.EndLemmas.{files-done}
 use Rattle.fq_plan.proofs.GatheringLemmas.{Answer, all_joined-items, all_taken, all_taken-joined, items-frames, items-streams, with_items, with_items-append, head_of}
-use Rattle.fq_plan.proofs.PlaceLemmas.{HasMain, files-fit, has_main, length-columns, main-fields, wanted-main}
+use Rattle.fq_plan.proofs.PlaceLemmas.{HasMain, files-fit, has_main, length-layouts, main-fields, wanted-main}
 use Rattle.fq_plan.proofs.EngineLemmas.{answer-streams, answers_in, answers_to, each-known, files-numbers, fit-files, length-rows, log-answers, log-numbers, took-all, worked-joined, worked_streams}
 use Rattle.fq_plan.proofs.SplitLemmas.{same-ends}
 use Rattle.fq_plan.proofs.TailLemmas.{flat, items_from-start, outcome-all}
@@ -39,38 +39,38 @@ files-sum (s ∷ ss) =
 module _ (p : Query) (b : ℕ) (ws : List RecordStream) (main : Source) (has : HasMain p main) (some : 0 < b) (all : length ws ≡ files_wanted p) where
   -- the files' streams
   abbrev pub us : List (Stream ScanFault)
-  us = rows_of_files 0 (file_fields p) ws
+  us = rows_of_files 0 (file_layouts p) ws
 
   abbrev pub items : List (List Scanned)
-  items = items_of_files b 0 (file_fields p) ws
+  items = items_of_files b 0 (file_layouts p) ws
 
   abbrev pub streams : List (List (Stream Fault))
-  streams = worked_streams (leading_steps p) (join_files p) 0 (items_of_files b 0 (file_fields p) ws)
+  streams = worked_streams (leading_steps p) (join_files p) 0 (items_of_files b 0 (file_layouts p) ws)
 
   abbrev pub taken : List Taken
-  taken = tagged 0 (worked_streams (leading_steps p) (join_files p) 0 (items_of_files b 0 (file_fields p) ws))
+  taken = tagged 0 (worked_streams (leading_steps p) (join_files p) 0 (items_of_files b 0 (file_layouts p) ws))
 
   abbrev pub starts : List Gathered
   starts = map (λ (s : Source). no_rows s.files s.fields) (but_last p.sources)
 
-  columns-count : length (file_fields p) ≡ length ws
-  columns-count = length-columns p.sources ∙ sym all
+  columns-count : length (file_layouts p) ≡ length ws
+  columns-count = length-layouts p.sources ∙ sym all
 
   file-count : length (map (rename_fault scan_fault) us) ≡ files_wanted p
-  file-count = length-map us (rename_fault scan_fault) ∙ length-rows 0 (file_fields p) ws columns-count ∙ all
+  file-count = length-map us (rename_fault scan_fault) ∙ length-rows 0 (file_layouts p) ws columns-count ∙ all
 
-  from-first : (i : ℕ) (fields : Fields) → slice_get (file_fields p) i ≡ Some fields → slice_get (file_fields p) (0 + i) ≡ Some fields
-  from-first i fields e = ap (slice_get (file_fields p)) (let q : 0 + i ≡ i = omega arith in q) ∙ e
+  from-first : (i : ℕ) (layout : Layout) → slice_get (file_layouts p) i ≡ Some layout → slice_get (file_layouts p) (0 + i) ≡ Some layout
+  from-first i layout e = ap (slice_get (file_layouts p)) (let q : 0 + i ≡ i = omega arith in q) ∙ e
 
   all-gathered : all_taken (answers_to (leading_steps p) (join_files p) (numbered 0 items)) (nothing_taken p) ≡ with_items 0 taken (nothing_taken p)
   all-gathered =
       let ts : List Answer = answers_to (leading_steps p) (join_files p) (numbered 0 items) in
-      all_taken-joined ts (nothing_taken p) (fit-files (leading_steps p) (join_files p) (map head_of (nothing_taken p)) b 0 (file_fields p) ws (files-fit p main has 0 (file_fields p) from-first))
+      all_taken-joined ts (nothing_taken p) (fit-files (leading_steps p) (join_files p) (map head_of (nothing_taken p)) b 0 (file_layouts p) ws (files-fit p main has 0 (file_layouts p) from-first))
       ∙ all_joined-items ts (nothing_taken p)
       ∙ ap (λ xs. with_items 0 xs (nothing_taken p)) (answer-streams (leading_steps p) (join_files p) 0 items)
 
   joins-to : map concat_streams streams ≡ worked_files p 0 (map (rename_fault scan_fault) us)
-  joins-to = worked-joined p b 0 (file_fields p) ws some (main-fields p main has 0 (file_fields p) from-first)
+  joins-to = worked-joined p b 0 (file_layouts p) ws some (main-fields p main has 0 (file_layouts p) from-first)
 
   -- there are as many lists of items as files
   stream-count : length streams ≡ files_wanted p
@@ -110,15 +110,15 @@ module _ (p : Query) (b : ℕ) (ws : List RecordStream) (main : Source) (has : H
       ap (λ gs. outcome_of_gathered p gs last) both.0 ∙ ap (outcome_of_gathered p (with_items 0 taken starts)) both.1 ∙ gathered-outcome taken_last main-items
 
   trace-of : IsOk (meaning p us) → numbers (numbered 0 items) ≡ trace_of b us
-  trace-of h = files-numbers b 0 (file_fields p) ws (files-done p us h)
+  trace-of h = files-numbers b 0 (file_layouts p) ws (files-done p us h)
 
 pub ran-gives : (p : Query) (b : ℕ) (ws : List RecordStream) (front : NumberedSteps) (joins : ℕ) (feeds : List Feeding) (first last : List Gathered) (trace : List (ℕ × ℕ)) →
-    RanOver p b ws front joins feeds first last trace → Gives p b (rows_of_files 0 (file_fields p) ws) last trace
+    RanOver p b ws front joins feeds first last trace → Gives p b (rows_of_files 0 (file_layouts p) ws) last trace
 ran-gives p b ws front joins feeds first last trace ran =
     let main = has_main p ran.some_source in
     let given : List (List Scanned) = ran.finished.0 in
     let log = ran.finished.2.0 in
-    let items : List (List Scanned) = items_of_files b 0 (file_fields p) ws in
+    let items : List (List Scanned) = items_of_files b 0 (file_layouts p) ws in
     let known : given ≡ items = each-known feeds given items ran.finished.1 ran.told in
     let answers : answers_in log ≡ answers_to (leading_steps p) (join_files p) (numbered 0 items) =
     log-answers front joins (numbered 0 given) log ran.finished.2.1

@@ -1,5 +1,5 @@
 -- What a JSON reader's answer says of the plan that bytes spell.
-use Rattle.std.proofs.Common.{◌≡◌, ℕ, Bool, true, false, List, Option, Some, None, option_map, Result, Err, IsUtf8, refl, ap, sym, ◌∙◌}
+use Rattle.std.proofs.Common.{◌≡◌, ℕ, Bool, true, false, List, Option, Some, None, Result, Err, IsUtf8, refl, ap, sym, ◌∙◌}
 use Rattle.std.specs.Prelude.{ok_or}
 use Rattle.std.specs.Str.{is_utf8}
 use Rattle.std.proofs.lemmas.Str.{IsUtf8-from_is_utf8, is_utf8-from_IsUtf8}
@@ -14,13 +14,9 @@ use Rattle.fq_plan.specs.declared.faults.PlanFault.TheVariants.{Json, Shape}
 abbrev of_data : Option Data → Result Query PlanFault
 of_data o = elim o [ None ↦ Err Json | Some d ↦ ok_or (plan_of d) Shape ]
 
-unchanged : (o : Option Query) → o ≡ option_map (λ q. q) o
-unchanged None = refl
-unchanged (Some q) = refl
-
-pub read_as_plan-some : (bytes : List ℕ) (d : Data) (o : Option Query) → IsUtf8 bytes → read bytes ≡ Some d → option_map (λ q. q) o ≡ plan_of d → ok_or o Shape ≡ read_as_plan bytes
+pub read_as_plan-some : (bytes : List ℕ) (d : Data) (o : Option Query) → IsUtf8 bytes → read bytes ≡ Some d → o ≡ plan_of d → ok_or o Shape ≡ read_as_plan bytes
 read_as_plan-some bytes d o valid e same =
-    ap (λ p. ok_or p Shape) (unchanged o ∙ same) ∙ sym (ap (λ b. of_data (only_if b (read bytes))) (is_utf8-from_IsUtf8 bytes valid) ∙ ap of_data e)
+    ap (λ p. ok_or p Shape) same ∙ sym (ap (λ b. of_data (only_if b (read bytes))) (is_utf8-from_IsUtf8 bytes valid) ∙ ap of_data e)
 
 pub read_as_plan-none : (bytes : List ℕ) → (IsUtf8 bytes → read bytes ≡ None) → Err Json ≡ read_as_plan bytes
 read_as_plan-none bytes h = go (is_utf8 bytes) refl

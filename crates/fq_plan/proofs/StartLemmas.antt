@@ -3,22 +3,22 @@ use Rattle.std.proofs.Common.{◌≡◌, ℕ, zero, suc, ◌+◌, ◌-◌, ◌<�
 use Rattle.std.specs.Prelude.{All}
 use Rattle.std.proofs.lemmas.List.{length-map, map-append}
 use Rattle.std.proofs.lemmas.List.Sums.{sum_by-cons, sum_by_push}
-use Rattle.fq_column.specs.Frame.{Fields}
 use Rattle.fq_expr.specs.Expression.{Step}
 use Rattle.fq_expr.specs.Front.{NumberedSteps}
 use Rattle.fq_expr.specs.Steps.{fields_after_all}
 use Rattle.fq_lanes.specs.Engine.{Finishes}
+use Rattle.fq_csv.specs.declared.layouts.Layout.{Layout}
 use Rattle.fq_plan.specs.Feeding.{Feeding, MayCome}
 use Rattle.fq_plan.specs.Kept.{Takes}
-use Rattle.fq_plan.specs.Plan.{Source, PlanStep, row_wise, join, group_by, rolling_sum, Query, but_last, last_or, file_fields, files_wanted, front_of, join_fields, join_files, rest_of}
+use Rattle.fq_plan.specs.Plan.{layout_of, Source, PlanStep, row_wise, join, group_by, rolling_sum, Query, but_last, last_or, file_layouts, files_wanted, front_of, join_fields, join_files, rest_of}
 use Rattle.fq_plan.specs.EngineRun.{RanOver, leading_steps, main_files, no_rows, nothing_taken, opened, records_of_files}
 use Rattle.fq_plan.specs.Run.{Tell}
-use Rattle.fq_plan.specs.Stages.{checked_source_data, query_of, stage_steps, IsChecked}
+use Rattle.fq_plan.specs.Stages.{checked_layout, checked_source_data, query_of, stage_steps, IsChecked}
 use Rattle.fq_plan.specs.Working.{work_on}
 use Rattle.fq_plan.specs.declared.gathering.Gathered.{Gathered}
 use Rattle.fq_plan.specs.declared.stages.CheckedSource.{CheckedSource}
 use Rattle.fq_plan.specs.declared.stages.Stage.{Stage}
-use Rattle.fq_plan.proofs.PlaceLemmas.{length-columns}
+use Rattle.fq_plan.proofs.PlaceLemmas.{length-layouts}
 use Rattle.fq_plan.proofs.EngineLemmas.{opened-told}
 use Rattle.fq_plan.proofs.SplitLemmas.{but_last-snoc, last_or-snoc}
 
@@ -41,31 +41,31 @@ rest-all (x ∷ xs) steps e = rest-all xs steps e
 
 -- ---- feeds that were opened
 
-pub opened-open : {R : Type 0} (remaining : R → Option (List ℕ)) (b k : ℕ) (fss : List Fields) (rs : List R) → All (λ (f : Feeding). f.most ≤ 2147483648) (opened remaining b k fss rs)
+pub opened-open : {R : Type 0} (remaining : R → Option (List ℕ)) (b k : ℕ) (fss : List Layout) (rs : List R) → All (λ (f : Feeding). f.most ≤ 2147483648) (opened remaining b k fss rs)
 opened-open remaining b k [] rs i d h = absurd (omega (arith, h))
-opened-open remaining b k (fields ∷ fss) [] i d h = absurd (omega (arith, h))
-opened-open remaining b k (fields ∷ fss) (r ∷ rs) zero d h = omega arith
-opened-open remaining b k (fields ∷ fss) (r ∷ rs) (suc i) d h = opened-open remaining b (k + 1) fss rs i d (omega (arith, h))
+opened-open remaining b k (layout ∷ fss) [] i d h = absurd (omega (arith, h))
+opened-open remaining b k (layout ∷ fss) (r ∷ rs) zero d h = omega arith
+opened-open remaining b k (layout ∷ fss) (r ∷ rs) (suc i) d h = opened-open remaining b (k + 1) fss rs i d (omega (arith, h))
 
-pub length-opened : {R : Type 0} (remaining : R → Option (List ℕ)) (b k : ℕ) (fss : List Fields) (rs : List R) → length (opened remaining b k fss rs) ≤ length rs
+pub length-opened : {R : Type 0} (remaining : R → Option (List ℕ)) (b k : ℕ) (fss : List Layout) (rs : List R) → length (opened remaining b k fss rs) ≤ length rs
 length-opened remaining b k [] rs = omega arith
-length-opened remaining b k (fields ∷ fss) [] = omega arith
-length-opened remaining b k (fields ∷ fss) (r ∷ rs) = omega (arith, length-opened remaining b (k + 1) fss rs)
+length-opened remaining b k (layout ∷ fss) [] = omega arith
+length-opened remaining b k (layout ∷ fss) (r ∷ rs) = omega (arith, length-opened remaining b (k + 1) fss rs)
 
 -- ---- as many streams as files
 
-length-records : (k : ℕ) (fss : List Fields) (files : List (List ℕ)) → length fss ≡ length files → length (records_of_files k fss files) ≡ length files
+length-records : (k : ℕ) (fss : List Layout) (files : List (List ℕ)) → length fss ≡ length files → length (records_of_files k fss files) ≡ length files
 length-records k [] [] e = refl
 length-records k [] (x ∷ files) e = absurd (omega (arith, e))
-length-records k (fields ∷ fss) [] e = absurd (omega (arith, e))
-length-records k (fields ∷ fss) (x ∷ files) e = ap suc (length-records (k + 1) fss files (omega (arith, e)))
+length-records k (layout ∷ fss) [] e = absurd (omega (arith, e))
+length-records k (layout ∷ fss) (x ∷ files) e = ap suc (length-records (k + 1) fss files (omega (arith, e)))
 
 -- ---- the sources of a checked plan
 
-schemas-of : (sources : List CheckedSource) →
-    flat_map (λ (s : CheckedSource). replicate s.files s.schema) sources ≡ flat_map (λ (s : Source). replicate s.files s.fields) (map checked_source_data sources)
-schemas-of [] = refl
-schemas-of (s ∷ sources) = ap (λ fss. replicate s.files s.schema ++ fss) (schemas-of sources)
+layouts-of : (sources : List CheckedSource) →
+    flat_map (λ (s : CheckedSource). replicate s.files (checked_layout s)) sources ≡ flat_map (λ (s : Source). replicate s.files (layout_of s)) (map checked_source_data sources)
+layouts-of [] = refl
+layouts-of (s ∷ sources) = ap (λ fss. replicate s.files (checked_layout s) ++ fss) (layouts-of sources)
 
 rows-of : (sources : List CheckedSource) →
     map (λ (s : CheckedSource). no_rows s.files s.schema) sources ≡ map (λ (s : Source). no_rows s.files s.fields) (map checked_source_data sources)
@@ -97,11 +97,11 @@ module _ (sources : List CheckedSource) (front : NumberedSteps) (stages : List S
   pub leading-is : front ≡ leading_steps plan
   leading-is = λ i. record { steps = sym front-is i; fields = c.on_main i; first = c.from_first i }
 
-  pub schemas-are : flat_map (λ (s : CheckedSource). replicate s.files s.schema) sources ≡ file_fields plan
-  schemas-are = schemas-of sources
+  pub layouts-are : flat_map (λ (s : CheckedSource). replicate s.files (checked_layout s)) sources ≡ file_layouts plan
+  layouts-are = layouts-of sources
 
-  pub count-schemas : length (flat_map (λ (s : CheckedSource). replicate s.files s.schema) sources) ≡ files_wanted plan
-  count-schemas = ap length schemas-are ∙ length-columns plan.sources
+  pub count-layouts : length (flat_map (λ (s : CheckedSource). replicate s.files (checked_layout s)) sources) ≡ files_wanted plan
+  count-layouts = ap length layouts-are ∙ length-layouts plan.sources
 
   module _ (joins : List CheckedSource) (main : CheckedSource) (parts : sources ≡ joins ++ main ∷ []) where
     split : plan.sources ≡ map checked_source_data joins ++ checked_source_data main ∷ []
@@ -140,19 +140,19 @@ module _ (sources : List CheckedSource) (front : NumberedSteps) (stages : List S
     -- the engine over what readers tell
     pub ran-over : {R : Type 0} (remaining : R → Option (List ℕ)) (b : ℕ) (readers : List R) (files : List (List ℕ)) (feeds : List Feeding) (first last : List Gathered) (trace : List (ℕ × ℕ)) →
         0 < b → length readers ≡ files_wanted plan → Tell remaining readers files →
-        feeds ≡ opened remaining b 0 (flat_map (λ (s : CheckedSource). replicate s.files s.schema) sources) readers →
+        feeds ≡ opened remaining b 0 (flat_map (λ (s : CheckedSource). replicate s.files (checked_layout s)) sources) readers →
         first ≡ map (λ (s : CheckedSource). no_rows s.files s.schema) joins ++ no_rows main.files (fields_after_all front.fields front.steps) ∷ [] →
         Finishes MayCome (λ file item out. out ≡ work_on front (inputs - main.files) file item) Takes feeds first trace last →
-        RanOver plan b (records_of_files 0 (file_fields plan) files) front (inputs - main.files) feeds first last trace
+        RanOver plan b (records_of_files 0 (file_layouts plan) files) front (inputs - main.files) feeds first last trace
     ran-over remaining b readers files feeds first last trace some count tell feeds-are nothing finished =
         let many : length files ≡ files_wanted plan = sym (length-map files Some) ∙ ap length (sym tell) ∙ length-map readers remaining ∙ count in
         record {
           some_rows = some;
           some_source = c.limits.some_source;
-          all_files = length-records 0 (file_fields plan) files (length-columns plan.sources ∙ sym many) ∙ many;
+          all_files = length-records 0 (file_layouts plan) files (length-layouts plan.sources ∙ sym many) ∙ many;
           steps = leading-is;
           join_count = join-count;
-          told = ap (map (λ (f : Feeding). f.items)) (feeds-are ∙ ap (λ fss. opened remaining b 0 fss readers) schemas-are) ∙ opened-told remaining b 0 (file_fields plan) readers files tell;
+          told = ap (map (λ (f : Feeding). f.items)) (feeds-are ∙ ap (λ fss. opened remaining b 0 fss readers) layouts-are) ∙ opened-told remaining b 0 (file_layouts plan) readers files tell;
           nothing = nothing ∙ nothing-is;
           finished = finished;
         }

@@ -4,6 +4,7 @@ use Rattle.fq_column.specs.Frame.{Fields, Frame}
 use Rattle.fq_column.specs.Stream.{Stream}
 use Rattle.fq_csv.specs.Taking.{RecordStream, record_stream, rows_of_records}
 use Rattle.fq_csv.specs.declared.faults.ScanFault.{ScanFault}
+use Rattle.fq_csv.specs.declared.layouts.Layout.{Layout}
 use Rattle.fq_expr.specs.Front.{NumberedSteps}
 use Rattle.fq_expr.specs.Steps.{fields_after_all}
 use Rattle.fq_lanes.specs.Engine.{Finishes}
@@ -11,7 +12,7 @@ use Rattle.fq_plan.specs.Feeding.{Feeding, MayCome, scanned_items}
 use Rattle.fq_plan.specs.Gathering.{gathered_stream}
 use Rattle.fq_plan.specs.Kept.{Takes}
 use Rattle.fq_plan.specs.Meaning.{meaning, outcome}
-use Rattle.fq_plan.specs.Plan.{Query, but_last, last_or, file_fields, files_wanted, front_of, join_files, main_fields, rest_of}
+use Rattle.fq_plan.specs.Plan.{Query, but_last, last_or, file_layouts, files_wanted, front_of, join_files, main_fields, rest_of}
 use Rattle.fq_plan.specs.Run.{trace_of}
 use Rattle.fq_plan.specs.Sources.{first_fault, row_limit}
 use Rattle.fq_plan.specs.Working.{work_on}
@@ -38,31 +39,31 @@ no_rows files fields = record { files = files; batch = record { fields = fields;
 abbrev pub nothing_taken : Query → List Gathered
 nothing_taken p = map (λ s. no_rows s.files s.fields) (but_last p.sources) ++ no_rows (main_files p) (front_fields p) ∷ []
 
--- the items of each file's records; the files are numbered from this one on and have these columns
-abbrev pub items_of_files : ℕ → ℕ → List Fields → List RecordStream → List (List Scanned)
+-- the items of each file's records; the files are numbered from this one on and have these layouts
+abbrev pub items_of_files : ℕ → ℕ → List Layout → List RecordStream → List (List Scanned)
 items_of_files run_size file [] ws = []
-items_of_files run_size file (fields ∷ columns) [] = []
-items_of_files run_size file (fields ∷ columns) (w ∷ ws) = scanned_items file fields run_size 0 w ∷ items_of_files run_size (file + 1) columns ws
+items_of_files run_size file (layout ∷ layouts) [] = []
+items_of_files run_size file (layout ∷ layouts) (w ∷ ws) = scanned_items file layout run_size 0 w ∷ items_of_files run_size (file + 1) layouts ws
 
 -- the rows of each file's records
-abbrev pub rows_of_files : ℕ → List Fields → List RecordStream → List (Stream ScanFault)
+abbrev pub rows_of_files : ℕ → List Layout → List RecordStream → List (Stream ScanFault)
 rows_of_files file [] ws = []
-rows_of_files file (fields ∷ columns) [] = []
-rows_of_files file (fields ∷ columns) (w ∷ ws) = rows_of_records file fields row_limit 0 w ∷ rows_of_files (file + 1) columns ws
+rows_of_files file (layout ∷ layouts) [] = []
+rows_of_files file (layout ∷ layouts) (w ∷ ws) = rows_of_records file layout row_limit 0 w ∷ rows_of_files (file + 1) layouts ws
 
 -- the records of each file's bytes
-abbrev pub records_of_files : ℕ → List Fields → List (List ℕ) → List RecordStream
+abbrev pub records_of_files : ℕ → List Layout → List (List ℕ) → List RecordStream
 records_of_files file [] files = []
-records_of_files file (fields ∷ columns) [] = []
-records_of_files file (fields ∷ columns) (bytes ∷ files) = record_stream file fields row_limit bytes ∷ records_of_files (file + 1) columns files
+records_of_files file (layout ∷ layouts) [] = []
+records_of_files file (layout ∷ layouts) (bytes ∷ files) = record_stream file layout.schema row_limit bytes ∷ records_of_files (file + 1) layouts files
 
--- what feeds of readers have to give, which are numbered from this file on and have these columns
-abbrev pub opened : {R : Type 0} → (R → Option (List ℕ)) → ℕ → ℕ → List Fields → List R → List Feeding
+-- what feeds of readers have to give, which are numbered from this file on and have these layouts
+abbrev pub opened : {R : Type 0} → (R → Option (List ℕ)) → ℕ → ℕ → List Layout → List R → List Feeding
 opened remaining run_size file [] readers = []
-opened remaining run_size file (fields ∷ columns) [] = []
-opened remaining run_size file (fields ∷ columns) (reader ∷ readers) =
-    record { most = 2147483648; items = option_map (scanned_items file fields run_size 0) (option_map (record_stream file fields row_limit) (remaining reader)) }
-    ∷ opened remaining run_size (file + 1) columns readers
+opened remaining run_size file (layout ∷ layouts) [] = []
+opened remaining run_size file (layout ∷ layouts) (reader ∷ readers) =
+    record { most = 2147483648; items = option_map (scanned_items file layout run_size 0) (option_map (record_stream file layout.schema row_limit) (remaining reader)) }
+    ∷ opened remaining run_size (file + 1) layouts readers
 
 -- what the steps after the leading ones make of what was gathered, where no source before the last ends in a fault
 abbrev pub outcome_of_gathered : Query → List Gathered → Gathered → Result Frame Fault
@@ -78,7 +79,7 @@ pub record RanOver (p : Query) (batch_size : ℕ) (ws : List RecordStream) (fron
   pub all_files : length ws ≡ files_wanted p
   pub steps : front ≡ leading_steps p
   pub join_count : joins ≡ join_files p
-  pub told : map (λ f. f.items) feeds ≡ map Some (items_of_files batch_size 0 (file_fields p) ws)
+  pub told : map (λ f. f.items) feeds ≡ map Some (items_of_files batch_size 0 (file_layouts p) ws)
   pub nothing : first ≡ nothing_taken p
   pub finished : Finishes MayCome (λ file item out. out ≡ work_on front joins file item) Takes feeds first trace last
 

@@ -182,16 +182,33 @@ NoPlans = let v = codes "['v','int']" in (answer (codes "[]") [] ≡ no_plan Sha
     × (answer (255 ∷ []) [] ≡ no_plan Json)
     × (answer (replicate 200 91 ++ replicate 200 93) [] ≡ no_plan Json)
     × (answer (one_file v (codes "{'sort':'v'}")) [] ≡ no_plan Shape)
-    × (answer (json (codes "{'version':2,'sources':[{'files':1,'columns':[['v','int']]}],'steps':[]}")) [] ≡ no_plan Shape)
+    × (answer (json (codes "{'version':3,'sources':[{'files':1,'columns':[['v','int']]}],'steps':[]}")) [] ≡ no_plan Shape)
     × (answer (one_file v (codes "{'filter':['gt',{'col':'v'},1.5]}")) [] ≡ no_plan Shape)
     × (answer (plan (source (codes "8") [] ++ codes "," ++ source (codes "9") []) []) [] ≡ no_plan Shape)
     × (answer (json (codes "{'version':1,'sources':[{'files':1,'columns':[['v','int']]}],'steps':[],'more':0}")) [] ≡ no_plan Shape)
     × (answer (json (codes "{'version':1,'sources':[],'steps':[]}")) [] ≡ no_plan Shape)
 
+-- texts that are null, in version 2
+abbrev pub with_nulls : List ℕ → List ℕ → List ℕ
+with_nulls columns texts = codes "{'files':1,'columns':[" ++ columns ++ codes "],'null_values':[" ++ texts ++ codes "]}"
+
+abbrev pub plan_two : List ℕ → List ℕ → List ℕ
+plan_two sources steps = json (codes "{'version':2,'sources':[" ++ sources ++ codes "],'steps':[" ++ steps ++ codes "]}")
+
+abbrev pub NullTexts : Type 0
+NullTexts = let columns = codes "['k','text'],['v','int']" in let file = codes "k,v\nNA,1\na,-\n-,NA\nna,2\n" in let k = codes "['k','text']" in
+    (answer (plan_two (with_nulls columns (codes "'NA','-'")) []) (file ∷ []) ≡ prints (codes "k,v\n,1\na,\n,\nna,2\n"))
+    × (answer (one_file columns []) (file ∷ []) ≡ faults (BadCell 0 2 1))
+    × (answer (plan_two (with_nulls (codes "['v','int']") (codes "'1'")) []) (codes "v\n1\n01\n" ∷ []) ≡ prints (codes "v\n\"\"\n1\n"))
+    × (answer (plan_two (with_nulls k (codes "'b'") ++ codes "," ++ source (codes "1") k) (join_on_k (codes "inner"))) (codes "k\nb\n" ∷ codes "k\nb\n" ∷ []) ≡ prints (codes "k\n"))
+    × (answer (plan (with_nulls k []) []) [] ≡ no_plan Shape)
+    × (answer (plan_two (with_nulls k (codes "'','','','','','','','','','','','','','','',''")) []) (codes "k\n" ∷ []) ≡ prints (codes "k\n"))
+    × (answer (plan_two (with_nulls k (codes "'','','','','','','','','','','','','','','','',''")) []) [] ≡ no_plan Shape)
+
 -- a member that is given twice has its last value
 abbrev pub DoubleMembers : Type 0
-DoubleMembers = (answer (json (codes "{'version':1,'sources':[{'files':1,'columns':[['v','int']]}],'steps':[],'version':2}")) [] ≡ no_plan Shape)
-    × (answer (json (codes "{'version':2,'steps':[],'sources':[{'columns':[['v','int']],'files':1}],'version':1}")) (codes "v\n" ∷ []) ≡ prints (codes "v\n"))
+DoubleMembers = (answer (json (codes "{'version':1,'sources':[{'files':1,'columns':[['v','int']]}],'steps':[],'version':3}")) [] ≡ no_plan Shape)
+    × (answer (json (codes "{'version':3,'steps':[],'sources':[{'columns':[['v','int']],'files':1}],'version':1}")) (codes "v\n" ∷ []) ≡ prints (codes "v\n"))
 
 -- plans that the check refuses
 abbrev pub RefusedPlans : Type 0

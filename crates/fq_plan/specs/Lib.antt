@@ -28,3 +28,4 @@ pub mod Standing
 pub mod GatheredRun
 pub mod PrintedText
 pub mod GoingOn
+pub mod Versions

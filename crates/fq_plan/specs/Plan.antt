@@ -1,14 +1,16 @@
 -- A plan: its sources, of which the last is the main one, and its steps.
 use Rattle.std.specs.Prelude.{ℕ, ℤ, pos, negsuc, ◌-◌, ◌≤◌, All, List, [], ◌∷◌, length, take, map, sum_by, flat_map, replicate, slice_get, slice_index_or, Option, None}
 use Rattle.fq_column.specs.Frame.{Fields, Name}
+use Rattle.fq_csv.specs.declared.layouts.Layout.{Layout}
 use Rattle.fq_expr.specs.Expression.{Step}
 use Rattle.fq_ops.specs.declared.joins.How.{How}
 use Rattle.fq_ops.specs.Aggregate.{Output}
 
--- a source: the number of its files, and its columns
+-- a source: the number of its files, its columns, and the texts that are null in each of them
 pub record Source : Type 0 where
   pub files : ℕ
   pub fields : Fields
+  pub nulls : List (List ℕ)
 
 pub data PlanStep : Type 0 where
   row_wise : Step → PlanStep
@@ -41,9 +43,12 @@ files_wanted p = sum_by (λ s. s.files) p.sources
 abbrev pub join_files : Query → ℕ
 join_files p = sum_by (λ s. s.files) (but_last p.sources)
 
--- the columns of each file, in argument order
-abbrev pub file_fields : Query → List Fields
-file_fields p = flat_map (λ s. replicate s.files s.fields) p.sources
+-- how the files of a source are read, and each file, in argument order
+abbrev pub layout_of : Source → Layout
+layout_of s = record { schema = s.fields; nulls = s.nulls }
+
+abbrev pub file_layouts : Query → List Layout
+file_layouts p = flat_map (λ s. replicate s.files (layout_of s)) p.sources
 
 -- the columns of the sources before the last, and of the last
 abbrev pub join_fields : Query → List Fields

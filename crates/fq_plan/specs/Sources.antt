@@ -6,7 +6,7 @@ use Rattle.fq_csv.specs.File.{file_stream}
 use Rattle.fq_csv.specs.declared.faults.ScanFault.{ScanFault}
 use Rattle.fq_csv.specs.declared.faults.ScanFault.TheVariants as scan
 use Rattle.fq_expr.specs.declared.fronts.RowFault.{RowFault}
-use Rattle.fq_plan.specs.Plan.{Source, Query, file_fields}
+use Rattle.fq_plan.specs.Plan.{Source, Query, file_layouts}
 use Rattle.fq_plan.specs.declared.faults.Fault.{Fault}
 use Rattle.fq_plan.specs.declared.faults.Fault.TheVariants.{Memory, Read, Header, Width, BadCell, TooLong, Overflow}
 
@@ -14,9 +14,9 @@ use Rattle.fq_plan.specs.declared.faults.Fault.TheVariants.{Memory, Read, Header
 abbrev pub row_limit : ℕ
 row_limit = 2147483647
 
--- the streams of the files' bytes, each with its number and its source's columns
+-- the streams of the files' bytes, each with its number and its source's layout
 abbrev pub file_streams : Query → List (List ℕ) → List (Stream ScanFault)
-file_streams p files = zip_with (λ i file. file_stream i file.0 row_limit file.1) (numbers (length files)) (zip (file_fields p) files)
+file_streams p files = zip_with (λ i file. file_stream i file.0 row_limit file.1) (numbers (length files)) (zip (file_layouts p) files)
 
 -- a fault of a file as a fault of the run
 abbrev pub scan_fault : ScanFault → Fault

@@ -1,5 +1,5 @@
 -- The plan language: the plan that a JSON text spells. A name is any string; members may stand in any order.
-use Rattle.std.specs.Prelude.{ℕ, nat_le, List, [], ◌∷◌, codes, sum_by, Option, Some, None, option_map, ok_or, Result, Err, if◌then◌else◌}
+use Rattle.std.specs.Prelude.{ℕ, ◌==◌, nat_le, List, [], ◌∷◌, codes, sum_by, Option, Some, None, option_map, ok_or, Result, Err, if◌then◌else◌}
 use Rattle.std.specs.Str.{is_utf8}
 use Rattle.serde_json.specs.Data.{Data, boolean, number, string, array, object, no_items, item}
 use Rattle.serde_json.specs.Find.{as_i64}
@@ -19,6 +19,8 @@ use Rattle.fq_plan.specs.Parts.{given, only_if, word, name_of, whole, whole_from
 use Rattle.fq_plan.specs.Plan.{Source, PlanStep, row_wise, join, group_by, rolling_sum, Query}
 use Rattle.fq_plan.specs.declared.faults.PlanFault.{PlanFault}
 use Rattle.fq_plan.specs.declared.faults.PlanFault.TheVariants.{Json, Shape}
+use Rattle.fq_plan.specs.declared.plans.Version.{Version}
+use Rattle.fq_plan.specs.declared.plans.Version.TheVariants.{One, Two}
 
 -- ---- expressions
 
@@ -124,18 +126,29 @@ step_of = one_member
 
 -- ---- plans
 
--- {"files": 1 to 16, "columns": [[NAME, KIND], ..]}
-abbrev pub source_of : Data → Option Source
-source_of d = only_if (has_members 2 d)
-    (given (member (codes "files") (whole_from_to 1 16) d) (λ files.
+-- {"files": 1 to 16, "columns": [[NAME, KIND], ..]}, where these texts are null
+abbrev pub source_with : Option (List (List ℕ)) → Data → Option Source
+source_with null_texts d =
+    given (member (codes "files") (whole_from_to 1 16) d) (λ files.
     given (member (codes "columns") (each_of (pair_of name_of (word kinds))) d) (λ fields.
-    Some (record { files = files; fields = fields }))))
+    option_map (λ texts. record { files = files; fields = fields; nulls = texts }) null_texts))
 
--- {"version": 1, "sources": 1 to 8 sources with 16 files in all at most, "steps": 0 to 64 steps}
+-- in version 2 also with "null_values": 0 to 16 texts
+abbrev pub source_of : Version → Data → Option Source
+source_of One d = only_if (has_members 2 d) (source_with (Some []) d)
+source_of Two d =
+    if has_members 2 d then source_with (Some []) d
+    else only_if (has_members 3 d) (source_with (with_length 0 16 (member (codes "null_values") names d)) d)
+
+-- 1 or 2
+abbrev pub version_of : Data → Option Version
+version_of d = option_map (λ n. if n == 1 then One else Two) (whole_from_to 1 2 d)
+
+-- {"version": 1 or 2, "sources": 1 to 8 sources with 16 files in all at most, "steps": 0 to 64 steps}
 abbrev pub plan_of : Data → Option Query
 plan_of d = only_if (has_members 3 d)
-    (given (member (codes "version") (whole_from_to 1 1) d) (λ version.
-    given (with_length 1 8 (member (codes "sources") (each_of source_of) d)) (λ sources.
+    (given (member (codes "version") version_of d) (λ version.
+    given (with_length 1 8 (member (codes "sources") (each_of (source_of version)) d)) (λ sources.
     given (with_length 0 64 (member (codes "steps") (each_of step_of) d)) (λ steps.
     only_if (nat_le (sum_by (λ s. s.files) sources) 16) (Some (record { sources = sources; steps = steps }))))))
 

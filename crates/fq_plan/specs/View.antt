@@ -15,7 +15,7 @@ abbrev pub field_of : String Global × Kind → Field
 field_of c = (string_bytes c.0, c.1)
 
 abbrev pub source_data : Source → SourceData
-source_data s = record { files = s.files; fields = map field_of s.columns.items }
+source_data s = record { files = s.files; fields = map field_of s.columns.items; nulls = s.nulls }
 
 abbrev pub plan_step_of : Step → PlanStep
 plan_step_of (Rows s) = row_wise (step_of s)

@@ -19,7 +19,7 @@ use Rattle.fq_plan.specs.declared.workers.Worked.TheVariants as worked
 
 -- the rows that a run's records are, up to the first with a field that is no cell
 abbrev pub rows_of_run : FieldRun → Stream ScanFault
-rows_of_run run = rows_after run.file run.fields row_limit run.before run.records
+rows_of_run run = rows_after run.file run.layout row_limit run.before run.records
 
 -- a batch as it is
 abbrev pub untouched : Frame → Piece
@@ -42,7 +42,7 @@ piece_until (Some fault) p = worked.Cut p fault
 -- the work on an item: a run's rows, and the leading steps on them
 abbrev pub work_on : NumberedSteps → ℕ → ℕ → Scanned → Worked
 work_on front join_files file (scanned.Ended fault) = worked.Ended fault
-work_on front join_files file (scanned.Run run) = piece_until (rows_of_run run).fault (piece_of front join_files file (framed run.fields (rows_of_run run).rows))
+work_on front join_files file (scanned.Run run) = piece_until (rows_of_run run).fault (piece_of front join_files file (framed run.layout.schema (rows_of_run run).rows))
 
 -- the stream that a worked item is
 abbrev pub piece_stream : Piece → Stream Fault

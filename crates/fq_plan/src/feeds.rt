@@ -4,8 +4,8 @@ ghost use Rattle.fq_csv.specs.Taking.{record_stream};
 ghost use Rattle.fq_plan.specs.Feeding.{MayCome, scanned_items, some_items};
 ghost use Rattle.fq_plan.specs.Sources.{row_limit};
 
-use fq_column::{Memory, Schema};
-use fq_csv::{MAX_ROWS, RecordRun, RecordScanner, ScanFault};
+use fq_column::Memory;
+use fq_csv::{Layout, MAX_ROWS, RecordRun, RecordScanner, ScanFault};
 use fq_lanes::{Feed, FeedFault};
 use std::alloc::Global;
 use std::io::Read;
@@ -37,12 +37,12 @@ impl<R: Read> Model for FileFeed<R> {
 }
 
 impl<R: Read> FileFeed<R> {
-    /// The feed of the file number `file` with its source's columns, in runs of `run_size` records.
+    /// The feed of the file number `file` with its source's layout, in runs of `run_size` records.
     pub(crate) fn new(
         alloc: Global,
         reader: R,
         file: u16,
-        schema: Schema,
+        layout: Layout,
         run_size: u32,
     ) -> Result<FileFeed<R>, Memory>
     where
@@ -51,10 +51,10 @@ impl<R: Read> FileFeed<R> {
         requires not_too_many { run_size ≤ 65536 }
         ensures { IfOk result (λ f. f ≡ record {
           most = 2147483648;
-          items = option_map (scanned_items file schema run_size 0) (option_map (record_stream file schema row_limit) (R.remaining reader));
+          items = option_map (scanned_items file layout run_size 0) (option_map (record_stream file layout.schema row_limit) (R.remaining reader));
         }) }
     {
-        let records = RecordScanner::new(alloc, reader, file, schema, run_size, MAX_ROWS)?;
+        let records = RecordScanner::new(alloc, reader, file, layout, run_size, MAX_ROWS)?;
         Ok(FileFeed {
             records,
             ended: false,

@@ -1,5 +1,6 @@
 // Laws of the definitions, proved for all values.
-ghost use Rattle.std.specs.Prelude.{◌≡◌, ◌<◌, ◌≤◌, ℕ, List, length, map};
+ghost use Rattle.std.specs.Prelude.{◌≡◌, ◌<◌, ◌≤◌, ℕ, All, List, [], Some, length, map};
+ghost use Rattle.serde_json.specs.Data.{Data};
 ghost use Rattle.fq_column.specs.Frame.{Fields, Row};
 ghost use Rattle.fq_column.specs.Stream.{Stream, done, rename_fault};
 ghost use Rattle.fq_expr.specs.Expression.{Step as RowWise};
@@ -10,7 +11,9 @@ ghost use Rattle.fq_plan.specs.Cuts.{GiveTheSameRows};
 ghost use Rattle.fq_plan.specs.Meaning.{meaning, meaning_of_files};
 ghost use Rattle.fq_plan.specs.Plan.{Query, files_wanted};
 ghost use Rattle.fq_plan.specs.Sources.{row_fault};
+ghost use Rattle.fq_plan.specs.Spelling.{plan_of};
 ghost use Rattle.fq_plan.specs.Tail.{all_items, outcome_of_taken};
+ghost use Rattle.fq_plan.specs.Versions.{IsNextVersion};
 ghost use Rattle.fq_plan.specs.declared.faults.Fault.{Fault as AnyFault};
 ghost use Rattle.fq_plan.specs.declared.faults.Fault.TheVariants.{Overflow as overflow};
 
@@ -19,6 +22,12 @@ ghost use Rattle.fq_plan.specs.declared.faults.Fault.TheVariants.{Overflow as ov
 pub fn meaning_of_items()
     ensures { (p : Query) (batch_size : ℕ) (us : List (Stream AnyFault)) → 0 < batch_size → length us ≤ files_wanted p →
         outcome_of_taken p (all_items p batch_size us) ≡ meaning_of_files p us }
+{}
+
+/// A plan of the first version, its number turned into the second's, is the same plan; no text in it is null but the empty one.
+pub fn plans_of_both_versions()
+    ensures { (former latter : Data) (p : Query) → IsNextVersion former latter → plan_of former ≡ Some p →
+        (plan_of latter ≡ Some p) × All (λ s. s.nulls ≡ []) p.sources }
 {}
 
 /// How the rows of a source are cut into files is no part of the answer: where the files of two plans with the same steps

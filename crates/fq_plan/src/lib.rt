@@ -28,6 +28,6 @@ pub use faults::{CheckFault, Fault, Place, PlanFault};
 pub use fq_csv::ScanFault;
 pub use fq_expr::{Piece, RowFault};
 pub use fq_lanes::{Gate, NoGate, Report};
-pub use laws::{meaning_of_cut_files, meaning_of_items, renamed_steps};
+pub use laws::{meaning_of_cut_files, meaning_of_items, plans_of_both_versions, renamed_steps};
 pub use plans::{Plan, Source, Step, read_plan};
 pub use workers::Worked;

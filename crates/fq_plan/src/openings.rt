@@ -1,66 +1,70 @@
 // What a run starts from: the feeds of the files, and the sources with no rows.
 ghost use Rattle.std.specs.Prelude.{◌≡◌, ◌≤◌, ◌++◌, ◌∷◌, [], flat_map, map, replicate, vec_len, length, IfOk};
 ghost use Rattle.fq_plan.specs.EngineRun.{no_rows, opened};
+ghost use Rattle.fq_plan.specs.Stages.{checked_layout};
 
 use crate::feeds::FileFeed;
 use crate::gathering::Gathered;
 use crate::stages::CheckedSource;
-use fq_column::{Memory, Schema};
+use fq_column::Memory;
+use fq_csv::Layout;
 use std::alloc::Global;
 use std::io::Read;
 
-/// The columns of each file, in argument order.
-pub(crate) fn file_schemas(
+/// How each file is read, in argument order.
+pub(crate) fn file_layouts(
     alloc: Global,
     joins: &[CheckedSource],
     main: &CheckedSource,
-) -> Result<Vec<Schema>, Memory>
-    ensures { IfOk result (λ schemas. schemas.items ≡ flat_map (λ s. replicate s.files s.schema) (joins.now ++ main.now ∷ [])) }
+) -> Result<Vec<Layout>, Memory>
+    ensures { IfOk result (λ layouts. layouts.items ≡ flat_map (λ s. replicate s.files (checked_layout s)) (joins.now ++ main.now ∷ [])) }
 {
-    let mut schemas = Vec::new(alloc);
+    let mut layouts = Vec::new(alloc);
     for source in joins {
-        push_copies(alloc, &mut schemas, &source.schema, source.files)?;
+        push_layouts(alloc, &mut layouts, source)?;
     }
-    push_copies(alloc, &mut schemas, &main.schema, main.files)?;
-    Ok(schemas)
+    push_layouts(alloc, &mut layouts, main)?;
+    Ok(layouts)
 }
 
-// Appends so many copies of a schema.
-fn push_copies(
+// Appends the layout of each file of a source.
+fn push_layouts(
     alloc: Global,
-    schemas: &mut Vec<Schema>,
-    schema: &Schema,
-    count: u16,
+    layouts: &mut Vec<Layout>,
+    source: &CheckedSource,
 ) -> Result<(), Memory>
-    ensures { IfOk result (λ _. schemas.new.items ≡ schemas.old.items ++ replicate count schema.now) }
+    ensures { IfOk result (λ _. layouts.new.items ≡ layouts.old.items ++ replicate source.now.files (checked_layout source.now)) }
 {
-    for _ in 0..count {
-        schemas.push(schema.copy(alloc)?)?;
+    for _ in 0..source.files {
+        layouts.push(Layout {
+            schema: source.schema.copy(alloc)?,
+            nulls: source.nulls.copy(alloc)?,
+        })?;
     }
     Ok(())
 }
 
-/// The feeds of the files, in argument order, each with its columns.
+/// The feeds of the files, in argument order, each with its layout.
 pub(crate) fn open_feeds<R: Read + Drop>(
     alloc: Global,
-    schemas: Vec<Schema>,
+    layouts: Vec<Layout>,
     inputs: Vec<R>,
     batch_size: u32,
 ) -> Result<Vec<FileFeed<R>>, Memory>
     requires some { 1 ≤ batch_size }
     requires not_too_many { batch_size ≤ 65536 }
     requires few { vec_len inputs ≤ 16 }
-    requires one_each { vec_len schemas ≡ vec_len inputs }
-    ensures { IfOk result (λ feeds. feeds.items ≡ opened R.remaining batch_size 0 schemas.items inputs.items) }
+    requires one_each { vec_len layouts ≡ vec_len inputs }
+    ensures { IfOk result (λ feeds. feeds.items ≡ opened R.remaining batch_size 0 layouts.items inputs.items) }
 {
     let mut feeds = Vec::with_capacity(alloc, inputs.len())?;
-    let mut schemas = schemas.into_iter();
+    let mut layouts = layouts.into_iter();
     for reader in inputs {
-        let Some(schema) = schemas.next() else {
+        let Some(layout) = layouts.next() else {
             unreachable!()
         };
         let file = feeds.len() as u16;
-        feeds.push(FileFeed::new(alloc, reader, file, schema, batch_size)?)?;
+        feeds.push(FileFeed::new(alloc, reader, file, layout, batch_size)?)?;
     }
     Ok(feeds)
 }

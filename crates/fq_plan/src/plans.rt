@@ -3,19 +3,30 @@ ghost use Rattle.std.specs.Prelude.{◌≡◌, ◌⊎◌, Err};
 ghost use Rattle.fq_plan.specs.Spelling.{read_as_plan};
 
 use crate::faults::PlanFault;
-use crate::reading::Spelled;
+use crate::reading::plan_in;
 use fq_column::{Kind, Memory};
+use fq_csv::NullValues;
 use fq_expr::RowStep;
 use fq_ops::{Agg, How};
 use serde_json::Value;
 use std::alloc::Global;
 use std::marker::Model;
 
-/// The number of a source's files, and its columns.
+/// The number of a source's files, its columns, and the texts that are null in each of them.
 #[derive(Debug, Drop)]
 pub struct Source {
     pub(crate) files: u16,
     pub(crate) columns: Vec<(String, Kind)>,
+    pub(crate) nulls: NullValues,
+}
+
+/// The version of the plan language in which a plan is written.
+#[derive(Clone, Copy, Debug)]
+pub enum Version {
+    /// The first.
+    One,
+    /// The first, and texts that are read as null.
+    Two,
 }
 
 /// A step of a plan.
@@ -77,7 +88,7 @@ pub fn read_plan(alloc: Global, text: &[u8]) -> Result<Plan, PlanFault>
     ensures { (result ≡ read_as_plan text.now) ⊎ (result ≡ Err PlanFault.Memory) }
 {
     match Value::from_slice(alloc, text) {
-        Ok(value) => match Plan::read(alloc, &value) {
+        Ok(value) => match plan_in(alloc, &value) {
             Ok(plan) => plan.ok_or(PlanFault::Shape),
             Err(Memory) => Err(PlanFault::Memory),
         },

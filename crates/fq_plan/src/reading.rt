@@ -3,7 +3,9 @@ ghost use Rattle.std.specs.Prelude.{◌≡◌, Option, option_map, IfOk};
 ghost use Rattle.serde_json.specs.View.{view};
 ghost use Rattle.serde_json.specs.Data.{Data};
 ghost use Rattle.fq_plan.specs.Parts.{member};
+ghost use Rattle.fq_plan.specs.declared.plans.Version.{Version as VersionData};
 
+use crate::plans::Version;
 use fq_column::Memory;
 use serde_json::Value;
 use std::alloc::Global;
@@ -16,30 +18,33 @@ mod steps;
 mod values;
 mod words;
 
+pub use plans::plan_in;
+
 /// A part of a plan, which a JSON value may spell.
 pub trait Spelled: Drop {
     // What such a part is as data.
     ghost Part: { Type 0 };
-    // The part that a value spells.
-    ghost spelled_by: { Data → Option Self.Part };
+    // The part that a value spells in a version of the language.
+    ghost spelled_by: { VersionData → Data → Option Self.Part };
     // The data of a part.
     ghost part_of: { Self → Self.Part };
 
     /// The part that a value spells, or none where it spells no such part.
-    fn read(alloc: Global, value: &Value) -> Result<Option<Self>, Memory>
-        ensures { IfOk result (λ o. option_map part_of o ≡ spelled_by (view value.now)) };
+    fn read(alloc: Global, version: Version, value: &Value) -> Result<Option<Self>, Memory>
+        ensures { IfOk result (λ o. option_map part_of o ≡ spelled_by version (view value.now)) };
 }
 
 /// The part that an object's member spells, or none where there is no such member or it spells no such part.
 pub fn read_member<T: Spelled>(
     alloc: Global,
+    version: Version,
     value: &Value,
     name: &str,
 ) -> Result<Option<T>, Memory>
-    ensures { IfOk result (λ o. option_map T.part_of o ≡ member name.now T.spelled_by (view value.now)) }
+    ensures { IfOk result (λ o. option_map T.part_of o ≡ member name.now (T.spelled_by version) (view value.now)) }
 {
     match value.get(name) {
-        Some(part) => T::read(alloc, part),
+        Some(part) => T::read(alloc, version, part),
         None => Ok(None),
     }
 }

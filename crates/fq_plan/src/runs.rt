@@ -13,7 +13,7 @@ ghost use Rattle.fq_plan.specs.declared.faults.Fault.TheVariants as fault;
 
 use crate::checks::Checked;
 use crate::faults::Fault;
-use crate::openings::{empty_sources, file_schemas, open_feeds};
+use crate::openings::{empty_sources, file_layouts, open_feeds};
 use crate::printed_text::PrintedText;
 use crate::run_tail::RunTail;
 use crate::waiting::Waiting;
@@ -161,8 +161,8 @@ impl Checked {
         ensures fault { IfErr result IsEngineFault }
     {
         let joins = self.joins.as_slice();
-        let schemas = file_schemas(alloc, joins, &self.main)?;
-        let feeds = open_feeds(alloc, schemas, inputs, batch_size)?;
+        let layouts = file_layouts(alloc, joins, &self.main)?;
+        let feeds = open_feeds(alloc, layouts, inputs, batch_size)?;
         let sources = empty_sources(alloc, joins)?;
         let before = self.after_leading.copy(alloc)?;
         let waiting = Waiting::new(sources, before, self.stages.as_slice());

@@ -39,10 +39,18 @@ fn check_source(alloc: Global, source: Source) -> Result<CheckedSource, StepFaul
     ensures passed { IfOk result (λ checked. first_refusal (schema_checks (names_of (source_data source).fields)) ≡ None) }
     ensures refused { IfErr result (λ code. (first_refusal (schema_checks (names_of (source_data source).fields)) ≡ Some code) ⊎ (code ≡ StepFault.Memory)) }
 {
-    let Source { files, columns } = source;
+    let Source {
+        files,
+        columns,
+        nulls,
+    } = source;
     let (names, kinds) = unzip(alloc, columns)?;
     let schema = Schema::new(names, kinds)?;
-    Ok(CheckedSource { files, schema })
+    Ok(CheckedSource {
+        files,
+        schema,
+        nulls,
+    })
 }
 
 // The names and the kinds of columns.

@@ -6,8 +6,10 @@ ghost use Rattle.fq_ops.specs.Meaning.{aggregate_of};
 ghost use Rattle.fq_plan.specs.Parts.{word};
 ghost use Rattle.fq_plan.specs.Spelling.{aggregate, row_counts, functions};
 
+use crate::plans::Version;
 use crate::reading::Spelled;
 use crate::reading::values::{three_items, two_items};
+use crate::reading::words::name as read_name;
 use fq_column::Memory;
 use fq_ops::{Agg, What};
 use serde_json::Value;
@@ -17,13 +19,13 @@ use std::alloc::Global;
 impl Spelled for Agg {
     ghost Part = { Output };
 
-    ghost spelled_by = { aggregate };
+    ghost spelled_by = { λ _. aggregate };
 
     ghost part_of = { λ agg. (string_bytes agg.name, aggregate_of agg.what) };
 
-    fn read(alloc: Global, value: &Value) -> Result<Option<Agg>, Memory> {
+    fn read(alloc: Global, _version: Version, value: &Value) -> Result<Option<Agg>, Memory> {
         if let Some((name, function)) = two_items(value) {
-            let Some(name) = String::read(alloc, name)? else {
+            let Some(name) = read_name(alloc, name)? else {
                 return Ok(None);
             };
             return Ok(of_rows(function).map(|what| Agg { name, what }));
@@ -31,10 +33,10 @@ impl Spelled for Agg {
         let Some((name, function, column)) = three_items(value) else {
             return Ok(None);
         };
-        let Some(name) = String::read(alloc, name)? else {
+        let Some(name) = read_name(alloc, name)? else {
             return Ok(None);
         };
-        let Some(column) = String::read(alloc, column)? else {
+        let Some(column) = read_name(alloc, column)? else {
             return Ok(None);
         };
         Ok(of_column(function, column).map(|what| Agg { name, what }))

@@ -5,9 +5,10 @@ ghost use Rattle.fq_expr.specs.Expression.{Expression};
 ghost use Rattle.fq_expr.specs.Meaning.{expression_of};
 ghost use Rattle.fq_plan.specs.Spelling.{expression, leaf};
 
+use crate::plans::Version;
 use crate::reading::Spelled;
 use crate::reading::values::only_member;
-use crate::reading::words::{binary, kind, unary};
+use crate::reading::words::{binary, kind, name as read_name, unary};
 use fq_column::{Memory, Text};
 use fq_expr::Expr;
 use serde_json::Value;
@@ -16,11 +17,11 @@ use std::alloc::Global;
 impl Spelled for Expr {
     ghost Part = { Expression };
 
-    ghost spelled_by = { expression };
+    ghost spelled_by = { λ _. expression };
 
     ghost part_of = { expression_of };
 
-    fn read(alloc: Global, value: &Value) -> Result<Option<Expr>, Memory> {
+    fn read(alloc: Global, _version: Version, value: &Value) -> Result<Option<Expr>, Memory> {
         read_expression(alloc, value)
     }
 }
@@ -70,7 +71,7 @@ fn read_leaf(alloc: Global, value: &Value) -> Result<Option<Expr>, Memory>
     ensures { IfOk result (λ o. option_map expression_of o ≡ leaf (view value.now)) }
 {
     if let Some(name) = only_member(value, "col") {
-        return Ok(String::read(alloc, name)?.map(Expr::Col));
+        return Ok(read_name(alloc, name)?.map(Expr::Col));
     }
     Ok(only_member(value, "null").and_then(kind).map(Expr::Null))
 }

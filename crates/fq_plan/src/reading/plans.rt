@@ -1,19 +1,20 @@
 // Sources, and whole plans.
-ghost use Rattle.std.specs.Prelude.{◌≡◌, ◌≤◌, length, map, sum_by};
+ghost use Rattle.std.specs.Prelude.{◌≡◌, ◌≤◌, length, map, option_map, string_bytes, sum_by, codes, IfOk};
 ghost use Rattle.serde_json.specs.View.{view};
-ghost use Rattle.fq_plan.specs.Plan.{Query, Source as SourceData};
-ghost use Rattle.fq_plan.specs.Parts.{whole_from_to as the_whole_from_to};
-ghost use Rattle.fq_plan.specs.Spelling.{plan_of, source_of};
+ghost use Rattle.fq_plan.specs.Plan.{Source as SourceData};
+ghost use Rattle.fq_plan.specs.Parts.{member, whole_from_to as the_whole_from_to, with_length};
+ghost use Rattle.fq_plan.specs.Spelling.{names, plan_of, source_of, source_with, version_of};
 ghost use Rattle.fq_plan.specs.View.{source_data};
 
-use crate::plans::{Plan, Source, Step};
+use crate::plans::{Plan, Source, Step, Version};
 use crate::reading::values::has_members;
 use crate::reading::{Spelled, read_member};
 use fq_column::Memory;
+use fq_csv::NullValues;
 use serde_json::Value;
 use std::alloc::Global;
 
-// The number of files, and the columns.
+// The number of files, the columns, and in version 2 the texts that are null, where they are given.
 impl Spelled for Source {
     ghost Part = { SourceData };
 
@@ -21,49 +22,94 @@ impl Spelled for Source {
 
     ghost part_of = { source_data };
 
-    fn read(alloc: Global, value: &Value) -> Result<Option<Source>, Memory> {
-        if !has_members(value, 2) {
-            return Ok(None);
+    fn read(alloc: Global, version: Version, value: &Value) -> Result<Option<Source>, Memory> {
+        if has_members(value, 2) {
+            return read_source(alloc, version, value, Some(Vec::new(alloc)));
         }
-        let Some(files) = value.get("files").and_then(|n| whole_from_to(n, 1, 16)) else {
-            return Ok(None);
-        };
-        let Some(columns) = read_member(alloc, value, "columns")? else {
-            return Ok(None);
-        };
-        Ok(Some(Source { files, columns }))
+        match version {
+            Version::One => Ok(None),
+            Version::Two => {
+                if !has_members(value, 3) {
+                    return Ok(None);
+                }
+                let nulls = read_null_values(alloc, version, value)?;
+                read_source(alloc, version, value, nulls)
+            }
+        }
     }
 }
 
-// A plan of version 1, within the limits.
-impl Spelled for Plan {
-    ghost Part = { Query };
+// The number of files and the columns, with these texts as null.
+fn read_source(
+    alloc: Global,
+    version: Version,
+    value: &Value,
+    nulls: Option<Vec<String>>,
+) -> Result<Option<Source>, Memory>
+    ensures { IfOk result (λ o. option_map source_data o ≡ source_with (option_map (λ texts. map string_bytes texts.items) nulls) (view value.now)) }
+{
+    let Some(files) = value.get("files").and_then(|n| whole_from_to(n, 1, 16)) else {
+        return Ok(None);
+    };
+    let Some(columns) = read_member(alloc, version, value, "columns")? else {
+        return Ok(None);
+    };
+    Ok(nulls.map(|texts| Source {
+        files,
+        columns,
+        nulls: NullValues::new(texts),
+    }))
+}
 
-    ghost spelled_by = { plan_of };
+// The texts that are null, at most 16.
+fn read_null_values(
+    alloc: Global,
+    version: Version,
+    value: &Value,
+) -> Result<Option<Vec<String>>, Memory>
+    ensures { IfOk result (λ o. option_map (λ texts. map string_bytes texts.items) o ≡ with_length 0 16 (member (codes "null_values") names (view value.now))) }
+{
+    let Some(texts) = read_member::<Vec<String>>(alloc, version, value, "null_values")? else {
+        return Ok(None);
+    };
+    if texts.len() > 16 {
+        return Ok(None);
+    }
+    Ok(Some(texts))
+}
 
-    ghost part_of = { λ plan. plan };
+/// The plan of version 1 or 2, within the limits, that a value spells.
+pub fn plan_in(alloc: Global, value: &Value) -> Result<Option<Plan>, Memory>
+    ensures { IfOk result (λ plan. plan ≡ plan_of (view value.now)) }
+{
+    if !has_members(value, 3) {
+        return Ok(None);
+    }
+    let Some(version) = value.get("version").and_then(version_number) else {
+        return Ok(None);
+    };
+    let Some(sources) = read_member::<Vec<Source>>(alloc, version, value, "sources")? else {
+        return Ok(None);
+    };
+    if sources.is_empty() || sources.len() > 8 {
+        return Ok(None);
+    }
+    let Some(steps) = read_member::<Vec<Step>>(alloc, version, value, "steps")? else {
+        return Ok(None);
+    };
+    if steps.len() > 64 || file_count(&sources) > 16 {
+        return Ok(None);
+    }
+    Ok(Some(Plan { sources, steps }))
+}
 
-    fn read(alloc: Global, value: &Value) -> Result<Option<Plan>, Memory> {
-        if !has_members(value, 3) {
-            return Ok(None);
-        }
-        let version = value.get("version").and_then(|n| whole_from_to(n, 1, 1));
-        if version.is_none() {
-            return Ok(None);
-        }
-        let Some(sources) = read_member::<Vec<Source>>(alloc, value, "sources")? else {
-            return Ok(None);
-        };
-        if sources.is_empty() || sources.len() > 8 {
-            return Ok(None);
-        }
-        let Some(steps) = read_member::<Vec<Step>>(alloc, value, "steps")? else {
-            return Ok(None);
-        };
-        if steps.len() > 64 || file_count(&sources) > 16 {
-            return Ok(None);
-        }
-        Ok(Some(Plan { sources, steps }))
+// The version of a plan.
+fn version_number(value: &Value) -> Option<Version>
+    ensures { result ≡ version_of (view value.now) }
+{
+    match whole_from_to(value, 1, 2)? {
+        1 => Some(Version::One),
+        _ => Some(Version::Two),
     }
 }
 

@@ -5,7 +5,7 @@ ghost use Rattle.fq_plan.specs.Plan.{PlanStep};
 ghost use Rattle.fq_plan.specs.Spelling.{step_of, join_of, group_of, roll_of, roll_with};
 ghost use Rattle.fq_plan.specs.View.{plan_step_of};
 
-use crate::plans::Step;
+use crate::plans::{Step, Version};
 use crate::reading::values::{has_members, only_member};
 use crate::reading::{Spelled, read_member};
 use fq_column::Memory;
@@ -17,98 +17,103 @@ use std::alloc::Global;
 impl Spelled for Step {
     ghost Part = { PlanStep };
 
-    ghost spelled_by = { step_of };
+    ghost spelled_by = { λ _. step_of };
 
     ghost part_of = { plan_step_of };
 
-    fn read(alloc: Global, value: &Value) -> Result<Option<Step>, Memory> {
+    fn read(alloc: Global, version: Version, value: &Value) -> Result<Option<Step>, Memory> {
         if let Some(predicate) = only_member(value, "filter") {
-            let predicate = Expr::read(alloc, predicate)?;
+            let predicate = Expr::read(alloc, version, predicate)?;
             return Ok(predicate.map(|predicate| Step::Rows(RowStep::Filter(predicate))));
         }
         if let Some(outputs) = only_member(value, "with_columns") {
-            let outputs = Vec::<(String, Expr)>::read(alloc, outputs)?;
+            let outputs = Vec::<(String, Expr)>::read(alloc, version, outputs)?;
             return Ok(outputs.map(|outputs| Step::Rows(RowStep::WithColumns(outputs))));
         }
         if let Some(outputs) = only_member(value, "select") {
-            let outputs = Vec::<(String, Expr)>::read(alloc, outputs)?;
+            let outputs = Vec::<(String, Expr)>::read(alloc, version, outputs)?;
             return Ok(outputs.map(|outputs| Step::Rows(RowStep::Select(outputs))));
         }
         if let Some(join) = only_member(value, "join") {
-            return read_join(alloc, join);
+            return read_join(alloc, version, join);
         }
         if let Some(group) = only_member(value, "group_by") {
-            return read_group(alloc, group);
+            return read_group(alloc, version, group);
         }
         match only_member(value, "rolling_sum") {
-            Some(roll) => read_roll(alloc, roll),
+            Some(roll) => read_roll(alloc, version, roll),
             None => Ok(None),
         }
     }
 }
 
 // A join with an earlier source.
-fn read_join(alloc: Global, value: &Value) -> Result<Option<Step>, Memory>
+fn read_join(alloc: Global, version: Version, value: &Value) -> Result<Option<Step>, Memory>
     ensures { IfOk result (λ o. option_map plan_step_of o ≡ join_of (view value.now)) }
 {
     if !has_members(value, 3) {
         return Ok(None);
     }
-    let Some(source) = read_member(alloc, value, "source")? else {
+    let Some(source) = read_member(alloc, version, value, "source")? else {
         return Ok(None);
     };
-    let Some(on) = read_member(alloc, value, "on")? else {
+    let Some(on) = read_member(alloc, version, value, "on")? else {
         return Ok(None);
     };
-    let Some(how) = read_member(alloc, value, "how")? else {
+    let Some(how) = read_member(alloc, version, value, "how")? else {
         return Ok(None);
     };
     Ok(Some(Step::Join { source, on, how }))
 }
 
 // Aggregates of groups.
-fn read_group(alloc: Global, value: &Value) -> Result<Option<Step>, Memory>
+fn read_group(alloc: Global, version: Version, value: &Value) -> Result<Option<Step>, Memory>
     ensures { IfOk result (λ o. option_map plan_step_of o ≡ group_of (view value.now)) }
 {
     if !has_members(value, 2) {
         return Ok(None);
     }
-    let Some(keys) = read_member(alloc, value, "keys")? else {
+    let Some(keys) = read_member(alloc, version, value, "keys")? else {
         return Ok(None);
     };
-    let Some(aggs) = read_member(alloc, value, "aggs")? else {
+    let Some(aggs) = read_member(alloc, version, value, "aggs")? else {
         return Ok(None);
     };
     Ok(Some(Step::GroupBy { keys, aggs }))
 }
 
 // A rolling sum, with its least number of values or without.
-fn read_roll(alloc: Global, value: &Value) -> Result<Option<Step>, Memory>
+fn read_roll(alloc: Global, version: Version, value: &Value) -> Result<Option<Step>, Memory>
     ensures { IfOk result (λ o. option_map plan_step_of o ≡ roll_of (view value.now)) }
 {
     if has_members(value, 3) {
-        return read_roll_with(alloc, value, "window");
+        return read_roll_with(alloc, version, value, "window");
     }
     if has_members(value, 4) {
-        return read_roll_with(alloc, value, "min_samples");
+        return read_roll_with(alloc, version, value, "min_samples");
     }
     Ok(None)
 }
 
 // A rolling sum whose least number of values is that member.
-fn read_roll_with(alloc: Global, value: &Value, samples: &str) -> Result<Option<Step>, Memory>
+fn read_roll_with(
+    alloc: Global,
+    version: Version,
+    value: &Value,
+    samples: &str,
+) -> Result<Option<Step>, Memory>
     ensures { IfOk result (λ o. option_map plan_step_of o ≡ roll_with samples.now (view value.now)) }
 {
-    let Some(column) = read_member(alloc, value, "column")? else {
+    let Some(column) = read_member(alloc, version, value, "column")? else {
         return Ok(None);
     };
-    let Some(window) = read_member(alloc, value, "window")? else {
+    let Some(window) = read_member(alloc, version, value, "window")? else {
         return Ok(None);
     };
-    let Some(min_samples) = read_member(alloc, value, samples)? else {
+    let Some(min_samples) = read_member(alloc, version, value, samples)? else {
         return Ok(None);
     };
-    let Some(name) = read_member(alloc, value, "name")? else {
+    let Some(name) = read_member(alloc, version, value, "name")? else {
         return Ok(None);
     };
     Ok(Some(Step::RollingSum {

@@ -1,5 +1,5 @@
 // Words of the plan language: numbers, names, kinds, joins and operations.
-ghost use Rattle.std.specs.Prelude.{◌≡◌, ℤ, string_bytes};
+ghost use Rattle.std.specs.Prelude.{◌≡◌, ℤ, IfOk, option_map, string_bytes};
 ghost use Rattle.serde_json.specs.View.{view};
 ghost use Rattle.fq_plan.specs.Parts.{whole, name_of, word};
 ghost use Rattle.fq_plan.specs.Spelling.{kinds, hows, unaries, binaries};
@@ -7,6 +7,7 @@ ghost use Rattle.fq_column.specs.Frame.{Name};
 ghost use Rattle.fq_column.specs.declared.cells.Kind.{Kind as KindData};
 ghost use Rattle.fq_ops.specs.declared.joins.How.{How as HowData};
 
+use crate::plans::Version;
 use crate::reading::Spelled;
 use fq_column::{Kind, Memory};
 use fq_expr::{Binary, Unary};
@@ -18,15 +19,12 @@ use std::alloc::Global;
 impl Spelled for String {
     ghost Part = { Name };
 
-    ghost spelled_by = { name_of };
+    ghost spelled_by = { λ _. name_of };
 
     ghost part_of = { string_bytes };
 
-    fn read(alloc: Global, value: &Value) -> Result<Option<String>, Memory> {
-        match value.as_str() {
-            Some(text) => Ok(Some(String::from_str(alloc, text)?)),
-            None => Ok(None),
-        }
+    fn read(alloc: Global, _version: Version, value: &Value) -> Result<Option<String>, Memory> {
+        name(alloc, value)
     }
 }
 
@@ -34,11 +32,11 @@ impl Spelled for String {
 impl Spelled for i64 {
     ghost Part = { ℤ };
 
-    ghost spelled_by = { whole };
+    ghost spelled_by = { λ _. whole };
 
     ghost part_of = { λ number. number };
 
-    fn read(_alloc: Global, value: &Value) -> Result<Option<i64>, Memory> {
+    fn read(_alloc: Global, _version: Version, value: &Value) -> Result<Option<i64>, Memory> {
         Ok(value.as_i64())
     }
 }
@@ -46,11 +44,11 @@ impl Spelled for i64 {
 impl Spelled for Kind {
     ghost Part = { KindData };
 
-    ghost spelled_by = { word kinds };
+    ghost spelled_by = { λ _. word kinds };
 
     ghost part_of = { λ kind. kind };
 
-    fn read(_alloc: Global, value: &Value) -> Result<Option<Kind>, Memory> {
+    fn read(_alloc: Global, _version: Version, value: &Value) -> Result<Option<Kind>, Memory> {
         Ok(kind(value))
     }
 }
@@ -58,12 +56,22 @@ impl Spelled for Kind {
 impl Spelled for How {
     ghost Part = { HowData };
 
-    ghost spelled_by = { word hows };
+    ghost spelled_by = { λ _. word hows };
 
     ghost part_of = { λ how. how };
 
-    fn read(_alloc: Global, value: &Value) -> Result<Option<How>, Memory> {
+    fn read(_alloc: Global, _version: Version, value: &Value) -> Result<Option<How>, Memory> {
         Ok(how(value))
+    }
+}
+
+/// A name.
+pub fn name(alloc: Global, value: &Value) -> Result<Option<String>, Memory>
+    ensures { IfOk result (λ o. option_map string_bytes o ≡ name_of (view value.now)) }
+{
+    match value.as_str() {
+        Some(text) => Ok(Some(String::from_str(alloc, text)?)),
+        None => Ok(None),
     }
 }
 

@@ -9,7 +9,7 @@ returns-then-not-branch-clause-bad c =
     let fs = record_at c.args.row (length c.args.columns.now) c.args.fields.now in
     let here = c.in_ok-field.ensures ∙ sym (field-of-record c.args.row (length c.args.columns.now) c.args.fields.now c.loop-i.i c.loop-i-test.true) in
     let e = rw c.if-not-branch.true at c.in_ok-push_field.ensures.good in
-    let bad = Added-bad c.args.row c.args.columns.now fs c.loop-i.i c.loop-i.columns c.index-columns-i.result c.push_field.new.column c.in_ok-field.field.now
+    let bad = Added-bad c.args.nulls.now c.args.row c.args.columns.now fs c.loop-i.i c.loop-i.columns c.index-columns-i.result c.push_field.new.column c.in_ok-field.field.now
     c.loop-i.invariant c.loop-i-test.true here e.0 e.1 c.requires.height in
     (bad.0, c.cut_all.ensures ∙ bad.1, c.loop-i-test.true)
 
@@ -18,11 +18,11 @@ loop-i-preserved c =
     let fs = record_at c.args.row (length c.args.columns.now) c.args.fields.now in
     let here = c.in_ok-field.ensures ∙ sym (field-of-record c.args.row (length c.args.columns.now) c.args.fields.now c.loop-i.i c.loop-i-test.true) in
     let e = rw c.if-not-branch.false at c.in_ok-push_field.ensures.good in
-    Added-more c.args.columns.now fs c.loop-i.i c.loop-i.columns c.index-columns-i.result c.push_field.new.column c.in_ok-field.field.now e.0
+    Added-more c.args.nulls.now c.args.columns.now fs c.loop-i.i c.loop-i.columns c.index-columns-i.result c.push_field.new.column c.in_ok-field.field.now e.0
     c.loop-i.invariant c.loop-i-test.true here e.1 e.2
 
 pub returns-clause-row : goal.returns-clause-row
 returns-clause-row c =
     let wide = length-record c.args.row (length c.args.columns.now) c.args.fields.now c.requires.there in
-    let done = Added-done c.args.columns.now (record_at c.args.row (length c.args.columns.now) c.args.fields.now) c.loop-i.i c.loop-i.columns c.loop-i.invariant c.loop-i-test.false c.loop-i.auto.i-end wide in
+    let done = Added-done c.args.nulls.now c.args.columns.now (record_at c.args.row (length c.args.columns.now) c.args.fields.now) c.loop-i.i c.loop-i.columns c.loop-i.invariant c.loop-i-test.false c.loop-i.auto.i-end wide in
     (done.0, done.1, done.2, done.3)

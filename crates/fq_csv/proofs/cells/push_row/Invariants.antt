@@ -4,4 +4,4 @@ use Rattle.fq_csv.proofs.RowLemmas.{Added}
 use Rattle.fq_csv.proofs.cells.push_row.Given as goal
 
 abbrev pub invariant-loop-i : goal.invariant-loop-i
-invariant-loop-i l = Added l.fn.columns (record_at l.row (length l.fn.columns) l.fields) l.i l.columns
+invariant-loop-i l = Added l.nulls l.fn.columns (record_at l.row (length l.fn.columns) l.fields) l.i l.columns

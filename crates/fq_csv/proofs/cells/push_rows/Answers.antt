@@ -12,8 +12,8 @@ returns-in-Some c =
     let bad = rw c.in-Some.is at c.in_ok-column.ensures.bad in
     let same = c.loop-row.auto.columns in
     rw bad.1
-    (pushed-bad (kinds_in c.args.columns.now) c.args.count width fs c.loop-row.row c.loop-row.columns c.in-Some.column c.loop-row.invariant c.loop-row-test.true same wide
-    (ap (λ n. row_by_kinds (kinds_in c.loop-row.columns) (record_at c.loop-row.row n fs)) (sym same) ∙ bad.0))
+    (pushed-bad c.args.nulls.now (kinds_in c.args.columns.now) c.args.count width fs c.loop-row.row c.loop-row.columns c.in-Some.column c.loop-row.invariant c.loop-row-test.true same wide
+    (ap (λ n. row_by_kinds c.args.nulls.now (kinds_in c.loop-row.columns) (record_at c.loop-row.row n fs)) (sym same) ∙ bad.0))
 
 pub loop-row-preserved : goal.loop-row-preserved
 loop-row-preserved c =
@@ -23,9 +23,9 @@ loop-row-preserved c =
     let row = rw c.in_default.is at c.in_ok-column.ensures.row in
     let same = c.loop-row.auto.columns in
     rw (let more = row.2 in more)
-    (HasPushed-more (kinds_in c.args.columns.now) c.args.count width fs c.loop-row.row c.loop-row.columns row.0 c.loop-row.invariant c.loop-row-test.true same wide
-    (ap (λ n. row_by_kinds (kinds_in c.loop-row.columns) (record_at c.loop-row.row n fs)) (sym same) ∙ row.1) row.3)
+    (HasPushed-more c.args.nulls.now (kinds_in c.args.columns.now) c.args.count width fs c.loop-row.row c.loop-row.columns row.0 c.loop-row.invariant c.loop-row-test.true same wide
+    (ap (λ n. row_by_kinds c.args.nulls.now (kinds_in c.loop-row.columns) (record_at c.loop-row.row n fs)) (sym same) ∙ row.1) row.3)
 
 pub returns : goal.returns
 returns c =
-    pushed-all (kinds_in c.args.columns.now) c.args.count (length c.args.columns.now) c.args.fields.now c.loop-row.row c.loop-row.columns c.loop-row.invariant (omega (arith, c.loop-row-test.false, c.loop-row.auto.row-end))
+    pushed-all c.args.nulls.now (kinds_in c.args.columns.now) c.args.count (length c.args.columns.now) c.args.fields.now c.loop-row.row c.loop-row.columns c.loop-row.invariant (omega (arith, c.loop-row-test.false, c.loop-row.auto.row-end))

@@ -4,4 +4,4 @@ use Rattle.fq_csv.proofs.CellLemmas.{HasPushed}
 use Rattle.fq_csv.proofs.cells.push_rows.Given as goal
 
 abbrev pub invariant-loop-row : goal.invariant-loop-row
-invariant-loop-row l = HasPushed (kinds_in l.fn.columns) l.count (length l.fn.columns) l.fields l.row l.columns
+invariant-loop-row l = HasPushed l.nulls (kinds_in l.fn.columns) l.count (length l.fn.columns) l.fields l.row l.columns

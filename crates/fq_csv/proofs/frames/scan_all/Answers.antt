@@ -11,7 +11,7 @@ batches-preserved g c =
     let frame = c.in_ok-extend-in-Batch.ensures.ok in
     record {
       file = form.same.file ∙ inv.file;
-      schema = form.same.schema ∙ inv.schema;
+      layout = form.same.layout ∙ inv.layout;
       fields = ap (λ (f : Frame). f.fields) frame ∙ inv.fields;
       stream = λ u e.
           let r = inv.stream u e in

@@ -6,8 +6,8 @@ use Rattle.fq_csv.proofs.frames.scan_all.Given as goal
 abbrev pub invariant-batches : goal.invariant-batches
 invariant-batches g l = record {
   file : l.scanner.file ≡ l.fn.scanner.file;
-  schema : l.scanner.fields ≡ l.fn.scanner.fields;
-  fields : l.frame.fields ≡ l.fn.scanner.fields;
+  layout : l.scanner.layout ≡ l.fn.scanner.layout;
+  fields : l.frame.fields ≡ l.fn.scanner.layout.schema;
   stream : (u : Stream ScanFault) → l.fn.scanner.upcoming ≡ Some u → (rest : Stream ScanFault) × (l.scanner.upcoming ≡ Some rest) × (u ≡ then_stream (done l.frame.rows) rest);
 }
 

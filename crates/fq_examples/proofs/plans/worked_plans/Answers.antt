@@ -73,3 +73,7 @@ returns-clause-order c = (refl, refl)
 pub returns-clause-unused : goal.returns-clause-unused
 unfolding plans_on_literals
 returns-clause-unused c = refl
+
+pub returns-clause-null_texts : goal.returns-clause-null_texts
+unfolding plans_on_literals
+returns-clause-null_texts c = (refl, refl, refl, refl, refl, refl, refl)

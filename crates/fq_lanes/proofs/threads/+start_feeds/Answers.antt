@@ -1,12 +1,12 @@
 use Rattle.std.proofs.Common.{rules, ◌≡◌, [], ◌∷◌, All, sym, subst, ap, ◌∙◌, length}
-use Rattle.fq_lanes.specs.FeedLane.{feed_name, AreNewFeeds, tolds_of, told_of}
+use Rattle.fq_lanes.specs.FeedLane.{AreNewFeeds, tolds_of, told_of}
 use Rattle.std.proofs.lemmas.List.Elements.{All-tail}
 use Rattle.std.specs.Vec.Iter.{into_iter_items}
-use Rattle.fq_lanes.specs.Lane.{put_items, put_name, left_items}
+use Rattle.fq_lanes.specs.Lane.{put_items}
 use Rattle.fq_lanes.specs.FeedThread.{Scanned, Began}
 use Rattle.fq_lanes.specs.Lists.{Each}
 use Rattle.std.proofs.lemmas.List.{append-nil, nil_from_length}
-use Rattle.fq_lanes.proofs.ThreadLemmas.{list_moves, names_split, new_feeds_push}
+use Rattle.fq_lanes.proofs.ThreadLemmas.{list_moves, new_feeds_push}
 use Rattle.std.proofs.lemmas.Result.{on_ok_weaker}
 use Rattle.fq_lanes.proofs.threads.+start_feeds.Goals as goal
 
@@ -26,37 +26,22 @@ pub start_feeds-outcome-requires-clause-open : goal.start_feeds-outcome-requires
 start_feeds-outcome-requires-clause-open g t c κs within =
     All-tail g.F.Feed.is_open c.in-Some.feed _ (subst (All g.F.Feed.is_open) c.in-Some.ensures.items c.requires.open)
 
-pub returns-in-Some-pop-clause-done : goal.returns-in-Some-pop-clause-done
-returns-in-Some-pop-clause-done g t c =
-    let popped = c.in-Some-pop.ensures.items in
-    let kept = c.join-put.ensures in
-    let taken = told_of c.in-Some-pop.lane in
-    let began : Began g.F.Feed.gives g.F.Feed.may_fail c.in-Some.feed taken =
-    let same : c.in-Ok-spawn_with.child.promise.feed.value ≡ c.in-Some.feed = ap (λ p. p.feed.value) c.in-Ok-spawn_with.ensures.ok ∙ c.of.ensures in
-    (put_items c.join-put.result, subst (λ f. Scanned g.F.Feed.gives g.F.Feed.may_fail f (put_items c.join-put.result)) same kept.1, (left_items c.rejoin.result, c.rejoin.ensures)) in
-    on_ok_weaker c.start_feeds-outcome.result
-    (λ i. (
-      taken ∷ i.0,
-      subst (λ fs. Each (Began g.F.Feed.gives g.F.Feed.may_fail) fs (taken ∷ i.0)) (sym c.in-Some.ensures.items) (began, i.1),
-      (i.2.0, i.2.1, subst (λ ts. g.H.Core.done c.args.hub.now ts i.2.0 c.start_feeds-outcome.new.hub) (list_moves told_of _ _ c.in-Some-pop.lane i.0 popped) i.2.2),
-    ))
-    c.start_feeds-outcome.ensures.done
-
 pub start_feeds-outcome-requires-clause-lanes : goal.start_feeds-outcome-requires-clause-lanes
 start_feeds-outcome-requires-clause-lanes g t c κs within =
     let opened = c.in-Ok.ensures.opened in
     subst (λ l. AreNewFeeds l) (sym opened.1) (new_feeds_push c.args.lanes.now.items opened.0 c.requires.lanes opened.2)
 
-pub rejoin-requires : goal.rejoin-requires
-rejoin-requires g t c =
-    let opened = c.in-Ok.ensures.opened in
-    let split = names_split feed_name c.start_feeds-outcome.new.lanes.items c.open_feed.new.lanes.items c.pop.new.self.items c.args.lanes.now.items c.in-Some-pop.lane opened.0
-    c.start_feeds-outcome.ensures.lanes c.in-Some-pop.ensures.items opened.1 in
-    let mine : c.in-Ok-spawn_with.child.promise.put.value ≡ c.in-Ok.put = ap (λ p. p.put.value) c.in-Ok-spawn_with.ensures.ok ∙ c.of-2.ensures in
-    c.join-put.ensures.0 ∙ ap put_name mine ∙ opened.3 ∙ sym split.1
-
-pub returns-in-Some-pop-clause-lanes : goal.returns-in-Some-pop-clause-lanes
-returns-in-Some-pop-clause-lanes g t c =
-    let opened = c.in-Ok.ensures.opened in
-    (names_split feed_name c.start_feeds-outcome.new.lanes.items c.open_feed.new.lanes.items c.pop.new.self.items c.args.lanes.now.items c.in-Some-pop.lane opened.0
-    c.start_feeds-outcome.ensures.lanes c.in-Some-pop.ensures.items opened.1).0
+pub returns-in-Ok-spawn_with-clause-done : goal.returns-in-Ok-spawn_with-clause-done
+returns-in-Ok-spawn_with-clause-done g t c =
+    let last = c.close_feed.ensures.last in
+    let sent = put_items c.join.result in
+    let taken = told_of last.0 in
+    let same : c.in-Ok-spawn_with.child.promise.feed.value ≡ c.in-Some.feed = ap (λ p. p.feed.value) c.in-Ok-spawn_with.ensures.ok ∙ c.of.ensures in
+    let began : Began g.F.Feed.gives g.F.Feed.may_fail c.in-Some.feed taken = (sent, subst (λ f. Scanned g.F.Feed.gives g.F.Feed.may_fail f sent) same c.join.ensures.1, last.2) in
+    on_ok_weaker c.start_feeds-outcome.result
+    (λ i. (
+      taken ∷ i.0,
+      subst (λ fs. Each (Began g.F.Feed.gives g.F.Feed.may_fail) fs (taken ∷ i.0)) (sym c.in-Some.ensures.items) (began, i.1),
+      (i.2.0, i.2.1, subst (λ ts. g.H.Core.done c.args.hub.now ts i.2.0 c.start_feeds-outcome.new.hub) (list_moves told_of _ _ last.0 i.0 last.1) i.2.2),
+    ))
+    c.start_feeds-outcome.ensures.done

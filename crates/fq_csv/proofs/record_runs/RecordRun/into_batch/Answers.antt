@@ -8,17 +8,17 @@ use Rattle.fq_csv.proofs.record_runs.RecordRun.into_batch.Goals as goal
 pub unreachable-requires : goal.unreachable-requires
 unreachable-requires c =
     let held = c.in_ok-columns.ensures.rows in
-    cc (sym (no-fault c.self.inside.schema c.in_ok-columns.columns.items held.rows c.in_ok-columns.ensures.some held.held) ∙ c.in-Err.ensures.refused)
+    cc (sym (no-fault c.self.inside.layout.schema c.in_ok-columns.columns.items held.rows c.in_ok-columns.ensures.some held.held) ∙ c.in-Err.ensures.refused)
 
 pub fault_of-requires : goal.fault_of-requires
 fault_of-requires c =
-    let many = length-records_in c.self.inside.count (length c.self.inside.schema) c.self.inside.fields in
+    let many = length-records_in c.self.inside.count (length c.self.inside.layout.schema) c.self.inside.fields in
     place-in c.self.inside.before 2147483647 c.in_ok-columns.bad c.in_ok-columns.ensures.rows (omega (arith, many, c.self.invariant.1))
 
 pub returns : goal.returns
 returns c =
     let inside = c.self.inside in
-    let run : FieldRun = record { file = inside.file; fields = inside.schema; before = inside.before; records = records_in inside.count (length inside.schema) inside.fields } in
+    let run : FieldRun = record { file = inside.file; layout = inside.layout; before = inside.before; records = records_in inside.count (length inside.layout.schema) inside.fields } in
     subst (λ (r : FieldRun). ReadsRun r c.in-Ok.batch c.fault_of.result) c.self.view_is
     (reads-run run c.in_ok-columns.columns.items c.in_ok-columns.bad c.in-Ok.batch c.fault_of.result c.in_ok-columns.ensures.rows c.in_ok-columns.ensures.some c.in-Ok.ensures.ok c.fault_of.ensures.fault c.fault_of.ensures.cause
-    (let many = length-records_in inside.count (length inside.schema) inside.fields in omega (arith, many, c.self.invariant.1)))
+    (let many = length-records_in inside.count (length inside.layout.schema) inside.fields in omega (arith, many, c.self.invariant.1)))

@@ -4,4 +4,4 @@ use Rattle.fq_csv.proofs.TakingLemmas.{length-records_in}
 use Rattle.fq_csv.proofs.record_runs.RecordRun.len.Goals as goal
 
 pub returns : goal.returns
-returns c = sym (length-records_in c.self.inside.count (length c.self.inside.schema) c.self.inside.fields) ∙ ap (λ (r : FieldRun). length r.records) c.self.view_is
+returns c = sym (length-records_in c.self.inside.count (length c.self.inside.layout.schema) c.self.inside.fields) ∙ ap (λ (r : FieldRun). length r.records) c.self.view_is

@@ -45,7 +45,7 @@ returns-in-Ok-None-clause-ended g c = λ f e.
     let file = c.file-file.ensures ∙ ap (λ (s : Scanning). s.file) c.self.view_is in
     let serial = ap (λ (s : Scanning). s.serial) c.self.view_is in (
       c.end_of-in-Ok-None.ensures ∙ (λ i. let s : Scan = End (file i) (serial i) (sym none i) in s),
-      ap (λ (x : RecordScanning). let s : Scanning = record { file = x.file; fields = x.fields; batch_size = x.run_size; serial = inside.serial; room = x.taken + x.room - inside.rows; upcoming = batches_left inside.fault x; ending = rows_ending inside.fault x.ending; stopped = x.stopped } in s) last.1
+      ap (λ (x : RecordScanning). let s : Scanning = record { file = x.file; layout = x.layout; batch_size = x.run_size; serial = inside.serial; room = x.taken + x.room - inside.rows; upcoming = batches_left inside.fault x; ending = rows_ending inside.fault x.ending; stopped = x.stopped } in s) last.1
           ∙ c.self.view_is,
     )
 
@@ -59,6 +59,6 @@ returns-in-Err-clause-ended g c = λ f e.
     let file = c.file-file.ensures ∙ ap (λ (s : Scanning). s.file) c.self.view_is in
     let serial = ap (λ (s : Scanning). s.serial) c.self.view_is in (
       c.end_of-in-Err.ensures ∙ (λ i. let s : Scan = End (file i) (serial i) (sym some i) in s),
-      ap (λ (x : RecordScanning). let s : Scanning = record { file = x.file; fields = x.fields; batch_size = x.run_size; serial = inside.serial; room = x.taken + x.room - inside.rows; upcoming = batches_left inside.fault x; ending = rows_ending inside.fault x.ending; stopped = x.stopped } in s) last.1
+      ap (λ (x : RecordScanning). let s : Scanning = record { file = x.file; layout = x.layout; batch_size = x.run_size; serial = inside.serial; room = x.taken + x.room - inside.rows; upcoming = batches_left inside.fault x; ending = rows_ending inside.fault x.ending; stopped = x.stopped } in s) last.1
           ∙ c.self.view_is,
     )

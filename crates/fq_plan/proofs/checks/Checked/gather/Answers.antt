@@ -15,7 +15,7 @@ use Rattle.fq_plan.specs.Feeding.{Feeding, MayCome}
 use Rattle.fq_plan.specs.GatheredRun.{HasGathered}
 use Rattle.fq_plan.specs.Plan.{Query, files_wanted}
 use Rattle.fq_plan.specs.Run.{IsEngineFault, engine_fault}
-use Rattle.fq_plan.specs.Stages.{query_of, Leads}
+use Rattle.fq_plan.specs.Stages.{checked_layout, query_of, Leads}
 use Rattle.fq_plan.specs.Standing.{TailTakes}
 use Rattle.fq_plan.specs.Working.{work_on}
 use Rattle.fq_plan.specs.declared.gathering.Gathered.{Gathered}
@@ -23,7 +23,7 @@ use Rattle.fq_plan.specs.declared.stages.CheckedSource.{CheckedSource}
 use Rattle.fq_plan.specs.declared.stages.Stage.{Stage}
 use Rattle.fq_plan.proofs.GatheredLemmas.{has-gathered}
 use Rattle.fq_plan.proofs.OutcomeLemmas.{leads-over}
-use Rattle.fq_plan.proofs.StartLemmas.{count-schemas, join-count, length-opened, opened-open}
+use Rattle.fq_plan.proofs.StartLemmas.{count-layouts, join-count, length-opened, opened-open}
 use Rattle.fq_plan.proofs.checks.Checked.gather.Given.{Over}
 use Rattle.fq_plan.proofs.checks.Checked.gather.Goals as goal
 use Rattle.fq_plan.proofs.checks.Checked.gather.Goals.{After-as_slice, In_ok-outcome}
@@ -31,16 +31,16 @@ use Rattle.fq_plan.proofs.checks.Checked.gather.Goals.{After-as_slice, In_ok-out
 pub open_feeds-requires-clause-one_each : goal.open_feeds-requires-clause-one_each
 open_feeds-requires-clause-one_each g c =
     let s = c.self.inside in
-    let schemas = c.in_ok-schemas.ensures ∙ ap (λ (js : List CheckedSource). flat_map (λ (s : CheckedSource). replicate s.files s.schema) (js ++ c.self.inside.main ∷ [])) c.as_slice-joins.ensures.value in
-    let count = ap length schemas ∙ count-schemas (s.joins.items ++ s.main ∷ []) s.leading.front s.stages.items s.inputs c.self.invariant.0 ∙ ap files_wanted c.self.view_is in
-    omega (arith, count, c.requires.inputs, c.in_ok-schemas.schemas.ok.0)
+    let layouts = c.in_ok-layouts.ensures ∙ ap (λ (js : List CheckedSource). flat_map (λ (s : CheckedSource). replicate s.files (checked_layout s)) (js ++ c.self.inside.main ∷ [])) c.as_slice-joins.ensures.value in
+    let count = ap length layouts ∙ count-layouts (s.joins.items ++ s.main ∷ []) s.leading.front s.stages.items s.inputs c.self.invariant.0 ∙ ap files_wanted c.self.view_is in
+    omega (arith, count, c.requires.inputs, c.in_ok-layouts.layouts.ok.0)
 
 pub run_lanes-tail-requires-clause-feeds : goal.run_lanes-tail-requires-clause-feeds
 run_lanes-tail-requires-clause-feeds g c κs within =
     omega (
       arith,
       ap length c.in_ok-feeds.ensures,
-      length-opened (g.R.Read.remaining) c.args.batch_size 0 c.in_ok-schemas.schemas.items c.args.inputs.items,
+      length-opened (g.R.Read.remaining) c.args.batch_size 0 c.in_ok-layouts.layouts.items c.args.inputs.items,
       c.args.inputs.ok.0,
       c.requires.inputs,
       ap files_wanted c.self.view_is,
@@ -50,7 +50,7 @@ run_lanes-tail-requires-clause-feeds g c κs within =
 pub run_lanes-tail-requires-clause-open : goal.run_lanes-tail-requires-clause-open
 run_lanes-tail-requires-clause-open g c κs within =
     subst (λ (fs : List Feeding). All (λ (f : Feeding). f.most ≤ 2147483648) fs) (sym c.in_ok-feeds.ensures)
-    (opened-open (g.R.Read.remaining) c.args.batch_size 0 c.in_ok-schemas.schemas.items c.args.inputs.items)
+    (opened-open (g.R.Read.remaining) c.args.batch_size 0 c.in_ok-layouts.layouts.items c.args.inputs.items)
 
 -- what the threads did
 finished : (g : Over) (c : In_ok-outcome g) →
@@ -94,7 +94,7 @@ returns-clause-gathered g c =
     (has-gathered (s.joins.items ++ s.main ∷ []) s.leading.front s.stages.items s.inputs checked joins main refl g.R.Read.remaining c.args.inputs.items c.args.batch_size c.in_ok-feeds.feeds.items
     c.new-tail.result c.run_lanes-tail.result.0 c.in_ok-outcome.field-0.trace.items
     (omega (arith, c.requires.batch_size.0)) count
-    (c.in_ok-feeds.ensures ∙ ap (λ fss. opened (g.R.Read.remaining) c.args.batch_size 0 fss c.args.inputs.items) (c.in_ok-schemas.ensures ∙ ap (λ (js : List CheckedSource). flat_map (λ (s : CheckedSource). replicate s.files s.schema) (js ++ c.self.inside.main ∷ [])) c.as_slice-joins.ensures.value))
+    (c.in_ok-feeds.ensures ∙ ap (λ fss. opened (g.R.Read.remaining) c.args.batch_size 0 fss c.args.inputs.items) (c.in_ok-layouts.ensures ∙ ap (λ (js : List CheckedSource). flat_map (λ (s : CheckedSource). replicate s.files (checked_layout s)) (js ++ c.self.inside.main ∷ [])) c.as_slice-joins.ensures.value))
     (c.new-tail.ensures.files ∙ c.self.invariant.1)
     (c.new-tail.ensures.waits s.stages.items _ _ (record {
       sources = c.new-waiting.ensures ∙ (λ i. record { joins = sources-are g (goal.at.returns-clause-gathered g c).After-as_slice i; before = (c.in_ok-before.ensures ∙ c.self.invariant.2) i; stages = c.as_slice.ensures.value i });

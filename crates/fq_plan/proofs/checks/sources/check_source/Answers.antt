@@ -14,7 +14,7 @@ returns-in_err-schema-clause-refused c =
 
 pub returns-clause-source : goal.returns-clause-source
 returns-clause-source c =
-    ap (λ (fields : Fields). let s : Source = record { files = c.args.source.files; fields = fields } in s)
+    ap (λ (fields : Fields). let s : Source = record { files = c.args.source.files; fields = fields; nulls = c.args.source.nulls } in s)
     (c.in_ok-schema.ensures.ok ∙ fields_of-columns c.args.source.columns.items _ _ c.in_ok-names.ensures.names c.in_ok-names.ensures.kinds)
 
 pub returns-clause-passed : goal.returns-clause-passed

@@ -1,0 +1,73 @@
+// How the records of a file are read.
+ghost use Rattle.std.specs.Prelude.{◌≡◌, IfOk, map, string_bytes};
+ghost use Rattle.fq_csv.specs.Field.{is_one_of};
+
+use fq_column::{Memory, Schema, copy_strings};
+use std::alloc::Global;
+use std::marker::Model;
+
+/// Texts that are read as null: a field that is one of them, byte for byte, is null in a column of whatever kind.
+///
+/// Repeats change nothing, and an empty field is null without any. Polars calls them `null_values` of `scan_csv`.
+#[derive(Debug, Drop)]
+pub struct NullValues {
+    texts: Vec<String>,
+}
+
+impl Model for NullValues {
+    ghost use Rattle.std.specs.Prelude.{List, ℕ, map, string_bytes};
+
+    ghost Value = { List (List ℕ) };
+
+    ghost view = { λ n. map string_bytes n.texts.items };
+}
+
+impl NullValues {
+    /// These texts.
+    pub fn new(texts: Vec<String>) -> NullValues
+        ensures { result ≡ map string_bytes texts.items }
+    {
+        NullValues { texts }
+    }
+
+    /// The same texts in memory of their own.
+    pub fn copy(&self, alloc: Global) -> Result<NullValues, Memory>
+        ensures { IfOk result (λ n. n ≡ self.now) }
+    {
+        let texts = copy_strings(alloc, self.texts.as_slice())?;
+        Ok(NullValues { texts })
+    }
+
+    /// Whether a field is one of the texts.
+    pub(crate) fn has(&self, field: &[u8]) -> bool
+        ensures { result ≡ is_one_of self.now field.now }
+    {
+        for text in &self.texts {
+            if text.as_bytes() == field {
+                return true;
+            }
+        }
+        false
+    }
+}
+
+/// How the records of a file are read: its columns, and the texts that are null in each of them.
+#[derive(Drop)]
+pub struct Layout {
+    /// The names that the header must have, and the kinds of the columns.
+    pub schema: Schema,
+    /// The texts that are read as null.
+    pub nulls: NullValues,
+}
+
+impl Layout {
+    /// An equal layout in memory of its own.
+    pub fn copy(&self, alloc: Global) -> Result<Layout, Memory>
+        ensures { IfOk result (λ l. l ≡ self.now) }
+    {
+        Ok(Layout {
+            schema: self.schema.copy(alloc)?,
+            nulls: self.nulls.copy(alloc)?,
+        })
+    }
+}
