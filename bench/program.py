@@ -126,7 +126,7 @@ class Task:
     data_table: Optional[str]
 
     def plan(self):
-        return f'{{"version":1,"sources":[{self.sources}],"steps":[{self.steps}]}}\n'
+        return f'{{"version":2,"sources":[{self.sources}],"steps":[{self.steps}]}}\n'
 
 
 FILTER = Task(
@@ -247,6 +247,30 @@ LABEL_JOIN = Task(
     data_table="d <- orders(); d[products(), on = 'product', label := i.label]; answer <- d",
 )
 
+SEMI_JOIN = Task(
+    name=f"semi join with {PRODUCTS // 2:,} rows on an int",
+    sources=f"{PRODUCT_LABELS},{ORDERS}",
+    steps='{"join":{"source":0,"on":["product"],"how":"semi"}}',
+    files=["products.csv", "orders.csv"],
+    awk='NR == FNR { there[$1]; next } FNR == 1 || $2 in there',
+    miller=["join", "-j", "product", "-f", "products.csv", "then", "cut", "-o", "-f", "order,product,shop,cents"],
+    sqlite="SELECT * FROM orders WHERE product IN (SELECT product FROM products);",
+    pandas="answer = orders(); answer = answer[answer['product'].isin(products()['product'])]",
+    data_table="d <- orders(); answer <- d[product %in% products()$product]",
+)
+
+ANTI_JOIN = Task(
+    name=f"anti join with {PRODUCTS // 2:,} rows on an int",
+    sources=f"{PRODUCT_LABELS},{ORDERS}",
+    steps='{"join":{"source":0,"on":["product"],"how":"anti"}}',
+    files=["products.csv", "orders.csv"],
+    awk='NR == FNR { there[$1]; next } FNR == 1 || !($2 in there)',
+    miller=["join", "--np", "--ur", "-j", "product", "-f", "products.csv"],
+    sqlite="SELECT * FROM orders WHERE product NOT IN (SELECT product FROM products);",
+    pandas="answer = orders(); answer = answer[~answer['product'].isin(products()['product'])]",
+    data_table="answer <- orders()[!products(), on = 'product']",
+)
+
 WIDE_FILTER = Task(
     name="12 columns with quotes: filter of two ints",
     sources=VISITS,
@@ -274,7 +298,7 @@ WIDE_GROUP = Task(
 
 TASKS = {
     "filter": FILTER, "compute": COMPUTE, "group": GROUP, "join": JOIN, "roll": ROLL, "shops": SHOP_GROUPS,
-    "products": PRODUCT_GROUPS, "labels": LABEL_JOIN, "wide": WIDE_FILTER, "hosts": WIDE_GROUP,
+    "products": PRODUCT_GROUPS, "labels": LABEL_JOIN, "semi": SEMI_JOIN, "anti": ANTI_JOIN, "wide": WIDE_FILTER, "hosts": WIDE_GROUP,
 }
 
 

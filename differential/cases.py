@@ -89,30 +89,34 @@ def outputs(draw, columns):
     return [[name, expression(draw, columns, draw.choice(KINDS), draw.randrange(3))] for name in names]
 
 
-def filter_step(draw, columns, joins):
+def filter_step(draw, columns, joins, version):
     return {"filter": expression(draw, columns, "int" if draw.often(1) else "bool", draw.randint(1, 3))}
 
 
-def with_columns_step(draw, columns, joins):
+def with_columns_step(draw, columns, joins, version):
     return {"with_columns": outputs(draw, columns)}
 
 
-def select_step(draw, columns, joins):
+def select_step(draw, columns, joins, version):
     return {"select": outputs(draw, columns)}
 
 
-def join_step(draw, columns, joins):
+def join_step(draw, columns, joins, version):
     if not joins and draw.often(95):
-        return filter_step(draw, columns, joins)
+        return filter_step(draw, columns, joins, version)
     source = draw.randrange(len(joins)) if joins and draw.often(97) else draw.choice([-1, len(joins), 99])
     right = joins[source] if 0 <= source < len(joins) else {}
     common = [name for name in columns if columns[name] == right.get(name)]
     if not common and draw.often(90):
-        return filter_step(draw, columns, joins)
+        return filter_step(draw, columns, joins, version)
     on = draw.some(common, 1, 2) if common and draw.often(96) else draw.some(NAMES, 0, 2)
     if draw.often(1.5):
         on += on[:1]
-    return {"join": {"source": source, "on": on, "how": draw.choice(["inner", "left"])}}
+    is_new = draw.often(90 if version == 2 else 0.5)
+    join = {"source": source, "on": on, "how": draw.choice(["inner", "left", "semi", "anti"] if is_new else ["inner", "left"])}
+    if is_new and draw.often(50):
+        join["nulls_equal"] = draw.often(70)
+    return {"join": join}
 
 
 def column_name(draw, columns, kind=None):
@@ -128,7 +132,7 @@ def may_sum(draw, columns):
     return "int" in columns.values() or draw.often(10)
 
 
-def group_by_step(draw, columns, joins):
+def group_by_step(draw, columns, joins, version):
     keys = draw.some(list(columns), 1, 2) if draw.often(98) else draw.some([*columns, UNKNOWN], 0, 1)
     names = draw.some(NAMES if draw.often(5) else [name for name in NAMES if name not in keys], 0, 4)
     aggregates = []
@@ -143,9 +147,9 @@ def group_by_step(draw, columns, joins):
     return {"group_by": {"keys": keys, "aggs": aggregates}}
 
 
-def rolling_sum_step(draw, columns, joins):
+def rolling_sum_step(draw, columns, joins, version):
     if not may_sum(draw, columns):
-        return filter_step(draw, columns, joins)
+        return filter_step(draw, columns, joins, version)
     window = draw.choice([1, 2, 3, 4, 7, 65536]) if draw.often(96) else draw.choice([0, -1, 65537])
     step = {"column": column_name(draw, columns, "int"), "window": window, "name": draw.choice(NAMES)}
     if draw.often(60):
@@ -156,7 +160,7 @@ def rolling_sum_step(draw, columns, joins):
 STEPS = [filter_step, with_columns_step, select_step, join_step, join_step, group_by_step, rolling_sum_step]
 
 
-def steps(draw, sources):
+def steps(draw, sources, version):
     """Steps, each on the columns that the one before leaves, up to the first that is refused."""
     try:
         *joins, columns = [oracle.columns_of_source(source["columns"]) for source in sources]
@@ -164,10 +168,10 @@ def steps(draw, sources):
         return []
     drawn = []
     for _ in range(draw.randrange(6)):
-        drawn.append(draw.choice(STEPS)(draw, columns, joins))
+        drawn.append(draw.choice(STEPS)(draw, columns, joins, version))
         try:
-            columns = oracle.columns_after(columns, oracle.step_of(drawn[-1]), joins)
-        except oracle.Refusal:
+            columns = oracle.columns_after(columns, oracle.step_of(version, drawn[-1]), joins)
+        except (oracle.Refusal, oracle.WrongShape):
             break
     return drawn
 
@@ -202,7 +206,7 @@ def plan(draw):
         if main and draw.often(80):
             key = draw.choice(main)
             joined["columns"] = [key] + [column for column in joined["columns"] if column[0] != key[0]]
-    return {"version": version, "sources": sources, "steps": steps(draw, sources)}
+    return {"version": version, "sources": sources, "steps": steps(draw, sources, version)}
 
 
 def shuffled(draw, value):

@@ -48,7 +48,7 @@ Binary = namedtuple("Binary", "operator left right")
 Filter = namedtuple("Filter", "predicate")
 WithColumns = namedtuple("WithColumns", "outputs")
 Select = namedtuple("Select", "outputs")
-Join = namedtuple("Join", "source on how")
+Join = namedtuple("Join", "source on how nulls_equal")
 GroupBy = namedtuple("GroupBy", "keys aggregates")
 RollingSum = namedtuple("RollingSum", "column window min_samples name")
 
@@ -213,9 +213,16 @@ def outputs_of(value):
     return list_of(lambda item: pair_of(name_of, expression_of, item), value)
 
 
-def join_of(value):
+def join_of(version, value):
+    nulls_equal, hows = False, ("inner", "left")
+    if version == 2:
+        hows += ("semi", "anti")
+        if isinstance(value, dict) and "nulls_equal" in value:
+            nulls_equal = value["nulls_equal"]
+            require(isinstance(nulls_equal, bool))
+            value = {name: part for name, part in value.items() if name != "nulls_equal"}
     source, on, how = members_of(("source", "on", "how"), value)
-    return Join(whole_of(source), names_of(on), word_of(("inner", "left"), how))
+    return Join(whole_of(source), names_of(on), word_of(hows, how), nulls_equal)
 
 
 def aggregate_of(value):
@@ -241,19 +248,19 @@ def rolling_sum_of(value):
 
 
 STEPS = {
-    "filter": lambda value: Filter(expression_of(value)),
-    "with_columns": lambda value: WithColumns(outputs_of(value)),
-    "select": lambda value: Select(outputs_of(value)),
+    "filter": lambda version, value: Filter(expression_of(value)),
+    "with_columns": lambda version, value: WithColumns(outputs_of(value)),
+    "select": lambda version, value: Select(outputs_of(value)),
     "join": join_of,
-    "group_by": group_of,
-    "rolling_sum": rolling_sum_of,
+    "group_by": lambda version, value: group_of(value),
+    "rolling_sum": lambda version, value: rolling_sum_of(value),
 }
 
 
-def step_of(value):
+def step_of(version, value):
     name, member = only_member(value)
     require(name in STEPS)
-    return STEPS[name](member)
+    return STEPS[name](version, member)
 
 
 def source_of(version, value):
@@ -271,7 +278,7 @@ def source_of(version, value):
 def plan_of(value):
     version, sources, steps = members_of(("version", "sources", "steps"), value)
     require(whole_of(version) in (1, 2))
-    plan = Plan(list_of(lambda source: source_of(version, source), sources), list_of(step_of, steps))
+    plan = Plan(list_of(lambda source: source_of(version, source), sources), list_of(lambda step: step_of(version, step), steps))
     require(1 <= len(plan.sources) <= 8 and len(plan.steps) <= 64 and files_wanted(plan) <= 16)
     return plan
 
@@ -361,7 +368,7 @@ def columns_after(columns, step, joins):
         return columns_after_select(columns, step.outputs)
     if isinstance(step, Join):
         refuse_if(not 0 <= step.source < len(joins), "no such source")
-        return columns_after_join(columns, joins[step.source], step.on)
+        return columns_after_join(columns, joins[step.source], step.on, step.how)
     if isinstance(step, GroupBy):
         return columns_after_group_by(columns, step.keys, step.aggregates)
     return columns_after_rolling_sum(columns, step)
@@ -383,11 +390,12 @@ def columns_after_select(columns, outputs):
     return dict(kinds)
 
 
-def columns_after_join(left, right, on):
+def columns_after_join(left, right, on, how):
     refuse_if(not on, "no column")
     for name in on:
         refuse_if(kind_named(left, name) != kind_named(right, name), "wrong kind")
-    joined = [*left.items(), *((right_name(left, name), kind) for name, kind in right.items() if name not in on)]
+    taken = {} if how in ("semi", "anti") else right
+    joined = [*left.items(), *((right_name(left, name), kind) for name, kind in taken.items() if name not in on)]
     refuse_if(len(joined) > MOST_COLUMNS, "too many columns")
     refuse_if(has_double(on) or has_double([name for name, _ in joined]), "double name")
     return dict(joined)
@@ -649,9 +657,9 @@ def apply_select(n, step, stream):
     return one_by_one(stream, lambda row: [values_of(n, step.outputs, row)])
 
 
-def keys_match(left, right, on):
-    """Whether the keys of two rows are the same; a null matches nothing."""
-    return all(left[name] is not None and left[name] == right[name] for name in on)
+def keys_match(left, right, step):
+    """Whether the keys of two rows are the same; a null matches nothing, or a null where nulls are equal."""
+    return all((step.nulls_equal or left[name] is not None) and left[name] == right[name] for name in step.on)
 
 
 def apply_join(n, step, columns, right_columns, right_rows, stream):
@@ -662,13 +670,17 @@ def apply_join(n, step, columns, right_columns, right_rows, stream):
 
     def pairs(left):
         nonlocal room
-        matches = [right for right in right_rows if keys_match(left, right, step.on)]
-        if not matches and step.how == "left":
-            matches = [nulls]
-        if len(matches) > room:
+        matches = [right for right in right_rows if keys_match(left, right, step)]
+        if step.how in ("semi", "anti"):
+            rows = [left] if bool(matches) == (step.how == "semi") else []
+        else:
+            if not matches and step.how == "left":
+                matches = [nulls]
+            rows = [{**left, **{right_name(columns, name): right[name] for name in added}} for right in matches]
+        if len(rows) > room:
             raise Fault(f"step {n}: too many joined rows")
-        room -= len(matches)
-        return [{**left, **{right_name(columns, name): right[name] for name in added}} for right in matches]
+        room -= len(rows)
+        return rows
 
     return one_by_one(stream, pairs)
 

@@ -1,5 +1,5 @@
 //! Joins, groupings and rolling sums.
-ghost use Rattle.fq_ops.specs.Examples.{SumExamples, GroupExamples, AggregateExamples, GroupSchemaExamples, JoinExamples, SuffixExamples, RoomExamples, RollExamples, RollSchemaExamples, TakeExamples};
+ghost use Rattle.fq_ops.specs.Examples.{SumExamples, GroupExamples, AggregateExamples, GroupSchemaExamples, JoinExamples, EqualNullsExamples, SuffixExamples, RoomExamples, RollExamples, RollSchemaExamples, TakeExamples};
 
 /// The examples of its definitions.
 pub fn worked_examples()
@@ -8,6 +8,7 @@ pub fn worked_examples()
     ensures aggregates { AggregateExamples }
     ensures group_schemas { GroupSchemaExamples }
     ensures joins { JoinExamples }
+    ensures equal_nulls { EqualNullsExamples }
     ensures suffix { SuffixExamples }
     ensures room { RoomExamples }
     ensures rolls { RollExamples }

@@ -1,5 +1,5 @@
 //! Plans over files, texts that spell no plan, and plans that the check refuses.
-ghost use Rattle.fq_plan.specs.Examples.{FilteredRows, EmptyFiles, FilesInOrder, LogicWithNulls, EarliestRow, GroupSums, GroupOrder, AggregatesOfNulls, JoinedRows, SuffixedNames, RollingSums, WholeNumbers, BadRows, Texts, TruthValues, Division, FileOrStep, UnusedSource, NoPlans, NullTexts, DoubleMembers, RefusedPlans, RefusedStarts, ItemsAtAnySize, Traces};
+ghost use Rattle.fq_plan.specs.Examples.{FilteredRows, EmptyFiles, FilesInOrder, LogicWithNulls, EarliestRow, GroupSums, GroupOrder, AggregatesOfNulls, JoinedRows, NewJoins, SuffixedNames, RollingSums, WholeNumbers, BadRows, Texts, TruthValues, Division, FileOrStep, UnusedSource, NoPlans, NullTexts, DoubleMembers, RefusedPlans, RefusedStarts, ItemsAtAnySize, Traces};
 
 /// Plans over files.
 pub fn worked_plans()
@@ -12,6 +12,7 @@ pub fn worked_plans()
     ensures groups { GroupOrder }
     ensures aggregates { AggregatesOfNulls }
     ensures joins { JoinedRows }
+    ensures new_joins { NewJoins }
     ensures suffix { SuffixedNames }
     ensures rolling { RollingSums }
     ensures numbers { WholeNumbers }

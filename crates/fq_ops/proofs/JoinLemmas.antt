@@ -1,5 +1,5 @@
 -- A join by places is the join.
-use Rattle.std.proofs.Common.{◌≡◌, ℕ, suc, ◌+◌, ◌-◌, ◌<◌, Bool, true, false, List, [], ◌∷◌, ◌++◌, map, filter, length, get_or, nat_le, Option, Some, None, is_some, refl, sym, ap, ◌∙◌, cond, if◌then◌else◌, arith, length-append, append_assoc}
+use Rattle.std.proofs.Common.{◌≡◌, ℕ, suc, ◌+◌, ◌-◌, ◌<◌, Bool, true, false, List, [], ◌∷◌, ◌++◌, map, filter, length, append-nil, get_or, nat_le, Option, Some, None, is_some, refl, sym, ap, ◌∙◌, cond, if◌then◌else◌, arith, length-append, append_assoc}
 use Rattle.std.specs.Option.{option_map}
 use Rattle.std.specs.List.{range_with_len}
 use Rattle.std.proofs.lemmas.List.{map-append, length-map}
@@ -9,7 +9,7 @@ use Rattle.fq_column.specs.Lists.{numbers}
 use Rattle.fq_column.specs.Stream.{Stream, done, faulted, then_stream, rename_fault}
 use Rattle.fq_ops.specs.Join.{within_room, join_rows, joined, pairs, rows_match, right_values}
 use Rattle.fq_ops.specs.declared.joins.How.{How}
-use Rattle.fq_ops.specs.declared.joins.How.TheVariants.{Inner, Left}
+use Rattle.fq_ops.specs.declared.joins.How.TheVariants.{Inner, Left, Semi, Anti}
 use Rattle.fq_ops.specs.Pairs.{Pair, pairs_of, pairs_within, matches_of, pair_row, named_key, join_pairs}
 
 map-filter : {X Y : Type 0} (f : X → Y) (p : Y → Bool) (xs : List X) → filter p (map f xs) ≡ map f (filter (λ x. p (f x)) xs)
@@ -25,19 +25,27 @@ filter-places : {X : Type 0} (p : X → Bool) (xs : List X) (d : X) → filter p
 filter-places p xs d = ap (filter p) (fill_by_all (λ n. get_or xs n d) xs (length xs) d refl (λ k low. refl)) ∙ map-filter (λ n. get_or xs n d) p (numbers (length xs))
 
 module _ (left right : Fields) (on : List Name) (rows ls : List Row) where
-  pairs-rows : (l : ℕ) (ms : List ℕ) → map (λ r. get_or ls l [] ++ right_values left right on r) (map (λ n. get_or rows n []) ms) ≡ map (pair_row left right on rows ls) (map (λ r. (l, Some r)) ms)
+  pairs-rows : (l : ℕ) (ms : List ℕ) → map (λ r. get_or ls l [] ++ right_values left right on r) (map (λ n. get_or rows n []) ms) ≡ map (pair_row Inner left right on rows ls) (map (λ r. (l, Some r)) ms)
   pairs-rows l [] = refl
   pairs-rows l (m ∷ ms) = ap (λ t. (get_or ls l [] ++ right_values left right on (get_or rows m [])) ∷ t) (pairs-rows l ms)
 
-  pairs-by_place : (how : How) (l : ℕ) (ms : List ℕ) → pairs left right on how (get_or ls l []) (map (λ n. get_or rows n []) ms) ≡ map (pair_row left right on rows ls) (pairs_of how l ms)
+  left-alone : (l : ℕ) → get_or ls l [] ∷ [] ≡ (get_or ls l [] ++ []) ∷ []
+  left-alone l = ap (λ row. row ∷ []) (sym (append-nil (get_or ls l [])))
+
+  pairs-by_place : (how : How) (l : ℕ) (ms : List ℕ) → pairs left right on how (get_or ls l []) (map (λ n. get_or rows n []) ms) ≡ map (pair_row how left right on rows ls) (pairs_of how l ms)
   pairs-by_place Inner l [] = refl
   pairs-by_place Left l [] = refl
-  pairs-by_place how l (m ∷ ms) = pairs-rows l (m ∷ ms)
+  pairs-by_place Semi l [] = refl
+  pairs-by_place Anti l [] = left-alone l
+  pairs-by_place Inner l (m ∷ ms) = pairs-rows l (m ∷ ms)
+  pairs-by_place Left l (m ∷ ms) = pairs-rows l (m ∷ ms)
+  pairs-by_place Semi l (m ∷ ms) = left-alone l
+  pairs-by_place Anti l (m ∷ ms) = refl
 
   -- the output of the left row at a place
-  output-by_place : (how : How) (l : ℕ) → joined left right on how rows (get_or ls l []) ≡ map (pair_row left right on rows ls) (pairs_of how l (matches_of (named_key right on rows) (length rows) (named_key left on ls l)))
-  output-by_place how l = ap (pairs left right on how (get_or ls l [])) (filter-places (rows_match left right on (get_or ls l [])) rows [])
-      ∙ pairs-by_place how l (matches_of (named_key right on rows) (length rows) (named_key left on ls l))
+  output-by_place : (how : How) (nulls_equal : Bool) (l : ℕ) → joined left right on how nulls_equal rows (get_or ls l []) ≡ map (pair_row how left right on rows ls) (pairs_of how l (matches_of nulls_equal (named_key right on rows) (length rows) (named_key left on ls l)))
+  output-by_place how nulls_equal l = ap (pairs left right on how (get_or ls l [])) (filter-places (rows_match left right on nulls_equal (get_or ls l [])) rows [])
+      ∙ pairs-by_place how l (matches_of nulls_equal (named_key right on rows) (length rows) (named_key left on ls l))
 
 module _ (f : Pair → Row) (out : Row → List Row) (output : ℕ → List Pair) where
   abbrev IsTied : ℕ → (List Pair × Option ℕ) → Stream ℕ → Type 0
@@ -91,13 +99,13 @@ module _ (f : Pair → Row) (out : Row → List Row) (output : ℕ → List Pair
                 ∙ sym (ap (λ c. (chosen low (U m) c).1) e),
           )
 
-pub join-by_place : (how : How) (left right : Fields) (on : List Name) (rows : List Row) (room : ℕ) (ls : List Row) →
-    let u = join_pairs how left right on rows room ls in join_rows how left right on rows room ls ≡ record { rows = map (pair_row left right on rows ls) u.0; fault = u.1 }
-join-by_place how left right on rows room ls =
-    let u = join_pairs how left right on rows room ls in
-    let t = within-by_place (pair_row left right on rows ls) (joined left right on how rows) (λ l. pairs_of how l (matches_of (named_key right on rows) (length rows) (named_key left on ls l))) room 0 ls
-    (λ j low. output-by_place left right on rows ls how j ∙ ap (λ v. map (pair_row left right on rows ls) (pairs_of how v (matches_of (named_key right on rows) (length rows) (named_key left on ls v)))) (let e : j ≡ 0 + j = omega arith in e)) in
-    λ i. record { rows = t.0 i; fault = (same (join_rows how left right on rows room ls).fault ∙ t.1) i }
+pub join-by_place : (how : How) (nulls_equal : Bool) (left right : Fields) (on : List Name) (rows : List Row) (room : ℕ) (ls : List Row) →
+    let u = join_pairs how nulls_equal left right on rows room ls in join_rows how nulls_equal left right on rows room ls ≡ record { rows = map (pair_row how left right on rows ls) u.0; fault = u.1 }
+join-by_place how nulls_equal left right on rows room ls =
+    let output : ℕ → List Pair = λ l. pairs_of how l (matches_of nulls_equal (named_key right on rows) (length rows) (named_key left on ls l)) in
+    let t = within-by_place (pair_row how left right on rows ls) (joined left right on how nulls_equal rows) output room 0 ls
+    (λ j low. output-by_place left right on rows ls how nulls_equal j ∙ ap (λ v. map (pair_row how left right on rows ls) (output v)) (let e : j ≡ 0 + j = omega arith in e)) in
+    λ i. record { rows = t.0 i; fault = (same (join_rows how nulls_equal left right on rows room ls).fault ∙ t.1) i }
   where
     same : (o : Option ℕ) → o ≡ option_map (λ x. 0 + x) o
     same None = refl

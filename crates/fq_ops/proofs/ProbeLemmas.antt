@@ -10,8 +10,8 @@ use Rattle.fq_column.specs.declared.cells.Cell.TheVariants.{Null}
 use Rattle.fq_column.specs.Frame.{Field, Fields, Frame, IsFrame, Name, Row, kinds_of, names_of, has_name}
 use Rattle.fq_column.specs.Lists.{numbers}
 use Rattle.fq_ops.specs.declared.joins.How.{How}
-use Rattle.fq_ops.specs.declared.joins.How.TheVariants.{Inner, Left}
-use Rattle.fq_ops.specs.Join.{joined_fields, keys_match, renamed, right_name, right_values}
+use Rattle.fq_ops.specs.declared.joins.How.TheVariants.{Inner, Left, Semi, Anti}
+use Rattle.fq_ops.specs.Join.{joined_fields, keys_match, renamed, right_name, right_values, taken}
 use Rattle.fq_ops.specs.Pairs.{Pair, pairs_of, pairs_within, matches_of, pair_row, named_key, join_pairs, join_picks, left_value, right_value}
 use Rattle.fq_ops.specs.Picks.{Pick, row_of, picks_from}
 use Rattle.fq_ops.proofs.PickLemmas.{cell-transposed, kinds, kinds-picked, nulls-picked, row-picked}
@@ -62,6 +62,10 @@ module _ (ls rows : ℕ) where
   of-one : (how : How) (l : ℕ) (ms : List ℕ) → l < ls → AllIn (λ m. m < rows) ms → AllIn (ArePlaces ls rows) (pairs_of how l ms)
   of-one Inner l [] low a = tt
   of-one Left l [] low a = ((low, tt), tt)
+  of-one Semi l [] low a = tt
+  of-one Anti l [] low a = ((low, tt), tt)
+  of-one Semi l (m ∷ ms) low a = ((low, tt), tt)
+  of-one Anti l (m ∷ ms) low a = tt
   of-one Inner l (m ∷ ms) low a = AllIn-map (ArePlaces ls rows) (λ m. m < rows) (λ m. (l, Some m)) (λ m b. (low, b)) (m ∷ ms) a
   of-one Left l (m ∷ ms) low a = AllIn-map (ArePlaces ls rows) (λ m. m < rows) (λ m. (l, Some m)) (λ m b. (low, b)) (m ∷ ms) a
 
@@ -73,11 +77,11 @@ module _ (ls rows : ℕ) where
       by true e tail = let rest = pairs_within output (room - length (output l)) xs in subst (λ b. let u : List Pair × Option ℕ = (if b then (output l ++ rest.0, rest.1) else ([], Some l)) in AllIn (ArePlaces ls rows) u.0) (sym e) (AllIn-append (ArePlaces ls rows) (output l) rest.0 (each l a.0) tail)
       by false e tail = let rest = pairs_within output (room - length (output l)) xs in subst (λ b. let u : List Pair × Option ℕ = (if b then (output l ++ rest.0, rest.1) else ([], Some l)) in AllIn (ArePlaces ls rows) u.0) (sym e) tt
 
-pub pairs-inside : (how : How) (left right : Fields) (on : List Name) (rows : List Row) (room : ℕ) (ls : List Row) → AllIn (ArePlaces (length ls) (length rows)) (join_pairs how left right on rows room ls).0
-pairs-inside how left right on rows room ls =
-    of-all (length ls) (length rows) (λ l. pairs_of how l (matches_of (named_key right on rows) (length rows) (named_key left on ls l)))
-    (λ l low. of-one (length ls) (length rows) how l (matches_of (named_key right on rows) (length rows) (named_key left on ls l)) low
-    (AllIn-filter (λ m. m < length rows) (λ n. keys_match (named_key left on ls l) (named_key right on rows n)) (numbers (length rows)) (AllIn-range (length rows) 0 (length rows) (omega arith))))
+pub pairs-inside : (how : How) (nulls_equal : Bool) (left right : Fields) (on : List Name) (rows : List Row) (room : ℕ) (ls : List Row) → AllIn (ArePlaces (length ls) (length rows)) (join_pairs how nulls_equal left right on rows room ls).0
+pairs-inside how nulls_equal left right on rows room ls =
+    of-all (length ls) (length rows) (λ l. pairs_of how l (matches_of nulls_equal (named_key right on rows) (length rows) (named_key left on ls l)))
+    (λ l low. of-one (length ls) (length rows) how l (matches_of nulls_equal (named_key right on rows) (length rows) (named_key left on ls l)) low
+    (AllIn-filter (λ m. m < length rows) (λ n. keys_match nulls_equal (named_key left on ls l) (named_key right on rows n)) (numbers (length rows)) (AllIn-range (length rows) 0 (length rows) (omega arith))))
     room (numbers (length ls)) (AllIn-range (length ls) 0 (length ls) (omega arith))
 
 -- ---- rows of a frame have a value for each field
@@ -97,16 +101,19 @@ filter-all : {X : Type 0} (xs : List X) → filter (λ _. true) xs ≡ xs
 filter-all [] = refl
 filter-all (x ∷ xs) = ap (λ l. x ∷ l) (filter-all xs)
 
-module _ (left right : Frame) (on : List Name) where
+module _ (how : How) (left right : Frame) (on : List Name) where
   abbrev other : Name → Bool
   other n = not (has_name on n)
 
-  pub join-kinds : kinds_of (joined_fields left.fields right.fields on) ≡ kinds (join_picks left right on)
+  abbrev more : Fields
+  more = taken how right.fields
+
+  pub join-kinds : kinds_of (joined_fields how left.fields right.fields on) ≡ kinds (join_picks how left right on)
   join-kinds =
-      map-append (λ (f : Field). f.1) left.fields (renamed left.fields on right.fields)
+      map-append (λ (f : Field). f.1) left.fields (renamed left.fields on more)
       ∙ (λ i. (sym (kinds-picked (λ _. true) (left_value left.rows) 0 left.fields ∙ ap (map (λ (f : Field). f.1)) (filter-all left.fields))) i
-      ++ (map-map (λ (f : Field). f.1) (λ (f : Field). let g : Field = (right_name left.fields f.0, f.1) in g) (filter (λ (f : Field). other f.0) right.fields) ∙ sym (kinds-picked other (right_value right.rows) 0 right.fields)) i)
-      ∙ sym (map-append (λ (p : Pick Pair). p.0) (picks_from (λ _. true) (left_value left.rows) 0 left.fields) (picks_from other (right_value right.rows) 0 right.fields))
+      ++ (map-map (λ (f : Field). f.1) (λ (f : Field). let g : Field = (right_name left.fields f.0, f.1) in g) (filter (λ (f : Field). other f.0) more) ∙ sym (kinds-picked other (right_value right.rows) 0 more)) i)
+      ∙ sym (map-append (λ (p : Pick Pair). p.0) (picks_from (λ _. true) (left_value left.rows) 0 left.fields) (picks_from other (right_value right.rows) 0 more))
 
   module _ (l : IsFrame left) (r : IsFrame right) where
     left-part : (p : Pair) → p.0 < length left.rows → row_of (picks_from (λ _. true) (left_value left.rows) 0 left.fields) p ≡ get_or left.rows p.0 []
@@ -117,17 +124,26 @@ module _ (left right : Frame) (on : List Name) where
         ∙ ap (map (λ (q : Name × Cell). q.1)) (filter-all (zip (names_of left.fields) row))
         ∙ map-zip_second (names_of left.fields) row (length-map left.fields (λ (f : Field). f.0) ∙ sym size)
 
-    right-part : (a : ℕ) (o : Option ℕ) → IsInside (length right.rows) o → row_of (picks_from other (right_value right.rows) 0 right.fields) (a, o) ≡ option_map_or (λ m. right_values left.fields right.fields on (get_or right.rows m [])) o (replicate (length (filter (λ (f : Field). other f.0) right.fields)) Null)
-    right-part a None low = nulls-picked other (right_value right.rows) (a, None) (λ i. refl) 0 right.fields
-    right-part a (Some m) low = row-picked other (right_value right.rows) (a, Some m) (get_or right.rows m []) (λ i. cell-transposed i m right.rows) 0 right.fields (get_or right.rows m []) refl (row-length right r m low)
+    all-parts : (a m : ℕ) → m < length right.rows → row_of (picks_from other (right_value right.rows) 0 right.fields) (a, Some m) ≡ right_values left.fields right.fields on (get_or right.rows m [])
+    all-parts a m low = row-picked other (right_value right.rows) (a, Some m) (get_or right.rows m []) (λ i. cell-transposed i m right.rows) 0 right.fields (get_or right.rows m []) refl (row-length right r m low)
 
-    pub pair-row : (p : Pair) → ArePlaces (length left.rows) (length right.rows) p → row_of (join_picks left right on) p ≡ pair_row left.fields right.fields on right.rows left.rows p
+    some-parts : (h : How) (a m : ℕ) → m < length right.rows → row_of (picks_from other (right_value right.rows) 0 (taken h right.fields)) (a, Some m) ≡ right_values left.fields (taken h right.fields) on (get_or right.rows m [])
+    some-parts Inner a m low = all-parts a m low
+    some-parts Left a m low = all-parts a m low
+    some-parts Semi a m low = refl
+    some-parts Anti a m low = refl
+
+    right-part : (a : ℕ) (o : Option ℕ) → IsInside (length right.rows) o → row_of (picks_from other (right_value right.rows) 0 more) (a, o) ≡ option_map_or (λ m. right_values left.fields more on (get_or right.rows m [])) o (replicate (length (filter (λ (f : Field). other f.0) more)) Null)
+    right-part a None low = nulls-picked other (right_value right.rows) (a, None) (λ i. refl) 0 more
+    right-part a (Some m) low = some-parts how a m low
+
+    pub pair-row : (p : Pair) → ArePlaces (length left.rows) (length right.rows) p → row_of (join_picks how left right on) p ≡ pair_row how left.fields right.fields on right.rows left.rows p
     pair-row p h =
-        map-append (λ (q : Pick Pair). q.1 p) (picks_from (λ _. true) (left_value left.rows) 0 left.fields) (picks_from other (right_value right.rows) 0 right.fields)
+        map-append (λ (q : Pick Pair). q.1 p) (picks_from (λ _. true) (left_value left.rows) 0 left.fields) (picks_from other (right_value right.rows) 0 more)
         ∙ (λ i. left-part p h.0 i ++ right-part p.0 p.1 h.1 i)
 
-    pub picks-some : 0 < length (join_picks left right on)
+    pub picks-some : 0 < length (join_picks how left right on)
     picks-some =
-        let sizes : length (joined_fields left.fields right.fields on) ≡ length (join_picks left right on) =
-        sym (length-map (joined_fields left.fields right.fields on) (λ (f : Field). f.1)) ∙ ap length join-kinds ∙ length-map (join_picks left right on) (λ (p : Pick Pair). p.0) in
-        omega (arith, sizes, l.0.some_column, length-append left.fields (renamed left.fields on right.fields))
+        let sizes : length (joined_fields how left.fields right.fields on) ≡ length (join_picks how left right on) =
+        sym (length-map (joined_fields how left.fields right.fields on) (λ (f : Field). f.1)) ∙ ap length join-kinds ∙ length-map (join_picks how left right on) (λ (p : Pick Pair). p.0) in
+        omega (arith, sizes, l.0.some_column, length-append left.fields (renamed left.fields on more))

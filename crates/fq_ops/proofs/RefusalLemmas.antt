@@ -15,7 +15,8 @@ use Rattle.fq_column.specs.Lists.{is_distinct}
 use Rattle.fq_column.specs.Refusal.{first_refusal, refuse_if, unless_refused, and_then, IsJudgement}
 use Rattle.fq_column.specs.Schema.{kind_named, schema_checks}
 use Rattle.fq_ops.specs.Aggregate.{Output}
-use Rattle.fq_ops.specs.Join.{join_schema, joined_fields, renamed, key_checks, kinds_differ, right_name}
+use Rattle.fq_ops.specs.declared.joins.How.{How}
+use Rattle.fq_ops.specs.Join.{join_schema, joined_fields, renamed, key_checks, kinds_differ, right_name, taken}
 use Rattle.fq_ops.specs.Fields.{Judged, refusals, settled, with_kind}
 use Rattle.fq_ops.specs.Roll.{roll_schema, is_from_to}
 use Rattle.std.specs.Option.{option_map}
@@ -170,21 +171,21 @@ renamed-more left on fs i n k e =
 
 -- ---- the schema of a join
 
-module _ (left right : Fields) (on : List Name) where
+module _ (how : How) (left right : Fields) (on : List Name) where
   abbrev pub output_fields : Fields
-  output_fields = joined_fields left right on
+  output_fields = joined_fields how left right on
 
   abbrev join_ending : List (Option StepFault)
   join_ending = refuse_if (nat_lt 64 (length output_fields)) TooMany ∷ refuse_if (not (is_distinct same_name on && is_distinct same_name (names_of output_fields))) DoubleName ∷ []
 
   module _ (some : (length on == 0) ≡ false) where
-    pub join-key_refused : (f : StepFault) → first_refusal (flat_map (key_checks left right) on) ≡ Some f → join_schema left right on ≡ Err f
+    pub join-key_refused : (f : StepFault) → first_refusal (flat_map (key_checks left right) on) ≡ Some f → join_schema how left right on ≡ Err f
     join-key_refused f e =
         unless-next (length on == 0) NoColumn (flat_map (key_checks left right) on ++ join_ending) output_fields some
         ∙ unless-refused (flat_map (key_checks left right) on ++ join_ending) output_fields f (first_refusal-here (flat_map (key_checks left right) on) join_ending f e)
 
     module _ (none : first_refusal (flat_map (key_checks left right) on) ≡ None) (column : (length left == 0) ≡ false) where
-      join-begun : join_schema left right on ≡ unless_refused join_ending output_fields
+      join-begun : join_schema how left right on ≡ unless_refused join_ending output_fields
       join-begun =
           unless-next (length on == 0) NoColumn (flat_map (key_checks left right) on ++ join_ending) output_fields some
           ∙ unless-past (flat_map (key_checks left right) on) join_ending output_fields none
@@ -199,7 +200,7 @@ module _ (left right : Fields) (on : List Name) where
       -- the judgement of the output's columns
       columns-judged : unless_refused (schema_checks (names_of output_fields)) output_fields ≡ ended (nat_lt 64 (length output_fields)) true (is_distinct same_name (names_of output_fields))
       columns-judged =
-          schema-checked output_fields (names_of output_fields) refl (some_column left (renamed left on right) column)
+          schema-checked output_fields (names_of output_fields) refl (some_column left (renamed left on (taken how right)) column)
           ∙ ap (λ n. unless_refused (refuse_if (nat_lt 64 n) TooMany ∷ refuse_if (not (is_distinct same_name (names_of output_fields))) DoubleName ∷ []) output_fields) (length-map output_fields (λ f. f.0))
 
       past-keys : (many once distinct : Bool) (f : StepFault) → ended many true distinct ≡ Err f → ended many once distinct ≡ Err f
@@ -208,7 +209,7 @@ module _ (left right : Fields) (on : List Name) where
       past-keys false false true f e = absurd (cc)
       past-keys false false false f e = e
 
-      pub join-columns_refused : (f : StepFault) → unless_refused (schema_checks (names_of output_fields)) output_fields ≡ Err f → join_schema left right on ≡ Err f
+      pub join-columns_refused : (f : StepFault) → unless_refused (schema_checks (names_of output_fields)) output_fields ≡ Err f → join_schema how left right on ≡ Err f
       join-columns_refused f e = join-begun ∙ past-keys (nat_lt 64 (length output_fields)) (is_distinct same_name on) (is_distinct same_name (names_of output_fields)) f (sym columns-judged ∙ e)
 
       doubled : (many once distinct : Bool) (s : Fields) → once ≡ false → ended many true distinct ≡ Ok s → ended many once distinct ≡ Err DoubleName
@@ -216,10 +217,10 @@ module _ (left right : Fields) (on : List Name) where
       doubled false true distinct s o e = absurd (cc)
       doubled false false distinct s o e = refl
 
-      pub join-keys_double : (s : Fields) → is_distinct same_name on ≡ false → unless_refused (schema_checks (names_of output_fields)) output_fields ≡ Ok s → join_schema left right on ≡ Err DoubleName
+      pub join-keys_double : (s : Fields) → is_distinct same_name on ≡ false → unless_refused (schema_checks (names_of output_fields)) output_fields ≡ Ok s → join_schema how left right on ≡ Err DoubleName
       join-keys_double s o e = join-begun ∙ doubled (nat_lt 64 (length output_fields)) (is_distinct same_name on) (is_distinct same_name (names_of output_fields)) s o (sym columns-judged ∙ e)
 
-      pub join-accepted : (s : Fields) → is_distinct same_name on ≡ true → unless_refused (schema_checks (names_of output_fields)) output_fields ≡ Ok s → join_schema left right on ≡ Ok s
+      pub join-accepted : (s : Fields) → is_distinct same_name on ≡ true → unless_refused (schema_checks (names_of output_fields)) output_fields ≡ Ok s → join_schema how left right on ≡ Ok s
       join-accepted s o e = join-begun ∙ ap (λ b. ended (nat_lt 64 (length output_fields)) b (is_distinct same_name (names_of output_fields))) o ∙ sym columns-judged ∙ e
 
 -- ---- the schema of a rolling sum
@@ -343,15 +344,15 @@ some-of : {X : Type 0} (xs : List X) → (length xs == 0) ≡ false → 1 ≤ le
 some-of [] e = absurd (cc)
 some-of (x ∷ xs) e = omega arith
 
-module _ (left right : Fields) (on : List Name) (ok : IsOk (join_schema left right on)) where
+module _ (how : How) (left right : Fields) (on : List Name) (ok : IsOk (join_schema how left right on)) where
   abbrev join_checks : List (Option StepFault)
-  join_checks = refuse_if (length on == 0) NoColumn ∷ (flat_map (key_checks left right) on ++ join_ending left right on)
+  join_checks = refuse_if (length on == 0) NoColumn ∷ (flat_map (key_checks left right) on ++ join_ending how left right on)
 
-  join-begins : ((length on == 0) ≡ false) × (first_refusal (flat_map (key_checks left right) on ++ join_ending left right on) ≡ None)
-  join-begins = none-first (length on == 0) NoColumn (flat_map (key_checks left right) on ++ join_ending left right on) (accepted join_checks (joined_fields left right on) ok)
+  join-begins : ((length on == 0) ≡ false) × (first_refusal (flat_map (key_checks left right) on ++ join_ending how left right on) ≡ None)
+  join-begins = none-first (length on == 0) NoColumn (flat_map (key_checks left right) on ++ join_ending how left right on) (accepted join_checks (joined_fields how left right on) ok)
 
-  join-parts : (first_refusal (flat_map (key_checks left right) on) ≡ None) × (first_refusal (join_ending left right on) ≡ None)
-  join-parts = none-both (flat_map (key_checks left right) on) (join_ending left right on) join-begins.1
+  join-parts : (first_refusal (flat_map (key_checks left right) on) ≡ None) × (first_refusal (join_ending how left right on) ≡ None)
+  join-parts = none-both (flat_map (key_checks left right) on) (join_ending how left right on) join-begins.1
 
   key-parts : (k : ℕ) (d : Name) → k < length on → ((not (has_name (names_of left) (get_or on k d)) ≡ false) × (not (has_name (names_of right) (get_or on k d)) ≡ false))
   key-parts k d low =
@@ -370,10 +371,10 @@ module _ (left right : Fields) (on : List Name) (ok : IsOk (join_schema left rig
   pub join-distinct : IsTrue (is_distinct same_name on)
   join-distinct =
       let once = is_distinct same_name on in
-      let distinct = is_distinct same_name (names_of (joined_fields left right on)) in
-      let many = nat_lt 64 (length (joined_fields left right on)) in
+      let distinct = is_distinct same_name (names_of (joined_fields how left right on)) in
+      let many = nat_lt 64 (length (joined_fields how left right on)) in
       let both = none-first (not (once && distinct)) DoubleName [] (none-first many TooMany (refuse_if (not (once && distinct)) DoubleName ∷ []) join-parts.1).1 in
       (and_parts once distinct (kept-true (once && distinct) both.0)).0
 
-  pub join-output : join_schema left right on ≡ Ok (joined_fields left right on)
-  join-output = ap (chosen (joined_fields left right on)) (accepted join_checks (joined_fields left right on) ok)
+  pub join-output : join_schema how left right on ≡ Ok (joined_fields how left right on)
+  join-output = ap (chosen (joined_fields how left right on)) (accepted join_checks (joined_fields how left right on) ok)

@@ -1,5 +1,5 @@
 -- Worked examples: the definitions over these columns and rows.
-use Rattle.std.specs.Prelude.{◌≡◌, ℕ, ◌-◌, ◌^◌, List, [], ◌∷◌, ◌++◌, drop, length, pos, negsuc, Option, Some, None, Ok, Err, codes}
+use Rattle.std.specs.Prelude.{◌≡◌, ℕ, ◌-◌, ◌^◌, Bool, true, false, List, [], ◌∷◌, ◌++◌, drop, length, pos, negsuc, Option, Some, None, Ok, Err, codes}
 use Rattle.fq_column.specs.declared.cells.Kind.{Kind}
 use Rattle.fq_column.specs.declared.cells.Kind.TheVariants as kind
 use Rattle.fq_column.specs.declared.cells.Cell.{Cell}
@@ -8,7 +8,8 @@ use Rattle.fq_column.specs.declared.faults.StepFault.TheVariants.{WrongKind, Dou
 use Rattle.fq_column.specs.Frame.{Fields, Name, Row}
 use Rattle.fq_column.specs.Lists.{before_missing, first_missing}
 use Rattle.fq_column.specs.Stream.{Stream, done}
-use Rattle.fq_ops.specs.declared.joins.How.TheVariants.{Inner, Left}
+use Rattle.fq_ops.specs.declared.joins.How.{How}
+use Rattle.fq_ops.specs.declared.joins.How.TheVariants.{Inner, Left, Semi, Anti}
 use Rattle.fq_ops.specs.Group.{group_schema, grouped}
 use Rattle.fq_ops.specs.Join.{join_schema, join_rows}
 use Rattle.fq_ops.specs.Aggregate.{sum_of, min_of, max_of, count_of, len, first_of_all, last_of_all, unique_of, Output}
@@ -95,25 +96,37 @@ right_rows = (n 1 ∷ t (codes "a") ∷ []) ∷ (Null ∷ t (codes "b") ∷ []) 
 abbrev pub left_rows : List Row
 left_rows = (n 2 ∷ n 10 ∷ []) ∷ (n 1 ∷ n 20 ∷ []) ∷ (Null ∷ n 30 ∷ []) ∷ []
 
+abbrev pub joined_by : How → Bool → Stream ℕ
+joined_by how nulls_equal = join_rows how nulls_equal ikv kw (k ∷ []) right_rows 4294967295 left_rows
+
 abbrev pub JoinExamples : Type 0
-JoinExamples = (join_rows Left ikv kw (k ∷ []) right_rows 4294967295 left_rows
-    ≡ done ((n 2 ∷ n 10 ∷ Null ∷ []) ∷ (n 1 ∷ n 20 ∷ t (codes "a") ∷ []) ∷ (n 1 ∷ n 20 ∷ t (codes "c") ∷ []) ∷ (Null ∷ n 30 ∷ Null ∷ []) ∷ []))
-    × (join_rows Inner ikv kw (k ∷ []) right_rows 4294967295 left_rows
-    ≡ done ((n 1 ∷ n 20 ∷ t (codes "a") ∷ []) ∷ (n 1 ∷ n 20 ∷ t (codes "c") ∷ []) ∷ []))
+JoinExamples = (joined_by Left false ≡ done ((n 2 ∷ n 10 ∷ Null ∷ []) ∷ (n 1 ∷ n 20 ∷ t (codes "a") ∷ []) ∷ (n 1 ∷ n 20 ∷ t (codes "c") ∷ []) ∷ (Null ∷ n 30 ∷ Null ∷ []) ∷ []))
+    × (joined_by Inner false ≡ done ((n 1 ∷ n 20 ∷ t (codes "a") ∷ []) ∷ (n 1 ∷ n 20 ∷ t (codes "c") ∷ []) ∷ []))
+    × (joined_by Semi false ≡ done ((n 1 ∷ n 20 ∷ []) ∷ []))
+    × (joined_by Anti false ≡ done ((n 2 ∷ n 10 ∷ []) ∷ (Null ∷ n 30 ∷ []) ∷ []))
+
+abbrev pub EqualNullsExamples : Type 0
+EqualNullsExamples = (joined_by Left true ≡ done ((n 2 ∷ n 10 ∷ Null ∷ []) ∷ (n 1 ∷ n 20 ∷ t (codes "a") ∷ []) ∷ (n 1 ∷ n 20 ∷ t (codes "c") ∷ []) ∷ (Null ∷ n 30 ∷ t (codes "b") ∷ []) ∷ []))
+    × (joined_by Inner true ≡ done ((n 1 ∷ n 20 ∷ t (codes "a") ∷ []) ∷ (n 1 ∷ n 20 ∷ t (codes "c") ∷ []) ∷ (Null ∷ n 30 ∷ t (codes "b") ∷ []) ∷ []))
+    × (joined_by Semi true ≡ done ((n 1 ∷ n 20 ∷ []) ∷ (Null ∷ n 30 ∷ []) ∷ []))
+    × (joined_by Anti true ≡ done ((n 2 ∷ n 10 ∷ []) ∷ []))
 
 abbrev pub SuffixExamples : Type 0
-SuffixExamples = (join_schema ikv ikv (k ∷ []) ≡ Ok (int k ∷ int v ∷ int (codes "v_right") ∷ []))
-    × (join_rows Inner ikv ikv (k ∷ []) ((n 1 ∷ n 7 ∷ []) ∷ []) 10 ((n 1 ∷ n 5 ∷ []) ∷ []) ≡ done ((n 1 ∷ n 5 ∷ n 7 ∷ []) ∷ []))
-    × (join_schema (int k ∷ int v ∷ int (codes "v_right") ∷ []) ikv (k ∷ []) ≡ Err DoubleName)
-    × (join_schema ikv (int k ∷ int v ∷ int (codes "v_right") ∷ []) (k ∷ []) ≡ Err DoubleName)
-    × (join_schema ikv kw (k ∷ []) ≡ Ok (int k ∷ int v ∷ txt (codes "w") ∷ []))
+SuffixExamples = (join_schema Inner ikv ikv (k ∷ []) ≡ Ok (int k ∷ int v ∷ int (codes "v_right") ∷ []))
+    × (join_rows Inner false ikv ikv (k ∷ []) ((n 1 ∷ n 7 ∷ []) ∷ []) 10 ((n 1 ∷ n 5 ∷ []) ∷ []) ≡ done ((n 1 ∷ n 5 ∷ n 7 ∷ []) ∷ []))
+    × (join_schema Inner (int k ∷ int v ∷ int (codes "v_right") ∷ []) ikv (k ∷ []) ≡ Err DoubleName)
+    × (join_schema Inner ikv (int k ∷ int v ∷ int (codes "v_right") ∷ []) (k ∷ []) ≡ Err DoubleName)
+    × (join_schema Inner ikv kw (k ∷ []) ≡ Ok (int k ∷ int v ∷ txt (codes "w") ∷ []))
+    × (join_schema Semi (int k ∷ int v ∷ int (codes "v_right") ∷ []) ikv (k ∷ []) ≡ Ok (int k ∷ int v ∷ int (codes "v_right") ∷ []))
+    × (join_schema Anti ikv kw (k ∷ []) ≡ Ok ikv)
 
-abbrev pub probe_with : ℕ → Stream ℕ
-probe_with room = join_rows Inner (int k ∷ []) (int k ∷ int (codes "w") ∷ []) (k ∷ []) ((n 1 ∷ n 7 ∷ []) ∷ (n 1 ∷ n 8 ∷ []) ∷ []) room ((n 1 ∷ []) ∷ (n 1 ∷ []) ∷ [])
+abbrev pub probe_with : How → ℕ → Stream ℕ
+probe_with how room = join_rows how false (int k ∷ []) (int k ∷ int (codes "w") ∷ []) (k ∷ []) ((n 1 ∷ n 7 ∷ []) ∷ (n 1 ∷ n 8 ∷ []) ∷ []) room ((n 1 ∷ []) ∷ (n 1 ∷ []) ∷ [])
 
 abbrev pub RoomExamples : Type 0
-RoomExamples = (probe_with 3 ≡ record { rows = (n 1 ∷ n 7 ∷ []) ∷ (n 1 ∷ n 8 ∷ []) ∷ []; fault = Some 1 })
-    × (probe_with 4 ≡ done ((n 1 ∷ n 7 ∷ []) ∷ (n 1 ∷ n 8 ∷ []) ∷ (n 1 ∷ n 7 ∷ []) ∷ (n 1 ∷ n 8 ∷ []) ∷ []))
+RoomExamples = (probe_with Inner 3 ≡ record { rows = (n 1 ∷ n 7 ∷ []) ∷ (n 1 ∷ n 8 ∷ []) ∷ []; fault = Some 1 })
+    × (probe_with Inner 4 ≡ done ((n 1 ∷ n 7 ∷ []) ∷ (n 1 ∷ n 8 ∷ []) ∷ (n 1 ∷ n 7 ∷ []) ∷ (n 1 ∷ n 8 ∷ []) ∷ []))
+    × (probe_with Semi 1 ≡ record { rows = (n 1 ∷ []) ∷ []; fault = Some 1 })
 
 -- rolling sums
 abbrev pub iv : Fields

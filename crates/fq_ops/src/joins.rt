@@ -1,5 +1,5 @@
 // Joins of left batches with one right batch.
-ghost use Rattle.std.specs.Prelude.{◌≡◌, ◌≤◌, ◌<◌, ◌+◌, ◌-◌, ◌++◌, ℕ, List, [], ◌∷◌, All, map, length, get_or, string_bytes, slice_index_or, Some, None, IfOk, IsOk, IsTrue, OnOk};
+ghost use Rattle.std.specs.Prelude.{◌≡◌, ◌≤◌, ◌<◌, ◌+◌, ◌-◌, ◌++◌, ℕ, Bool, true, not, List, [], ◌∷◌, All, map, length, get_or, string_bytes, slice_index_or, Some, None, IfOk, IsOk, IsTrue, OnOk};
 ghost use Rattle.std.specs.List.{AllPass, position_or_len};
 ghost use Rattle.indexmap.specs.IndexSet.{insert_key};
 ghost use Rattle.fq_column.specs.Frame.{Fields, IsFrame, Name, Row, names_of, same_name, has_name};
@@ -9,8 +9,8 @@ ghost use Rattle.fq_column.specs.Stream.{then_stream, rename_fault};
 ghost use Rattle.fq_ops.specs.Group.{same_key};
 ghost use Rattle.fq_ops.specs.Grouping.{replaced, key_at};
 ghost use Rattle.fq_ops.specs.Join.{AreKeys, join_schema as judged_join, joined_fields, join_rows};
-ghost use Rattle.fq_ops.specs.Picks.{columns_of};
-ghost use Rattle.fq_ops.specs.Pairs.{IsIndex, join_picks, matches_of, pairs_of, pairs_within};
+ghost use Rattle.fq_ops.specs.Picks.{Pick, columns_of, picks_from};
+ghost use Rattle.fq_ops.specs.Pairs.{IsIndex, Pair, can_match, join_picks, left_value, matches_of, pairs_of, pairs_within, right_value};
 
 use crate::fields::positions;
 use crate::index::number_of;
@@ -29,20 +29,24 @@ use std::marker::Model;
 /// A join of left rows that come in two parts is the join of the first part and then, if no fault ends it, that of the
 /// second with the room that is left.
 pub fn join_laws()
-    ensures keys { (left right : Fields) (on : List Name) → IsOk (judged_join left right on) → AreKeys right on }
-    ensures fields { (left right : Fields) (on : List Name) → IsOk (judged_join left right on) → judged_join left right on ≡ Ok (joined_fields left right on) }
-    ensures parts { (how : How) (left right : Fields) (on : List Name) (rows : List Row) (room : ℕ) (ls more : List Row) →
-        let u = join_rows how left right on rows room ls in
-        join_rows how left right on rows room (ls ++ more) ≡ then_stream u (rename_fault (λ p. length ls + p) (join_rows how left right on rows (room - length u.rows) more)) }
+    ensures keys { (how : How) (left right : Fields) (on : List Name) → IsOk (judged_join how left right on) → AreKeys right on }
+    ensures fields { (how : How) (left right : Fields) (on : List Name) → IsOk (judged_join how left right on) → judged_join how left right on ≡ Ok (joined_fields how left right on) }
+    ensures parts { (how : How) (nulls_equal : Bool) (left right : Fields) (on : List Name) (rows : List Row) (room : ℕ) (ls more : List Row) →
+        let u = join_rows how nulls_equal left right on rows room ls in
+        join_rows how nulls_equal left right on rows room (ls ++ more) ≡ then_stream u (rename_fault (λ p. length ls + p) (join_rows how nulls_equal left right on rows (room - length u.rows) more)) }
 {}
 
-/// What becomes of a left row without a match.
+/// What a left row gives, by its matches among the right rows (Polars, `how` of `join`).
 #[derive(Clone, Copy, Debug, PartialEq, Eq)]
 pub enum How {
-    /// It gives no row.
+    /// A row with each match.
     Inner,
-    /// It gives one row, with nulls on the right.
+    /// A row with each match, and without one a row with nulls on the right.
     Left,
+    /// Itself, once, where there is a match.
+    Semi,
+    /// Itself, where there is no match.
+    Anti,
 }
 
 /// The output of a left batch.
@@ -91,11 +95,12 @@ impl Places {
     }
 }
 
-/// The right side of a join: its rows, and the places of the rows of each key that has no null.
+/// The right side of a join: its rows, and the places of the rows of each key that can match.
 #[derive(Drop)]
 pub struct JoinTable {
     right: Batch,
     on: Vec<String>,
+    nulls_equal: bool,
     seen: IndexSet<Key>,
     groups: Vec<Places>,
 }
@@ -108,36 +113,55 @@ impl Model for JoinTable {
     ghost use Rattle.std.specs.Prelude.{map, string_bytes};
     ghost use Rattle.fq_ops.specs.Indexed.{IsIndexed};
 
-    ghost view = { λ t. record { fields = t.right.fields; rows = t.right.rows; on = map string_bytes t.on.items } };
+    ghost view = { λ t. record { fields = t.right.fields; rows = t.right.rows; on = map string_bytes t.on.items; nulls_equal = t.nulls_equal } };
 
-    ghost invariant = { λ t. IsIndexed t.right (map string_bytes t.on.items) t.seen.keys t.groups.items };
+    ghost invariant = { λ t. IsIndexed t.right (map string_bytes t.on.items) t.nulls_equal t.seen.keys t.groups.items };
 }
 
 impl JoinTable {
     /// The table of a right batch, whose rows are found by their values in the columns of these names, which are distinct
-    /// columns of the batch, at least one. Copies the batch and the names; see [`JoinTable::build_from`].
-    pub fn build(alloc: Global, right: &Batch, on: &[String]) -> Result<JoinTable, Memory>
+    /// columns of the batch, at least one. A null matches a null where `nulls_equal` is true (Polars, `nulls_equal`), and
+    /// else nothing. Copies the batch and the names; see [`JoinTable::build_from`].
+    pub fn build(
+        alloc: Global,
+        right: &Batch,
+        on: &[String],
+        nulls_equal: bool,
+    ) -> Result<JoinTable, Memory>
         requires { AreKeys right.now.fields (map string_bytes on.now) }
-        ensures { IfOk result (λ t. t ≡ record { fields = right.now.fields; rows = right.now.rows; on = map string_bytes on.now }) }
+        ensures { IfOk result (λ t. t ≡ record { fields = right.now.fields; rows = right.now.rows; on = map string_bytes on.now; nulls_equal = nulls_equal }) }
     {
         let right = right.copy(alloc)?;
         let on = copy_strings(alloc, on)?;
-        JoinTable::build_from(alloc, right, on)
+        JoinTable::build_from(alloc, right, on, nulls_equal)
     }
 
     /// The table of a right batch, which it keeps with no copy: one lookup for each row, and a copy of each key where it
     /// is new. A refusal hands nothing back.
-    pub fn build_from(alloc: Global, right: Batch, on: Vec<String>) -> Result<JoinTable, Memory>
+    pub fn build_from(
+        alloc: Global,
+        right: Batch,
+        on: Vec<String>,
+        nulls_equal: bool,
+    ) -> Result<JoinTable, Memory>
         requires { AreKeys right.fields (map string_bytes on.items) }
-        ensures { IfOk result (λ t. t ≡ record { fields = right.fields; rows = right.rows; on = map string_bytes on.items }) }
+        ensures { IfOk result (λ t. t ≡ record { fields = right.fields; rows = right.rows; on = map string_bytes on.items; nulls_equal = nulls_equal }) }
     {
         let places = positions(alloc, right.schema(), on.as_slice())?;
         let mut seen = IndexSet::new(alloc);
         let mut groups = Vec::new(alloc);
-        index_rows(alloc, &mut seen, &mut groups, places.as_slice(), &right)?;
+        index_rows(
+            alloc,
+            &mut seen,
+            &mut groups,
+            places.as_slice(),
+            &right,
+            nulls_equal,
+        )?;
         Ok(JoinTable {
             right,
             on,
+            nulls_equal,
             seen,
             groups,
         })
@@ -148,22 +172,22 @@ impl JoinTable {
     ///
     /// One lookup for each left row; then whole columns are gathered.
     pub fn probe(&self, alloc: Global, left: &Batch, how: How, room: u64) -> Result<Probed, Memory>
-        requires { IsOk (judged_join left.now.fields self.now.fields self.now.on) }
+        requires { IsOk (judged_join how left.now.fields self.now.fields self.now.on) }
         ensures fields { IfOk result
-            (λ p. p.batch.fields ≡ joined_fields left.now.fields self.now.fields self.now.on) }
-        ensures rows { let u = join_rows how left.now.fields self.now.fields self.now.on self.now.rows room left.now.rows in
+            (λ p. p.batch.fields ≡ joined_fields how left.now.fields self.now.fields self.now.on) }
+        ensures rows { let u = join_rows how self.now.nulls_equal left.now.fields self.now.fields self.now.on self.now.rows room left.now.rows in
             IfOk result (λ p. p.batch.rows ≡ u.rows) }
-        ensures fault { let u = join_rows how left.now.fields self.now.fields self.now.on self.now.rows room left.now.rows in
+        ensures fault { let u = join_rows how self.now.nulls_equal left.now.fields self.now.fields self.now.on self.now.rows room left.now.rows in
             IfOk result (λ p. p.fault ≡ u.fault) }
     {
         let on = self.on.as_slice();
-        let Ok(schema) = join_schema(alloc, left.schema(), self.right.schema(), on) else {
+        let Ok(schema) = join_schema(alloc, left.schema(), self.right.schema(), on, how) else {
             return Err(Memory);
         };
         let places = positions(alloc, left.schema(), on)?;
         let places = places.as_slice();
         let (pairs, fault) = pair_rows(alloc, &self.seen, &self.groups, places, left, how, room)?;
-        let columns = gather(alloc, left, &self.right, on, &pairs)?;
+        let columns = gather(alloc, left, &self.right, on, how, &pairs)?;
         match Batch::from_columns(schema, columns) {
             Ok(batch) => Ok(Probed { batch, fault }),
             Err(_) => unreachable!(),
@@ -171,20 +195,46 @@ impl JoinTable {
     }
 }
 
-// The columns of pairs of rows: the left ones, then the right ones that are not keys.
+// The columns of pairs of rows: the left ones, then the right ones that the output takes.
 fn gather(
     alloc: Global,
     left: &Batch,
     right: &Batch,
     on: &[String],
+    how: How,
     pairs: &Pairs,
 ) -> Result<Vec<Column>, Memory>
-    ensures { IfOk result (λ columns. columns.items ≡ columns_of (join_picks left.now right.now (map string_bytes on.now)) pairs.now) }
+    ensures { IfOk result (λ columns. columns.items ≡ columns_of (join_picks how left.now right.now (map string_bytes on.now)) pairs.now) }
+{
+    let columns = gather_left(alloc, left, pairs)?;
+    match how {
+        How::Inner | How::Left => gather_right(alloc, right, on, pairs, columns),
+        How::Semi | How::Anti => Ok(columns),
+    }
+}
+
+// The left columns of pairs of rows.
+fn gather_left(alloc: Global, left: &Batch, pairs: &Pairs) -> Result<Vec<Column>, Memory>
+    ensures { IfOk result (λ columns. columns.items ≡ columns_of (picks_from (λ _. true) (left_value left.now.rows) 0 left.now.fields) pairs.now) }
 {
     let mut columns = Vec::new(alloc);
     for i in 0..left.schema().len() {
         columns.push(left.column(i).gather(alloc, pairs.left())?)?;
     }
+    Ok(columns)
+}
+
+// The right columns of pairs of rows that are not keys, after these columns.
+fn gather_right(
+    alloc: Global,
+    right: &Batch,
+    on: &[String],
+    pairs: &Pairs,
+    mut columns: Vec<Column>,
+) -> Result<Vec<Column>, Memory>
+    ensures { IfOk result (λ all. (picks : List (Pick Pair)) → columns.items ≡ columns_of picks pairs.now →
+        all.items ≡ columns_of (picks ++ picks_from (λ n. not (has_name (map string_bytes on.now) n)) (right_value right.now.rows) 0 right.now.fields) pairs.now) }
+{
     for i in 0..right.schema().len() {
         if !contains(on, right.schema().name(i)) {
             columns.push(right.column(i).gather_optional(alloc, pairs.right())?)?;
@@ -193,29 +243,37 @@ fn gather(
     Ok(columns)
 }
 
-// Notes the places of the rows of a batch by their keys, but for keys with a null.
+// Notes the places of the rows of a batch by their keys, where these can match.
 fn index_rows(
     alloc: Global,
     seen: &mut IndexSet<Key>,
     groups: &mut Vec<Places>,
     on: &[usize],
     right: &Batch,
+    nulls_equal: bool,
 ) -> Result<(), Memory>
     requires empty { (seen.old.keys ≡ []) × (groups.old.items ≡ []) }
     requires some { 1 ≤ length on.now }
     requires places { All (λ p. p < length right.now.fields) on.now }
     ensures beside { OnOk result (length groups.new.items ≡ length seen.new.keys) }
     ensures frame { OnOk result (IsFrame right.now) }
-    ensures index { OnOk result (IsIndex (λ n. key_at on.now (slice_index_or right.now.rows n [])) (length right.now.rows) seen.new.keys groups.new.items) }
+    ensures index { OnOk result (IsIndex nulls_equal (λ n. key_at on.now (slice_index_or right.now.rows n [])) (length right.now.rows) seen.new.keys groups.new.items) }
 {
     let mut key = Key::nulls(alloc, on.len())?;
     for row in 0..right.rows() {
         key.read(alloc, right, on, row)?;
-        if !key.has_null() {
+        if may_match(&key, nulls_equal) {
             add_place(alloc, seen, groups, &key, row)?;
         }
     }
     Ok(())
+}
+
+// Whether a key can match any.
+fn may_match(key: &Key, nulls_equal: bool) -> bool
+    ensures { result ≡ can_match nulls_equal key.now }
+{
+    nulls_equal || !key.has_null()
 }
 
 // Puts a place to those of its key.
@@ -243,8 +301,8 @@ fn add_place(
 // The places of the rows that match a key.
 fn places_of<'a>(seen: &IndexSet<Key>, groups: &'a Vec<Places>, key: &Key) -> &'a [usize]
     requires { length groups.now.items ≡ length seen.now.keys }
-    ensures { (key_at_place : ℕ → List Value) (count : ℕ) → IsIndex key_at_place count seen.now.keys groups.now.items →
-        result.now ≡ matches_of key_at_place count key.now }
+    ensures { (nulls_equal : Bool) (key_at_place : ℕ → List Value) (count : ℕ) → IsIndex nulls_equal key_at_place count seen.now.keys groups.now.items →
+        result.now ≡ matches_of nulls_equal key_at_place count key.now }
 {
     key_law();
     match seen.get_index_of(key) {
@@ -257,12 +315,16 @@ fn places_of<'a>(seen: &IndexSet<Key>, groups: &'a Vec<Places>, key: &Key) -> &'
 fn count_pairs(how: How, left: usize, matches: &[usize]) -> usize
     ensures { result ≡ length (pairs_of how left matches.now) }
 {
-    if !matches.is_empty() {
-        return matches.len();
+    if matches.is_empty() {
+        return match how {
+            How::Inner | How::Semi => 0,
+            How::Left | How::Anti => 1,
+        };
     }
     match how {
-        How::Inner => 0,
-        How::Left => 1,
+        How::Inner | How::Left => matches.len(),
+        How::Semi => 1,
+        How::Anti => 0,
     }
 }
 
@@ -272,10 +334,21 @@ fn push_pairs(pairs: &mut Pairs, how: How, left: usize, matches: &[usize]) -> Re
 {
     if matches.is_empty() {
         return match how {
-            How::Inner => Ok(()),
-            How::Left => pairs.push(left, None),
+            How::Inner | How::Semi => Ok(()),
+            How::Left | How::Anti => pairs.push(left, None),
         };
     }
+    match how {
+        How::Inner | How::Left => push_matches(pairs, left, matches),
+        How::Semi => pairs.push(left, None),
+        How::Anti => Ok(()),
+    }
+}
+
+// Puts a left row with each of its matches at the end.
+fn push_matches(pairs: &mut Pairs, left: usize, matches: &[usize]) -> Result<(), Memory>
+    ensures { OnOk result (pairs.new ≡ pairs.old ++ map (λ r. (left, Some r)) matches.now) }
+{
     for right in matches {
         pairs.push(left, Some(*right))?;
     }
@@ -296,8 +369,8 @@ fn pair_rows(
     requires some { 1 ≤ length on.now }
     requires places { All (λ p. p < length left.now.fields) on.now }
     ensures frame { OnOk result (IsFrame left.now) }
-    ensures pairs { IfOk result (λ r. (key_at_place : ℕ → List Value) (right_count : ℕ) → IsIndex key_at_place right_count seen.now.keys groups.now.items →
-        (r.0, r.1) ≡ pairs_within (λ l. pairs_of how l (matches_of key_at_place right_count (key_at on.now (slice_index_or left.now.rows l [])))) room (numbers (length left.now.rows))) }
+    ensures pairs { IfOk result (λ r. (nulls_equal : Bool) (key_at_place : ℕ → List Value) (right_count : ℕ) → IsIndex nulls_equal key_at_place right_count seen.now.keys groups.now.items →
+        (r.0, r.1) ≡ pairs_within (λ l. pairs_of how l (matches_of nulls_equal key_at_place right_count (key_at on.now (slice_index_or left.now.rows l [])))) room (numbers (length left.now.rows))) }
 {
     let mut key = Key::nulls(alloc, on.len())?;
     let mut pairs = Pairs::with_capacity(alloc, left.rows())?;

@@ -6,16 +6,18 @@ ghost use Rattle.fq_column.specs.Refusal.{first_refusal, IsJudgement};
 ghost use Rattle.fq_column.specs.Schema.{kind_named};
 ghost use Rattle.fq_ops.specs.Fields.{refusals, settled};
 ghost use Rattle.fq_ops.specs.Group.{group_schema as judged_grouping, aggregate_kind};
-ghost use Rattle.fq_ops.specs.Join.{join_schema as judged_join, key_checks, renamed, right_name};
+ghost use Rattle.fq_ops.specs.Join.{join_schema as judged_join, key_checks, renamed, right_name, taken};
 ghost use Rattle.fq_ops.specs.Meaning.{aggregate_of, outputs_of};
 ghost use Rattle.fq_ops.specs.Roll.{roll_schema as judged_roll};
 
 use crate::aggregates::{Agg, What};
 use crate::fields::{FieldList, copy_name};
+use crate::joins::How;
 use fq_column::{Kind, Schema, StepFault};
 use std::alloc::Global;
 
-/// The schema after a join on these names: the left columns, then the right ones without the keys.
+/// The schema after a join on these names: the left columns, then, of an inner or a left join, the right ones without the
+/// keys.
 ///
 /// A right column whose name is among the left names gets the suffix `_right`. Refused, in this order: `NoColumn` where
 /// no key is named; for each key `NoSuchColumn` where it is not on the left or not on the right, `WrongKind` where its
@@ -26,8 +28,9 @@ pub fn join_schema(
     left: &Schema,
     right: &Schema,
     on: &[String],
+    how: How,
 ) -> Result<Schema, StepFault>
-    ensures { IsJudgement (judged_join left.now right.now (map string_bytes on.now)) result }
+    ensures { IsJudgement (judged_join how left.now right.now (map string_bytes on.now)) result }
 {
     if on.is_empty() {
         return Err(StepFault::NoColumn);
@@ -36,7 +39,7 @@ pub fn join_schema(
         check_key(left, right, name.as_str())?;
     }
     let mut fields = FieldList::copy_of(alloc, left)?;
-    add_right(alloc, &mut fields, left, right, on)?;
+    add_taken(alloc, &mut fields, left, right, on, how)?;
     let schema = fields.into_schema()?;
     if has_double(on) {
         return Err(StepFault::DoubleName);
@@ -177,6 +180,24 @@ fn check_key(left: &Schema, right: &Schema, name: &str) -> Result<(), StepFault>
         return Err(StepFault::WrongKind);
     }
     Ok(())
+}
+
+// Adds the right columns that a join's output takes.
+fn add_taken(
+    alloc: Global,
+    fields: &mut FieldList,
+    left: &Schema,
+    right: &Schema,
+    on: &[String],
+    how: How,
+) -> Result<(), StepFault>
+    ensures ok { OnOk result (fields.new ≡ fields.old ++ renamed left.now (map string_bytes on.now) (taken how right.now)) }
+    ensures err { IfErr result (λ fault. fault ≡ StepFault.Memory) }
+{
+    match how {
+        How::Inner | How::Left => add_right(alloc, fields, left, right, on),
+        How::Semi | How::Anti => Ok(()),
+    }
 }
 
 // Adds the right columns that are not keys, each under its name in the output.

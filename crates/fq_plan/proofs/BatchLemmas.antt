@@ -26,7 +26,7 @@ leading-steps joins n fields (s ∷ front) rest u =
 pub front-rest : (steps : List PlanStep) → map row_wise (front_of steps) ++ rest_of steps ≡ steps
 front-rest [] = refl
 front-rest (row_wise s ∷ steps) = ap (λ rest. row_wise s ∷ rest) (front-rest steps)
-front-rest (join source on how ∷ steps) = refl
+front-rest (join source on how nulls_equal ∷ steps) = refl
 front-rest (group_by keys aggs ∷ steps) = refl
 front-rest (rolling_sum column window m name ∷ steps) = refl
 

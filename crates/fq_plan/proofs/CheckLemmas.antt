@@ -157,7 +157,7 @@ module _ (joins : List Fields) where
   operator-passed n fields (Rows front) rest after t =
       rows-passed n fields front.steps rest after t.2
       ∙ ap (λ k. refusal_in (judged_steps joins (n + k) after rest)) (sym (length-map front.steps row_wise))
-  operator-passed n fields (Join source on how) rest after t = step-passed n fields (join (pos source) (map string_bytes on.items) how) rest after t
+  operator-passed n fields (Join source on how nulls_equal) rest after t = step-passed n fields (join (pos source) (map string_bytes on.items) how nulls_equal) rest after t
   operator-passed n fields (GroupBy keys aggs) rest after t = step-passed n fields (group_by (map string_bytes keys.items) (outputs_of aggs.items)) rest after t
   operator-passed n fields (RollingSum column window m name) rest after t =
       step-passed n fields (rolling_sum (string_bytes column) (pos window) (pos m) (string_bytes name)) rest after t

@@ -71,9 +71,9 @@ module _ {F G : Type 0} where
 module _ (joins : List Frame) where
   keeps-step : (n : ℕ) (fields : Fields) (s : PlanStep) (u : Stream Fault) → is_some u.fault ≡ true → is_some (apply_plan_step joins n fields s u).fault ≡ true
   keeps-step n fields (row_wise s) u h = keeps-then _ (record { rows = []; fault = u.fault }) h
-  keeps-step n fields (join source on how) u h = go (item_at joins source)
+  keeps-step n fields (join source on how nulls_equal) u h = go (item_at joins source)
     where
-      go : (o : Option Frame) → is_some (let w : Stream Fault = elim o [ None ↦ u | Some right ↦ join_stream how fields right.fields on right.rows join_room (JoinRows n) u ] in w.fault) ≡ true
+      go : (o : Option Frame) → is_some (let w : Stream Fault = elim o [ None ↦ u | Some right ↦ join_stream how nulls_equal fields right.fields on right.rows join_room (JoinRows n) u ] in w.fault) ≡ true
       go None = h
       go (Some right) = keeps-then _ (record { rows = []; fault = u.fault }) h
   keeps-step n fields (group_by keys aggs) u h = keeps-whole {G = ℕ} (grouped fields keys aggs) (SumRange n) u h

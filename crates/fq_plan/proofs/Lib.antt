@@ -30,4 +30,5 @@ mod OutcomeOfPipeline
 mod StandingLemmas
 mod LogLemmas
 mod GatheredLemmas
+mod StepVersionLemmas
 mod VersionLemmas

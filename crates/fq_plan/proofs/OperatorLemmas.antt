@@ -66,8 +66,8 @@ within-bound out room (l ∷ ls) = go (nat_le (length (out l)) room) refl (withi
     go true e h = rw e (grind (arith, nat_tests, e, h, length-append (out l) (within_room out (room - length (out l)) ls).rows))
     go false e h = rw e (omega arith)
 
-pub join-bound : (how : How) (left right : Fields) (on : List Name) (rows : List Row) (room : ℕ) (ls : List Row) → length (join_rows how left right on rows room ls).rows ≤ room
-join-bound how left right on rows room ls = within-bound (joined left right on how rows) room ls
+pub join-bound : (how : How) (nulls_equal : Bool) (left right : Fields) (on : List Name) (rows : List Row) (room : ℕ) (ls : List Row) → length (join_rows how nulls_equal left right on rows room ls).rows ≤ room
+join-bound how nulls_equal left right on rows room ls = within-bound (joined left right on how nulls_equal rows) room ls
 
 -- the rows after one more batch
 pub rows-after : (m : Transform) (rows more : List Row) (p : Stream Fault) → (m.at_once rows).fault ≡ None → then_stream (m.at_once rows) p ≡ m.at_once (rows ++ more) →
@@ -78,7 +78,7 @@ rows-after m rows more p unended next =
 
 module _ (j : Joining) (m : Transform) (rows : List Row) (batch : Frame) (h : HasJoined j m rows) (same : m.takes ≡ batch.fields) (unended : (m.at_once rows).fault ≡ None) where
   abbrev joins : ℕ → List Row → Stream ℕ
-  joins room ls = join_rows j.how m.takes j.table.fields j.table.on j.table.rows room ls
+  joins room ls = join_rows j.how j.table.nulls_equal m.takes j.table.fields j.table.on j.table.rows room ls
 
   abbrev full : ℕ → Fault
   full _ = JoinRows j.number
@@ -92,7 +92,7 @@ module _ (j : Joining) (m : Transform) (rows : List Row) (batch : Frame) (h : Ha
 
   joined-on : joins join_room (rows ++ batch.rows) ≡ then_stream (joins join_room rows) (rename_fault (λ p. length rows + p) (joins j.room batch.rows))
   joined-on =
-      within-parts (joined m.takes j.table.fields j.table.on j.how j.table.rows) join_room rows batch.rows
+      within-parts (joined m.takes j.table.fields j.table.on j.how j.table.nulls_equal j.table.rows) join_room rows batch.rows
       ∙ ap (λ n. then_stream (joins join_room rows) (rename_fault (λ p. length rows + p) (joins n batch.rows))) (sym room-left)
 
   join-next : (p : Stream Fault) → p ≡ rename_fault full (joins j.room batch.rows) → then_stream (m.at_once rows) p ≡ m.at_once (rows ++ batch.rows)
@@ -104,17 +104,17 @@ module _ (j : Joining) (m : Transform) (rows : List Row) (batch : Frame) (h : Ha
       ∙ (λ i. (sym h.transform i).at_once (rows ++ batch.rows))
 
   pub joined-next : (made : Frame) (fault : Option ℕ) (end : Option Fault) (left : ℕ) → end ≡ option_map full fault → left ≡ j.room - length made.rows →
-      made.fields ≡ joined_fields batch.fields j.table.fields j.table.on →
-      made.rows ≡ (join_rows j.how batch.fields j.table.fields j.table.on j.table.rows j.room batch.rows).rows →
-      fault ≡ (join_rows j.how batch.fields j.table.fields j.table.on j.table.rows j.room batch.rows).fault →
+      made.fields ≡ joined_fields j.how batch.fields j.table.fields j.table.on →
+      made.rows ≡ (join_rows j.how j.table.nulls_equal batch.fields j.table.fields j.table.on j.table.rows j.room batch.rows).rows →
+      fault ≡ (join_rows j.how j.table.nulls_equal batch.fields j.table.fields j.table.on j.table.rows j.room batch.rows).fault →
       IsNext m rows batch (HasJoined (record j { room = left })) (record { batch = Some made; fault = end })
   joined-next made fault end left e l columns r f =
       let p : Stream Fault = stream made.rows end in
       let is : p ≡ rename_fault full (joins j.room batch.rows) =
-      (λ i. stream ((r ∙ ap (λ fs. (join_rows j.how fs j.table.fields j.table.on j.table.rows j.room batch.rows).rows) (sym same)) i)
-      ((e ∙ ap (option_map full) (f ∙ ap (λ fs. (join_rows j.how fs j.table.fields j.table.on j.table.rows j.room batch.rows).fault) (sym same))) i)) in
+      (λ i. stream ((r ∙ ap (λ fs. (join_rows j.how j.table.nulls_equal fs j.table.fields j.table.on j.table.rows j.room batch.rows).rows) (sym same)) i)
+      ((e ∙ ap (option_map full) (f ∙ ap (λ fs. (join_rows j.how j.table.nulls_equal fs j.table.fields j.table.on j.table.rows j.room batch.rows).fault) (sym same))) i)) in
       let next = join-next p is in record {
-        columns = columns ∙ ap (λ fs. joined_fields fs j.table.fields j.table.on) (sym same) ∙ ap (λ (m : Transform). m.gives) (sym h.transform);
+        columns = columns ∙ ap (λ fs. joined_fields j.how fs j.table.fields j.table.on) (sym same) ∙ ap (λ (m : Transform). m.gives) (sym h.transform);
         next = next;
         kept = λ none. record {
           transform = h.transform;

@@ -125,11 +125,11 @@ sound-whole_on {G} rows_step name h u s = go u.fault s
 module _ (joins : List Frame) where
   sound-step : (n : ℕ) (fields : Fields) (step : PlanStep) (u : Stream Fault) → IsSound u.fault → IsSound (apply_plan_step joins n fields step u).fault
   sound-step n fields (row_wise s) u h = sound-step_on (one_by_one (rows_after fields s)) (fault.Overflow n) (λ g. tt) u h
-  sound-step n fields (join source on how) u h = go (item_at joins source)
+  sound-step n fields (join source on how nulls_equal) u h = go (item_at joins source)
     where
-      go : (o : Option Frame) → IsSound (elim o as (λ _. Stream Fault) [ None ↦ u | Some right ↦ join_stream how fields right.fields on right.rows join_room (fault.JoinRows n) u ]).fault
+      go : (o : Option Frame) → IsSound (elim o as (λ _. Stream Fault) [ None ↦ u | Some right ↦ join_stream how nulls_equal fields right.fields on right.rows join_room (fault.JoinRows n) u ]).fault
       go None = h
-      go (Some right) = sound-step_on (join_rows how fields right.fields on right.rows join_room) (λ place. fault.JoinRows n) (λ g. tt) u h
+      go (Some right) = sound-step_on (join_rows how nulls_equal fields right.fields on right.rows join_room) (λ place. fault.JoinRows n) (λ g. tt) u h
   sound-step n fields (group_by keys aggs) u h = sound-whole_on (grouped fields keys aggs) (fault.SumRange n) (λ g. tt) u h
   sound-step n fields (rolling_sum column window min_samples name) u h = sound-step_on (roll_rows fields column (nat_abs window) (nat_abs min_samples) name) (λ _. fault.RollRange n) (λ g. tt) u h
 

@@ -48,7 +48,7 @@ module _ {X : Type 0} where
 pub no_more_leading : (steps : List PlanStep) → front_of (rest_of steps) ≡ []
 no_more_leading [] = refl
 no_more_leading (row_wise s ∷ steps) = no_more_leading steps
-no_more_leading (join source on how ∷ steps) = refl
+no_more_leading (join source on how nulls_equal ∷ steps) = refl
 no_more_leading (group_by keys aggs ∷ steps) = refl
 no_more_leading (rolling_sum column window m name ∷ steps) = refl
 
@@ -56,7 +56,7 @@ no_more_leading (rolling_sum column window m name ∷ steps) = refl
 pub leading-further : (steps : List PlanStep) (s : Step) → rest_of steps ≡ [] → (front_of (steps ++ row_wise s ∷ []) ≡ front_of steps ++ (s ∷ [])) × (rest_of (steps ++ row_wise s ∷ []) ≡ [])
 leading-further [] s e = (refl, refl)
 leading-further (row_wise t ∷ steps) s e = let ih = leading-further steps s e in (ap (λ ss. t ∷ ss) ih.0, ih.1)
-leading-further (join source on how ∷ steps) s e = absurd (cc)
+leading-further (join source on how nulls_equal ∷ steps) s e = absurd (cc)
 leading-further (group_by keys aggs ∷ steps) s e = absurd (cc)
 leading-further (rolling_sum column window m name ∷ steps) s e = absurd (cc)
 
@@ -65,7 +65,7 @@ pub rest-further : (steps : List PlanStep) (s : PlanStep) (t : PlanStep) (ts : L
     (front_of (steps ++ s ∷ []) ≡ front_of steps) × (rest_of (steps ++ s ∷ []) ≡ rest_of steps ++ (s ∷ []))
 rest-further [] s t ts e = absurd (cc)
 rest-further (row_wise r ∷ steps) s t ts e = let ih = rest-further steps s t ts e in (ap (λ ss. r ∷ ss) ih.0, ih.1)
-rest-further (join source on how ∷ steps) s t ts e = (refl, refl)
+rest-further (join source on how nulls_equal ∷ steps) s t ts e = (refl, refl)
 rest-further (group_by keys aggs ∷ steps) s t ts e = (refl, refl)
 rest-further (rolling_sum column window m name ∷ steps) s t ts e = (refl, refl)
 
@@ -76,7 +76,7 @@ IsOther s = (front_of (s ∷ []) ≡ []) × (rest_of (s ∷ []) ≡ s ∷ [])
 pub other-further : (steps : List PlanStep) (s : PlanStep) → IsOther s → (front_of (steps ++ s ∷ []) ≡ front_of steps) × (rest_of (steps ++ s ∷ []) ≡ rest_of steps ++ (s ∷ []))
 other-further [] s h = h
 other-further (row_wise r ∷ steps) s h = let ih = other-further steps s h in (ap (λ ss. r ∷ ss) ih.0, ih.1)
-other-further (join source on how ∷ steps) s h = (refl, refl)
+other-further (join source on how nulls_equal ∷ steps) s h = (refl, refl)
 other-further (group_by keys aggs ∷ steps) s h = (refl, refl)
 other-further (rolling_sum column window m name ∷ steps) s h = (refl, refl)
 
@@ -90,7 +90,7 @@ pub record IsSplit (steps : List PlannedStep) (leading : List RowStep) (rest : L
 length-parts : (steps : List PlanStep) → length (front_of steps) + length (rest_of steps) ≡ length steps
 length-parts [] = refl
 length-parts (row_wise s ∷ steps) = omega (arith, length-parts steps)
-length-parts (join source on how ∷ steps) = omega arith
+length-parts (join source on how nulls_equal ∷ steps) = omega arith
 length-parts (group_by keys aggs ∷ steps) = omega arith
 length-parts (rolling_sum column window m name ∷ steps) = omega arith
 
@@ -142,7 +142,7 @@ push-later steps leading (r ∷ rest) t h e = push-rest steps leading (r ∷ res
 
 other : (t : PlannedStep) → ((s : RowStep) → t ≡ Rows s → ⊥) → IsOther (plan_step_of t)
 other (Rows s) n = absurd (n s refl)
-other (Join source on how) n = (refl, refl)
+other (Join source on how nulls_equal) n = (refl, refl)
 other (GroupBy keys aggs) n = (refl, refl)
 other (RollingSum column window m name) n = (refl, refl)
 

@@ -204,26 +204,26 @@ module _ (joins : List Frame) (n : ℕ) (fields after : Fields) (u : Stream Faul
     h ∙ (λ i. ((e ∙ sym (ap (λ (r : Result Fields StepFault). result_unwrap_or r fields) t)) i, sym f i)),
   )
 
-  abbrev judged_with : List Name → Option Fields → Result Fields StepFault
-  judged_with on o = elim o as (λ _. Result Fields StepFault) [ None ↦ Err NoSuchSource | Some right ↦ join_schema fields right on ]
+  abbrev judged_with : How → List Name → Option Fields → Result Fields StepFault
+  judged_with how on o = elim o as (λ _. Result Fields StepFault) [ None ↦ Err NoSuchSource | Some right ↦ join_schema how fields right on ]
 
   -- the source of a join that is not refused
-  pub source-there : (source : ℕ) (on : List Name) (right : Frame) → right ≡ get_or joins source right → judged_with on (slice_get (map (λ (f : Frame). f.fields) joins) source) ≡ Ok after → slice_get joins source ≡ Some right
-  source-there source on right is t = go (slice_get joins source) refl (ap (judged_with on) (sym (slice_get-map (λ (f : Frame). f.fields) joins source)) ∙ t)
+  pub source-there : (how : How) (source : ℕ) (on : List Name) (right : Frame) → right ≡ get_or joins source right → judged_with how on (slice_get (map (λ (f : Frame). f.fields) joins) source) ≡ Ok after → slice_get joins source ≡ Some right
+  source-there how source on right is t = go (slice_get joins source) refl (ap (judged_with how on) (sym (slice_get-map (λ (f : Frame). f.fields) joins source)) ∙ t)
     where
-      go : (o : Option Frame) → slice_get joins source ≡ o → judged_with on (option_map (λ (f : Frame). f.fields) o) ≡ Ok after → slice_get joins source ≡ Some right
+      go : (o : Option Frame) → slice_get joins source ≡ o → judged_with how on (option_map (λ (f : Frame). f.fields) o) ≡ Ok after → slice_get joins source ≡ Some right
       go None e h = absurd (let g : Err NoSuchSource ≡ Ok after = h in cc)
       go (Some r) e h = e ∙ ap Some (sym (get_or_from_slice_get joins source r right e) ∙ sym is)
 
-  pub join-turn : (source : ℕ) (on : List Name) (how : How) (right : Frame) → right ≡ get_or joins source right → judged_step (map (λ f. f.fields) joins) fields (join (pos source) on how) ≡ Ok after →
-      s ≡ (joined_fields fields right.fields on, join_stream how fields right.fields on right.rows join_room (JoinRows n) u) → Is (join (pos source) on how ∷ [])
-  join-turn source on how right is t h =
-      let at = source-there source on right is t in
-      let known : join_schema fields right.fields on ≡ Ok after = ap (judged_with on) (sym (slice_get-map (λ (f : Frame). f.fields) joins source ∙ ap (option_map (λ (f : Frame). f.fields)) at)) ∙ t in
-      let same : (let output : Result Fields StepFault = Ok (joined_fields fields right.fields on) in output) ≡ Ok after = sym (join-output fields right.fields on (ap is_ok known)) ∙ known in
-      step-turn (join (pos source) on how) (joined_fields fields right.fields on) (join_stream how fields right.fields on right.rows join_room (JoinRows n) u) t
+  pub join-turn : (source : ℕ) (on : List Name) (how : How) (nulls_equal : Bool) (right : Frame) → right ≡ get_or joins source right → judged_step (map (λ f. f.fields) joins) fields (join (pos source) on how nulls_equal) ≡ Ok after →
+      s ≡ (joined_fields how fields right.fields on, join_stream how nulls_equal fields right.fields on right.rows join_room (JoinRows n) u) → Is (join (pos source) on how nulls_equal ∷ [])
+  join-turn source on how nulls_equal right is t h =
+      let at = source-there how source on right is t in
+      let known : join_schema how fields right.fields on ≡ Ok after = ap (judged_with how on) (sym (slice_get-map (λ (f : Frame). f.fields) joins source ∙ ap (option_map (λ (f : Frame). f.fields)) at)) ∙ t in
+      let same : (let output : Result Fields StepFault = Ok (joined_fields how fields right.fields on) in output) ≡ Ok after = sym (join-output how fields right.fields on (ap is_ok known)) ∙ known in
+      step-turn (join (pos source) on how nulls_equal) (joined_fields how fields right.fields on) (join_stream how nulls_equal fields right.fields on right.rows join_room (JoinRows n) u) t
       (cc)
-      (ap (λ (o : Option Frame). elim o [ None ↦ u | Some right ↦ join_stream how fields right.fields on right.rows join_room (JoinRows n) u ]) at)
+      (ap (λ (o : Option Frame). elim o [ None ↦ u | Some right ↦ join_stream how nulls_equal fields right.fields on right.rows join_room (JoinRows n) u ]) at)
       h
 
 -- ---- stages, one after the other

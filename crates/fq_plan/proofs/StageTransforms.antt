@@ -1,5 +1,5 @@
 -- The transforms of a plan's stages do the stages' steps.
-use Rattle.std.proofs.Common.{◌≡◌, ℕ, ◌+◌, List, [], ◌∷◌, ◌++◌, map, length, Option, Some, None, Result, Ok, Err, pos, refl, ap, sym, ◌∙◌, subst, get_or, string_bytes, suc, ◌<◌, drop, arith, append-nil, append_assoc, IsOk}
+use Rattle.std.proofs.Common.{◌≡◌, ℕ, ◌+◌, List, [], ◌∷◌, ◌++◌, map, length, Option, Some, None, Result, Ok, Err, pos, refl, ap, sym, ◌∙◌, subst, get_or, string_bytes, suc, ◌<◌, drop, arith, append-nil, append_assoc, IsOk, Bool}
 use Rattle.std.proofs.Math.Seq.{drop-cons}
 use Rattle.std.specs.Prelude.{is_ok, option_map, nat_lt, not, ◌==◌, slice_get, slice_index_or}
 use Rattle.std.proofs.lemmas.Option.{get_or_from_slice_get, slice_get-map}
@@ -88,15 +88,15 @@ module _ (joins : List Frame) where
   right-is n fields after source on right e = get_or_from_slice_get joins source right nothing e
 
   -- the source of a join that is not refused
-  pub source-of : (source : ℕ) (on : List Name) (fields after : Fields) → (let judged : Option Fields → Result Fields StepFault = λ o. elim o [ None ↦ Err NoSuchSource | Some right ↦ join_schema fields right on ] in judged (slice_get columns source)) ≡ Ok after →
-      (right : Frame) × (slice_get joins source ≡ Some right) × (join_schema fields right.fields on ≡ Ok after)
-  source-of source on fields after t = go (slice_get joins source) refl (ap judged (sym (slice_get-map (λ (f : Frame). f.fields) joins source)) ∙ t)
+  pub source-of : (how : How) (source : ℕ) (on : List Name) (fields after : Fields) → (let judged : Option Fields → Result Fields StepFault = λ o. elim o [ None ↦ Err NoSuchSource | Some right ↦ join_schema how fields right on ] in judged (slice_get columns source)) ≡ Ok after →
+      (right : Frame) × (slice_get joins source ≡ Some right) × (join_schema how fields right.fields on ≡ Ok after)
+  source-of how source on fields after t = go (slice_get joins source) refl (ap judged (sym (slice_get-map (λ (f : Frame). f.fields) joins source)) ∙ t)
     where
       judged : Option Fields → Result Fields StepFault
-      judged o = elim o [ None ↦ Err NoSuchSource | Some right ↦ join_schema fields right on ]
+      judged o = elim o [ None ↦ Err NoSuchSource | Some right ↦ join_schema how fields right on ]
 
       go : (o : Option Frame) → slice_get joins source ≡ o → judged (option_map (λ (f : Frame). f.fields) o) ≡ Ok after →
-          (right : Frame) × (slice_get joins source ≡ Some right) × (join_schema fields right.fields on ≡ Ok after)
+          (right : Frame) × (slice_get joins source ≡ Some right) × (join_schema how fields right.fields on ≡ Ok after)
       go None e h = absurd (cc)
       go (Some right) e h = (right, e, h)
 
@@ -109,18 +109,18 @@ module _ (joins : List Frame) where
         starts = apply_steps-none front.first front.fields front.steps None;
         does = λ u. (rows-turn joins n fields after u (fields_after_all front.fields front.steps, whole (transform_of joins n fields (Rows front)) u) front t (is u)).1;
       }
-  transform-is n fields after (Join source on how) t =
+  transform-is n fields after (Join source on how nulls_equal) t =
       let names = map string_bytes on.items in
-      let at = source-of source names fields after t in
+      let at = source-of how source names fields after t in
       let right = slice_index_or joins source nothing in
       let same : right ≡ at.0 = get_or_from_slice_get joins source at.0 nothing at.1 in
       let is : right ≡ get_or joins source right = same ∙ sym (get_or_from_slice_get joins source at.0 right at.1) in
-      let m = transform_of joins n fields (Join source on how) in
-      let gives : joined_fields fields right.fields names ≡ after = ap (λ (f : Frame). joined_fields fields f.fields names) same ∙ ok-is (joined_fields fields at.0.fields names) after (sym (join-output fields at.0.fields names (ap is_ok at.2)) ∙ at.2) in record {
+      let m = transform_of joins n fields (Join source on how nulls_equal) in
+      let gives : joined_fields how fields right.fields names ≡ after = ap (λ (f : Frame). joined_fields how fields f.fields names) same ∙ ok-is (joined_fields how fields at.0.fields names) after (sym (join-output how fields at.0.fields names (ap is_ok at.2)) ∙ at.2) in record {
         takes = refl;
         gives = gives;
         starts = refl;
-        does = λ u. (join-turn joins n fields after u (m.gives, whole m u) source names how right is t (λ i. (m.gives, join-whole n how (record { fields = right.fields; rows = right.rows; on = names }) fields u i))).1;
+        does = λ u. (join-turn joins n fields after u (m.gives, whole m u) source names how nulls_equal right is t (λ i. (m.gives, join-whole n how (record { fields = right.fields; rows = right.rows; on = names; nulls_equal = nulls_equal }) fields u i))).1;
       }
   transform-is n fields after (GroupBy keys aggs) t =
       let names = map string_bytes keys.items in let outputs = outputs_of aggs.items in
@@ -184,22 +184,22 @@ module _ (joins : List Frame) where
 -- ---- operators that have taken no row
 
 module _ (joins : List Frame) (n : ℕ) (fields after : Fields) where
-  module _ (source : ℕ) (on : List Name) (right : Frame) (is : right ≡ get_or joins source right) (how : How) (t : judged_step (map (λ (f : Frame). f.fields) joins) fields (join (pos source) on how) ≡ Ok after) where
-    found : (r : Frame) × (slice_get joins source ≡ Some r) × (join_schema fields r.fields on ≡ Ok after)
-    found = source-of joins source on fields after t
+  module _ (source : ℕ) (on : List Name) (right : Frame) (is : right ≡ get_or joins source right) (how : How) (nulls_equal : Bool) (t : judged_step (map (λ (f : Frame). f.fields) joins) fields (join (pos source) on how nulls_equal) ≡ Ok after) where
+    found : (r : Frame) × (slice_get joins source ≡ Some r) × (join_schema how fields r.fields on ≡ Ok after)
+    found = source-of joins how source on fields after t
 
     right-found : right ≡ found.0
     right-found = is ∙ get_or_from_slice_get joins source found.0 right found.1
 
-    pub join-can : (names : List Name) → names ≡ on → IsOk (join_schema fields right.fields names)
-    join-can names e = ap is_ok ((λ i. join_schema fields (right-found i).fields (e i)) ∙ found.2)
+    pub join-can : (names : List Name) → names ≡ on → IsOk (join_schema how fields right.fields names)
+    join-can names e = ap is_ok ((λ i. join_schema how fields (right-found i).fields (e i)) ∙ found.2)
 
-    pub join-started : (names : List Name) → names ≡ on → (j : Joining) → ((left : Fields) → IsOk (join_schema left right.fields names) → HasJoined j (join_transform n how (record { fields = right.fields; rows = right.rows; on = names }) left) []) →
-        HasTaken (running.Join j) (let r = slice_index_or joins source nothing in join_transform n how (record { fields = r.fields; rows = r.rows; on = on }) fields) []
+    pub join-started : (names : List Name) → names ≡ on → (j : Joining) → ((left : Fields) → IsOk (join_schema how left right.fields names) → HasJoined j (join_transform n how (record { fields = right.fields; rows = right.rows; on = names; nulls_equal = nulls_equal }) left) []) →
+        HasTaken (running.Join j) (let r = slice_index_or joins source nothing in join_transform n how (record { fields = r.fields; rows = r.rows; on = on; nulls_equal = nulls_equal }) fields) []
     join-started names e j h =
         let same : right ≡ slice_index_or joins source nothing = right-found ∙ sym (get_or_from_slice_get joins source found.0 nothing found.1) in
-        subst (λ (r : Frame). HasTaken (running.Join j) (join_transform n how (record { fields = r.fields; rows = r.rows; on = on }) fields) []) same
-        (record { causal = join-causal n how (record { fields = right.fields; rows = right.rows; on = on }) fields; faultless = refl; keeps = subst (λ (ns : List Name). HasJoined j (join_transform n how (record { fields = right.fields; rows = right.rows; on = ns }) fields) []) e (h fields (join-can names e)) })
+        subst (λ (r : Frame). HasTaken (running.Join j) (join_transform n how (record { fields = r.fields; rows = r.rows; on = on; nulls_equal = nulls_equal }) fields) []) same
+        (record { causal = join-causal n how (record { fields = right.fields; rows = right.rows; on = on; nulls_equal = nulls_equal }) fields; faultless = refl; keeps = subst (λ (ns : List Name). HasJoined j (join_transform n how (record { fields = right.fields; rows = right.rows; on = ns; nulls_equal = nulls_equal }) fields) []) e (h fields (join-can names e)) })
 
   pub group-started : (keys names : List Name) (outputs made : List Output) → names ≡ keys → made ≡ outputs → (g : Grouping) → HasGrouped g (group_transform n fields names made) [] → HasTaken (running.Group g) (group_transform n fields keys outputs) []
   group-started keys names outputs made e f g h = record {

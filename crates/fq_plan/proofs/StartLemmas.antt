@@ -27,7 +27,7 @@ use Rattle.fq_plan.proofs.SplitLemmas.{but_last-snoc, last_or-snoc}
 no-leading : (steps : List PlanStep) → front_of steps ≡ [] → rest_of steps ≡ steps
 no-leading [] e = refl
 no-leading (row_wise s ∷ steps) e = absurd (cc e)
-no-leading (join source on how ∷ steps) e = refl
+no-leading (join source on how nulls_equal ∷ steps) e = refl
 no-leading (group_by keys aggs ∷ steps) e = refl
 no-leading (rolling_sum column window m name ∷ steps) e = refl
 

@@ -7,10 +7,11 @@ use Rattle.fq_column.specs.Frame.{Fields}
 use Rattle.fq_plan.specs.Parts.{given, only_if, items_as, each_of, member, has_members, whole_from_to, pair_of, name_of, with_length, word}
 use Rattle.fq_plan.specs.Plan.{PlanStep, Query, Source}
 use Rattle.fq_plan.specs.Spelling.{kinds, names, plan_of, source_of, source_with, step_of, version_of}
-use Rattle.fq_plan.specs.Versions.{IsNextVersion}
+use Rattle.fq_plan.specs.Versions.{IsNextVersion, IsOldStep}
 use Rattle.fq_plan.specs.declared.plans.Version.{Version}
 use Rattle.fq_plan.specs.declared.plans.Version.TheVariants.{One, Two}
 use Rattle.fq_plan.proofs.LimitLemmas.{given-some, items_as-all}
+use Rattle.fq_plan.proofs.StepVersionLemmas.{old-step}
 
 -- ---- sources
 
@@ -68,59 +69,73 @@ none-of (Some d) ss e = go (as_array d) e
     go None q = absurd (cc q)
     go (Some ds) q = items_as-all (source_of One) no-nulls (λ x s r. (old-source x s (sym r)).1) ds ss (sym q)
 
+old-steps : (o : Option Data) (ss : List PlanStep) → given o (each_of (step_of One)) ≡ Some ss → All IsOldStep ss
+old-steps None ss e = absurd (cc e)
+old-steps (Some d) ss e = go (as_array d) e
+  where
+    go : (o : Option Items) → given o (items_as (step_of One)) ≡ Some ss → All IsOldStep ss
+    go None q = absurd (cc q)
+    go (Some ds) q = items_as-all (step_of One) IsOldStep (λ x s r. (old-step s x (sym r)).1) ds ss (sym q)
+
 -- ---- plans
 
--- the plan of these sources, and of the steps that a value spells
-abbrev plan_with : Option (List Source) → Option Data → Option Query
+-- the plan of these sources and steps
+abbrev plan_with : Option (List Source) → Option (List PlanStep) → Option Query
 plan_with sources steps =
     given (with_length 1 8 sources) (λ ss.
-    given (with_length 0 64 (given steps (each_of step_of))) (λ ts.
+    given (with_length 0 64 steps) (λ ts.
     only_if (nat_le (sum_by (λ s. s.files) ss) 16) (Some (record { sources = ss; steps = ts }))))
 
-sources-are : (o : Option (List Source)) (steps : Option Data) (p : Query) → plan_with o steps ≡ Some p → o ≡ Some p.sources
-sources-are None steps p e = absurd (cc e)
-sources-are (Some ss) steps p e = go (nat_le 1 (length ss) && nat_le (length ss) 8) e
+parts-are : (o : Option (List Source)) (steps : Option (List PlanStep)) (p : Query) → plan_with o steps ≡ Some p → (o ≡ Some p.sources) × (steps ≡ Some p.steps)
+parts-are None steps p e = absurd (cc e)
+parts-are (Some ss) None p e = go (nat_le 1 (length ss) && nat_le (length ss) 8) e
   where
-    made : List PlanStep → Option Query
-    made ts = only_if (nat_le (sum_by (λ s. s.files) ss) 16) (Some (record { sources = ss; steps = ts }))
-
-    from_files : (b : Bool) (ts : List PlanStep) → only_if b (Some (let q : Query = record { sources = ss; steps = ts } in q)) ≡ Some p → ◌≡◌ {A = Option (List Source)} (Some ss) (Some p.sources)
-    from_files true ts q = ap (λ (o : Option Query). elim o [ None ↦ None | Some r ↦ Some r.sources ]) q
-    from_files false ts q = absurd (cc q)
-
-    from_steps : (o : Option (List PlanStep)) → given o made ≡ Some p → ◌≡◌ {A = Option (List Source)} (Some ss) (Some p.sources)
-    from_steps None q = absurd (cc q)
-    from_steps (Some ts) q = from_files (nat_le (sum_by (λ s. s.files) ss) 16) ts q
-
-    go : (b : Bool) → given (only_if b (Some ss)) (λ rs. given (with_length 0 64 (given steps (each_of step_of))) (λ ts. only_if (nat_le (sum_by (λ s. s.files) rs) 16) (Some (let q : Query = record { sources = rs; steps = ts } in q)))) ≡ Some p
-        → ◌≡◌ {A = Option (List Source)} (Some ss) (Some p.sources)
-    go true q = from_steps (with_length 0 64 (given steps (each_of step_of))) q
+    go : (b : Bool) → given (only_if b (Some ss)) (λ rs. let none : Option Query = None in none) ≡ Some p → (◌≡◌ {A = Option (List Source)} (Some ss) (Some p.sources)) × (◌≡◌ {A = Option (List PlanStep)} None (Some p.steps))
+    go true q = absurd (cc q)
     go false q = absurd (cc q)
+parts-are (Some ss) (Some ts) p e = go (nat_le 1 (length ss) && nat_le (length ss) 8) (nat_le 0 (length ts) && nat_le (length ts) 64) (nat_le (sum_by (λ s. s.files) ss) 16) e
+  where
+    made : Query
+    made = record { sources = ss; steps = ts }
+
+    Are : Type 0
+    Are = (◌≡◌ {A = Option (List Source)} (Some ss) (Some p.sources)) × (◌≡◌ {A = Option (List PlanStep)} (Some ts) (Some p.steps))
+
+    go : (a b c : Bool) → given (only_if a (Some ss)) (λ rs. given (only_if b (Some ts)) (λ us. only_if (nat_le (sum_by (λ s. s.files) rs) 16) (Some (let q : Query = record { sources = rs; steps = us } in q)))) ≡ Some p → Are
+    go false b c q = absurd (cc q)
+    go true false c q = absurd (cc q)
+    go true true c q = files (nat_le (sum_by (λ s. s.files) ss) 16) q
+      where
+        files : (b : Bool) → only_if b (Some made) ≡ Some p → Are
+        files true r = (ap (λ (o : Option Query). elim o [ None ↦ None | Some q ↦ Some q.sources ]) r, ap (λ (o : Option Query). elim o [ None ↦ None | Some q ↦ Some q.steps ]) r)
+        files false r = absurd (cc r)
 
 -- what a value spells, by its version
 by-version : (d : Data) (v : Version) → member (codes "version") version_of d ≡ Some v
-    → plan_of d ≡ only_if (has_members 3 d) (plan_with (given (get (codes "sources") d) (each_of (source_of v))) (get (codes "steps") d))
+    → plan_of d ≡ only_if (has_members 3 d) (plan_with (given (get (codes "sources") d) (each_of (source_of v))) (given (get (codes "steps") d) (each_of (step_of v))))
 by-version d v e =
-    ap (λ o. only_if (has_members 3 d) (given o (λ v. plan_with (given (get (codes "sources") d) (each_of (source_of v))) (get (codes "steps") d)))) e
+    ap (λ o. only_if (has_members 3 d) (given o (λ v. plan_with (given (get (codes "sources") d) (each_of (source_of v))) (given (get (codes "steps") d) (each_of (step_of v)))))) e
 
-pub next-version : (former latter : Data) (p : Query) → IsNextVersion former latter → plan_of former ≡ Some p → (plan_of latter ≡ Some p) × All (λ s. s.nulls ≡ []) p.sources
+pub next-version : (former latter : Data) (p : Query) → IsNextVersion former latter → plan_of former ≡ Some p → (plan_of latter ≡ Some p) × All (λ s. s.nulls ≡ []) p.sources × All IsOldStep p.steps
 next-version former latter p next e = go (has_members 3 former) refl (sym (by-version former One next.one) ∙ e)
   where
     given_sources : Version → Option (List Source)
     given_sources v = given (get (codes "sources") former) (each_of (source_of v))
 
-    steps : Option Data
-    steps = get (codes "steps") former
+    given_steps : Version → Option (List PlanStep)
+    given_steps v = given (get (codes "steps") former) (each_of (step_of v))
 
-    go : (b : Bool) → has_members 3 former ≡ b → only_if b (plan_with (given_sources One) steps) ≡ Some p → (plan_of latter ≡ Some p) × All (λ s. s.nulls ≡ []) p.sources
+    go : (b : Bool) → has_members 3 former ≡ b → only_if b (plan_with (given_sources One) (given_steps One)) ≡ Some p → (plan_of latter ≡ Some p) × All (λ s. s.nulls ≡ []) p.sources × All IsOldStep p.steps
     go false h q = absurd (cc q)
     go true h q =
-        let found : given_sources One ≡ Some p.sources = sources-are (given_sources One) steps p q in
-        let same : given_sources Two ≡ Some p.sources = each-both (source_of One) (source_of Two) (λ d s r. (old-source d s r).0) (get (codes "sources") former) p.sources found in
+        let found = parts-are (given_sources One) (given_steps One) p q in
+        let sources : given_sources Two ≡ Some p.sources = each-both (source_of One) (source_of Two) (λ d s r. (old-source d s r).0) (get (codes "sources") former) p.sources found.0 in
+        let steps : given_steps Two ≡ Some p.steps = each-both (step_of One) (step_of Two) (λ d s r. (old-step s d r).0) (get (codes "steps") former) p.steps found.1 in
         let there : has_members 3 latter ≡ true = next.members 3 ∙ h in (
           by-version latter Two next.two
-              ∙ (λ i. only_if (there i) (plan_with (given (next.sources i) (each_of (source_of Two))) (next.steps i)))
-              ∙ ap (λ o. plan_with o steps) (same ∙ sym found)
+              ∙ (λ i. only_if (there i) (plan_with (given (next.sources i) (each_of (source_of Two))) (given (next.steps i) (each_of (step_of Two)))))
+              ∙ (λ i. plan_with ((sources ∙ sym found.0) i) ((steps ∙ sym found.1) i))
               ∙ q,
-          none-of (get (codes "sources") former) p.sources found,
+          none-of (get (codes "sources") former) p.sources found.0,
+          old-steps (get (codes "steps") former) p.steps found.1,
         )

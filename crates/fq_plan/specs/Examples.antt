@@ -118,6 +118,24 @@ JoinedRows = let files = codes "k,w\n1,a\n,b\n1,c\n" ∷ codes "k,v\n2,10\n1,20\
     (answer (two_sources k_w k_v (join_on_k (codes "left"))) files ≡ prints (codes "k,v,w\n2,10,\n1,20,a\n1,20,c\n,30,\n"))
     × (answer (two_sources k_w k_v (join_on_k (codes "inner"))) files ≡ prints (codes "k,v,w\n1,20,a\n1,20,c\n"))
 
+-- joins of version 2
+abbrev pub joined_on_k : List ℕ → List ℕ
+joined_on_k members = codes "{'version':2,'sources':[" ++ source (codes "1") k_w ++ codes "," ++ source (codes "1") k_v ++ codes "],'steps':[{'join':{'source':0,'on':['k']," ++ members ++ codes "}}]}"
+
+abbrev pub NewJoins : Type 0
+NewJoins = let files = codes "k,w\n1,a\n,b\n1,c\n" ∷ codes "k,v\n2,10\n1,20\n,30\n" ∷ [] in
+    (answer (json (joined_on_k (codes "'how':'semi'"))) files ≡ prints (codes "k,v\n1,20\n"))
+    × (answer (json (joined_on_k (codes "'how':'anti'"))) files ≡ prints (codes "k,v\n2,10\n,30\n"))
+    × (answer (json (joined_on_k (codes "'how':'anti','nulls_equal':false"))) files ≡ prints (codes "k,v\n2,10\n,30\n"))
+    × (answer (json (joined_on_k (codes "'how':'inner','nulls_equal':true"))) files ≡ prints (codes "k,v,w\n1,20,a\n1,20,c\n,30,b\n"))
+    × (answer (json (joined_on_k (codes "'how':'left','nulls_equal':true"))) files ≡ prints (codes "k,v,w\n2,10,\n1,20,a\n1,20,c\n,30,b\n"))
+    × (answer (json (joined_on_k (codes "'how':'semi','nulls_equal':true"))) files ≡ prints (codes "k,v\n1,20\n,30\n"))
+    × (answer (json (joined_on_k (codes "'how':'anti','nulls_equal':true"))) files ≡ prints (codes "k,v\n2,10\n"))
+    × (answer (json (joined_on_k (codes "'how':'anti','nulls_equal':1"))) [] ≡ no_plan Shape)
+    × (answer (json (joined_on_k (codes "'how':'right'"))) [] ≡ no_plan Shape)
+    × (answer (two_sources k_w k_v (join_on_k (codes "semi"))) [] ≡ no_plan Shape)
+    × (answer (two_sources k_w k_v (codes "{'join':{'source':0,'on':['k'],'how':'inner','nulls_equal':false}}")) [] ≡ no_plan Shape)
+
 abbrev pub SuffixedNames : Type 0
 SuffixedNames = (answer (two_sources k_v k_v (join_on_k (codes "inner"))) (codes "k,v\n1,7\n" ∷ codes "k,v\n1,5\n" ∷ []) ≡ prints (codes "k,v,v_right\n1,5,7\n"))
     × (answer (two_sources k_v (k_v ++ codes ",['v_right','int']") (join_on_k (codes "inner"))) [] ≡ refused (refused_at (Step 0) DoubleName))

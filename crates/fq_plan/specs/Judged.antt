@@ -33,7 +33,7 @@ module _ (joins : List Fields) where
   -- the schema after a step, or the step's first refusal
   abbrev pub judged_step : Fields → PlanStep → Result Fields StepFault
   judged_step fields (row_wise s) = step_schema fields s
-  judged_step fields (join source on how) = elim (item_at joins source) [ None ↦ Err NoSuchSource | Some right ↦ join_schema fields right on ]
+  judged_step fields (join source on how nulls_equal) = elim (item_at joins source) [ None ↦ Err NoSuchSource | Some right ↦ join_schema how fields right on ]
   judged_step fields (group_by keys aggs) = group_schema fields keys aggs
   judged_step fields (rolling_sum column window min_samples name) = roll_schema fields column window min_samples name
 

@@ -24,7 +24,7 @@ module _ (joins : List Frame) where
   -- step n on a stream of rows with these columns
   abbrev pub apply_plan_step : ℕ → Fields → PlanStep → Stream Fault → Stream Fault
   apply_plan_step n fields (row_wise s) u = apply_step Overflow n fields s u
-  apply_plan_step n fields (join source on how) u = elim (item_at joins source) [ None ↦ u | Some right ↦ join_stream how fields right.fields on right.rows join_room (JoinRows n) u ]
+  apply_plan_step n fields (join source on how nulls_equal) u = elim (item_at joins source) [ None ↦ u | Some right ↦ join_stream how nulls_equal fields right.fields on right.rows join_room (JoinRows n) u ]
   apply_plan_step n fields (group_by keys aggs) u = group_stream fields keys aggs (SumRange n) u
   apply_plan_step n fields (rolling_sum column window min_samples name) u = roll_stream fields column (nat_abs window) (nat_abs min_samples) name (RollRange n) u
 

@@ -1,5 +1,5 @@
 -- A plan: its sources, of which the last is the main one, and its steps.
-use Rattle.std.specs.Prelude.{ℕ, ℤ, pos, negsuc, ◌-◌, ◌≤◌, All, List, [], ◌∷◌, length, take, map, sum_by, flat_map, replicate, slice_get, slice_index_or, Option, None}
+use Rattle.std.specs.Prelude.{ℕ, ℤ, Bool, pos, negsuc, ◌-◌, ◌≤◌, All, List, [], ◌∷◌, length, take, map, sum_by, flat_map, replicate, slice_get, slice_index_or, Option, None}
 use Rattle.fq_column.specs.Frame.{Fields, Name}
 use Rattle.fq_csv.specs.declared.layouts.Layout.{Layout}
 use Rattle.fq_expr.specs.Expression.{Step}
@@ -14,7 +14,7 @@ pub record Source : Type 0 where
 
 pub data PlanStep : Type 0 where
   row_wise : Step → PlanStep
-  join : ℤ → List Name → How → PlanStep
+  join : ℤ → List Name → How → Bool → PlanStep
   group_by : List Name → List Output → PlanStep
   rolling_sum : Name → ℤ → ℤ → Name → PlanStep
 

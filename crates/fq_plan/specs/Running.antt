@@ -36,7 +36,7 @@ IsUnder fields (Some b) = b.fields ≡ fields
 -- a join that runs as this transform has taken these rows: the room that is left is what they left of it
 pub record HasJoined (j : Joining) (m : Transform) (rows : List Row) : Type 0 where
   pub transform : m ≡ join_transform j.number j.how j.table m.takes
-  pub accepted : IsOk (join_schema m.takes j.table.fields j.table.on)
+  pub accepted : IsOk (join_schema j.how m.takes j.table.fields j.table.on)
   pub room : j.room ≡ join_room - length (m.at_once rows).rows
 
 -- a rolling sum of the column of a name

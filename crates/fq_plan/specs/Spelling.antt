@@ -1,8 +1,8 @@
 -- The plan language: the plan that a JSON text spells. A name is any string; members may stand in any order.
-use Rattle.std.specs.Prelude.{ℕ, ◌==◌, nat_le, List, [], ◌∷◌, codes, sum_by, Option, Some, None, option_map, ok_or, Result, Err, if◌then◌else◌}
+use Rattle.std.specs.Prelude.{ℕ, ◌==◌, nat_le, Bool, false, List, [], ◌∷◌, codes, sum_by, Option, Some, None, option_map, ok_or, Result, Err, if◌then◌else◌}
 use Rattle.std.specs.Str.{is_utf8}
 use Rattle.serde_json.specs.Data.{Data, boolean, number, string, array, object, no_items, item}
-use Rattle.serde_json.specs.Find.{as_i64}
+use Rattle.serde_json.specs.Find.{as_bool, as_i64}
 use Rattle.serde_json.specs.Read.{read}
 use Rattle.fq_column.specs.declared.cells.Kind.{Kind}
 use Rattle.fq_column.specs.declared.cells.Kind.TheVariants as kind
@@ -13,7 +13,7 @@ use Rattle.fq_expr.specs.declared.expressions.Binary.{Binary}
 use Rattle.fq_expr.specs.declared.expressions.Binary.TheVariants.{Add, Sub, Mul, FloorDiv, Mod, Eq, Ne, Lt, Le, Gt, Ge, EqMissing, And, Or, FillNull}
 use Rattle.fq_expr.specs.Expression as expr
 use Rattle.fq_ops.specs.declared.joins.How.{How}
-use Rattle.fq_ops.specs.declared.joins.How.TheVariants.{Inner, Left}
+use Rattle.fq_ops.specs.declared.joins.How.TheVariants.{Inner, Left, Semi, Anti}
 use Rattle.fq_ops.specs.Aggregate.{Aggregate, sum_of, min_of, max_of, count_of, len, first_of_all, last_of_all, unique_of, Output}
 use Rattle.fq_plan.specs.Parts.{given, only_if, word, name_of, whole, whole_from_to, each_of, with_length, two_items, three_items, pair_of, has_members, member, one_member}
 use Rattle.fq_plan.specs.Plan.{Source, PlanStep, row_wise, join, group_by, rolling_sum, Query}
@@ -60,16 +60,24 @@ outputs = each_of (pair_of name_of expression)
 abbrev pub names : Data → Option (List Name)
 names = each_of name_of
 
-abbrev pub hows : List (Name × How)
-hows = (codes "inner", Inner) ∷ (codes "left", Left) ∷ []
+abbrev pub hows : Version → List (Name × How)
+hows One = (codes "inner", Inner) ∷ (codes "left", Left) ∷ []
+hows Two = (codes "inner", Inner) ∷ (codes "left", Left) ∷ (codes "semi", Semi) ∷ (codes "anti", Anti) ∷ []
 
--- {"source": a whole number, "on": [NAME, ..], "how": HOW}
-abbrev pub join_of : Data → Option PlanStep
-join_of d = only_if (has_members 3 d)
-    (given (member (codes "source") whole d) (λ source.
+-- {"source": a whole number, "on": [NAME, ..], "how": HOW}, where a null matches a null or nothing
+abbrev pub join_with : Version → Option Bool → Data → Option PlanStep
+join_with version nulls_equal d =
+    given (member (codes "source") whole d) (λ source.
     given (member (codes "on") names d) (λ on.
-    given (member (codes "how") (word hows) d) (λ how.
-    Some (join source on how)))))
+    given (member (codes "how") (word (hows version)) d) (λ how.
+    option_map (λ equal. join source on how equal) nulls_equal)))
+
+-- in version 2 also with "nulls_equal": true or false
+abbrev pub join_of : Version → Data → Option PlanStep
+join_of One d = only_if (has_members 3 d) (join_with One (Some false) d)
+join_of Two d =
+    if has_members 3 d then join_with Two (Some false) d
+    else only_if (has_members 4 d) (join_with Two (member (codes "nulls_equal") as_bool d) d)
 
 abbrev pub row_counts : List (Name × Aggregate)
 row_counts = (codes "len", len) ∷ []
@@ -115,12 +123,12 @@ roll_of d =
     if has_members 3 d then roll_with (codes "window") d
     else only_if (has_members 4 d) (roll_with (codes "min_samples") d)
 
-abbrev pub step_of : Data → Option PlanStep
-step_of = one_member
+abbrev pub step_of : Version → Data → Option PlanStep
+step_of version = one_member
     ((codes "filter", λ d. option_map (λ e. row_wise (expr.filter_by e)) (expression d))
     ∷ (codes "with_columns", λ d. option_map (λ items. row_wise (expr.with_columns items)) (outputs d))
     ∷ (codes "select", λ d. option_map (λ items. row_wise (expr.select items)) (outputs d))
-    ∷ (codes "join", join_of)
+    ∷ (codes "join", join_of version)
     ∷ (codes "group_by", group_of)
     ∷ (codes "rolling_sum", roll_of) ∷ [])
 
@@ -149,7 +157,7 @@ abbrev pub plan_of : Data → Option Query
 plan_of d = only_if (has_members 3 d)
     (given (member (codes "version") version_of d) (λ version.
     given (with_length 1 8 (member (codes "sources") (each_of (source_of version)) d)) (λ sources.
-    given (with_length 0 64 (member (codes "steps") (each_of step_of) d)) (λ steps.
+    given (with_length 0 64 (member (codes "steps") (each_of (step_of version)) d)) (λ steps.
     only_if (nat_le (sum_by (λ s. s.files) sources) 16) (Some (record { sources = sources; steps = steps }))))))
 
 -- the value that bytes are, where they are JSON

@@ -25,7 +25,7 @@ checked_fields sources = map (λ s. s.schema) sources
 -- the steps that an operator does
 abbrev pub operator_steps : Operator → List PlanStep
 operator_steps (Rows front) = map row_wise front.steps
-operator_steps (Join source on how) = join (pos source) (map string_bytes on.items) how ∷ []
+operator_steps (Join source on how nulls_equal) = join (pos source) (map string_bytes on.items) how nulls_equal ∷ []
 operator_steps (GroupBy keys aggs) = group_by (map string_bytes keys.items) (outputs_of aggs.items) ∷ []
 operator_steps (RollingSum column window min_samples name) = rolling_sum (string_bytes column) (pos window) (pos min_samples) (string_bytes name) ∷ []
 
@@ -41,7 +41,7 @@ module _ (joins : List Fields) where
   -- an operator whose first step is step n takes rows with these columns to rows with those
   abbrev pub Turns : ℕ → Fields → Operator → Fields → Type 0
   Turns n fields (Rows front) after = (front.fields ≡ fields) × (front.first ≡ n) × (steps_schema fields front.steps ≡ Ok after)
-  Turns n fields (Join source on how) after = judged_step joins fields (join (pos source) (map string_bytes on.items) how) ≡ Ok after
+  Turns n fields (Join source on how nulls_equal) after = judged_step joins fields (join (pos source) (map string_bytes on.items) how nulls_equal) ≡ Ok after
   Turns n fields (GroupBy keys aggs) after = judged_step joins fields (group_by (map string_bytes keys.items) (outputs_of aggs.items)) ≡ Ok after
   Turns n fields (RollingSum column window min_samples name) after =
       judged_step joins fields (rolling_sum (string_bytes column) (pos window) (pos min_samples) (string_bytes name)) ≡ Ok after

@@ -15,8 +15,8 @@ module _ (joins : List Frame) where
   -- an operator whose first step is step n, on rows with these columns
   abbrev pub transform_of : ℕ → Fields → Operator → Transform
   transform_of n fields (Rows front) = steps_transform front
-  transform_of n fields (Join source on how) = let right = slice_index_or joins source nothing in
-      join_transform n how (record { fields = right.fields; rows = right.rows; on = map string_bytes on.items }) fields
+  transform_of n fields (Join source on how nulls_equal) = let right = slice_index_or joins source nothing in
+      join_transform n how (record { fields = right.fields; rows = right.rows; on = map string_bytes on.items; nulls_equal = nulls_equal }) fields
   transform_of n fields (GroupBy keys aggs) = group_transform n fields (map string_bytes keys.items) (outputs_of aggs.items)
   transform_of n fields (RollingSum column window min_samples name) = roll_transform n fields (string_bytes column) window min_samples (string_bytes name)
 

@@ -61,8 +61,8 @@ abbrev pub steps_transform : NumberedSteps → Transform
 steps_transform f = row_by_row f.fields (fields_after_all f.fields f.steps) (λ rows. apply_steps Overflow f.first f.fields f.steps (done rows))
 
 abbrev pub join_transform : ℕ → How → Table → Fields → Transform
-join_transform n how table left = row_by_row left (joined_fields left table.fields table.on)
-    (λ rows. rename_fault (λ _. JoinRows n) (join_rows how left table.fields table.on table.rows join_room rows))
+join_transform n how table left = row_by_row left (joined_fields how left table.fields table.on)
+    (λ rows. rename_fault (λ _. JoinRows n) (join_rows how table.nulls_equal left table.fields table.on table.rows join_room rows))
 
 abbrev pub roll_transform : ℕ → Fields → Name → ℕ → ℕ → Name → Transform
 roll_transform n fields column window min_samples name = row_by_row fields (put_named fields (name, Whole))

@@ -19,6 +19,6 @@ source_data s = record { files = s.files; fields = map field_of s.columns.items;
 
 abbrev pub plan_step_of : Step → PlanStep
 plan_step_of (Rows s) = row_wise (step_of s)
-plan_step_of (Join source on how) = join source (map string_bytes on.items) how
+plan_step_of (Join source on how nulls_equal) = join source (map string_bytes on.items) how nulls_equal
 plan_step_of (GroupBy keys aggs) = group_by (map string_bytes keys.items) (outputs_of aggs.items)
 plan_step_of (RollingSum column window min_samples name) = rolling_sum (string_bytes column) window min_samples (string_bytes name)

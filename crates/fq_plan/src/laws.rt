@@ -13,7 +13,7 @@ ghost use Rattle.fq_plan.specs.Plan.{Query, files_wanted};
 ghost use Rattle.fq_plan.specs.Sources.{row_fault};
 ghost use Rattle.fq_plan.specs.Spelling.{plan_of};
 ghost use Rattle.fq_plan.specs.Tail.{all_items, outcome_of_taken};
-ghost use Rattle.fq_plan.specs.Versions.{IsNextVersion};
+ghost use Rattle.fq_plan.specs.Versions.{IsNextVersion, IsOldStep};
 ghost use Rattle.fq_plan.specs.declared.faults.Fault.{Fault as AnyFault};
 ghost use Rattle.fq_plan.specs.declared.faults.Fault.TheVariants.{Overflow as overflow};
 
@@ -24,10 +24,11 @@ pub fn meaning_of_items()
         outcome_of_taken p (all_items p batch_size us) ≡ meaning_of_files p us }
 {}
 
-/// A plan of the first version, its number turned into the second's, is the same plan; no text in it is null but the empty one.
+/// A plan of the first version, its number turned into the second's, is the same plan; no text in it is null but the empty one,
+/// and its joins are inner or left ones in which no null matches.
 pub fn plans_of_both_versions()
     ensures { (former latter : Data) (p : Query) → IsNextVersion former latter → plan_of former ≡ Some p →
-        (plan_of latter ≡ Some p) × All (λ s. s.nulls ≡ []) p.sources }
+        (plan_of latter ≡ Some p) × All (λ s. s.nulls ≡ []) p.sources × All IsOldStep p.steps }
 {}
 
 /// How the rows of a source are cut into files is no part of the answer: where the files of two plans with the same steps

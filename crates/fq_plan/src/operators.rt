@@ -47,8 +47,21 @@ impl<'a> Running<'a> {
         let number = stage.number;
         match &stage.operator {
             Operator::Rows(front) => Ok(Running::Rows(front)),
-            Operator::Join { source, on, how } => {
-                let joining = Joining::new(alloc, number, &joins[*source], on.as_slice(), *how)?;
+            Operator::Join {
+                source,
+                on,
+                how,
+                nulls_equal,
+            } => {
+                let right = &joins[*source];
+                let joining = Joining::new(
+                    alloc,
+                    number,
+                    right,
+                    on.as_slice(),
+                    *how,
+                    *nulls_equal,
+                )?;
                 Ok(Running::Join(joining))
             }
             Operator::GroupBy { keys, aggs } => {

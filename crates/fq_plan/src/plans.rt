@@ -25,7 +25,7 @@ pub struct Source {
 pub enum Version {
     /// The first.
     One,
-    /// The first, and texts that are read as null.
+    /// The first; texts that are read as null, semi and anti joins, and null keys that match.
     Two,
 }
 
@@ -39,6 +39,7 @@ pub enum Step {
         source: i64,
         on: Vec<String>,
         how: How,
+        nulls_equal: bool,
     },
     /// Aggregates of groups.
     GroupBy {

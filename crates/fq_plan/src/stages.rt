@@ -22,6 +22,7 @@ pub enum Operator {
         source: usize,
         on: Vec<String>,
         how: How,
+        nulls_equal: bool,
     },
     /// Aggregates of groups.
     GroupBy {

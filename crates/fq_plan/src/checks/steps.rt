@@ -111,12 +111,23 @@ fn check_step(
             let front = Front::new(alloc, steps, schema, number)?;
             Ok((Operator::Rows(front), after))
         }
-        Step::Join { source, on, how } => {
+        Step::Join {
+            source,
+            on,
+            how,
+            nulls_equal,
+        } => {
             let Some((source, right)) = source_at(joins, source) else {
                 return Err(StepFault::NoSuchSource);
             };
-            let after = join_schema(alloc, &schema, &right.schema, on.as_slice())?;
-            Ok((Operator::Join { source, on, how }, after))
+            let after = join_schema(alloc, &schema, &right.schema, on.as_slice(), how)?;
+            let operator = Operator::Join {
+                source,
+                on,
+                how,
+                nulls_equal,
+            };
+            Ok((operator, after))
         }
         Step::GroupBy { keys, aggs } => {
             let after = group_schema(alloc, &schema, keys.as_slice(), aggs.as_slice())?;

@@ -31,14 +31,15 @@ impl Joining {
         right: &Batch,
         on: &[String],
         how: How,
+        nulls_equal: bool,
     ) -> Result<Joining, Memory>
-        requires { (left : Fields) × IsOk (join_schema left right.now.fields (map string_bytes on.now)) }
-        ensures { IfOk result (λ j. (left : Fields) → IsOk (join_schema left right.now.fields (map string_bytes on.now)) →
-            HasJoined j (join_transform number how (record { fields = right.now.fields; rows = right.now.rows; on = map string_bytes on.now }) left) []) }
+        requires { (left : Fields) × IsOk (join_schema how left right.now.fields (map string_bytes on.now)) }
+        ensures { IfOk result (λ j. (left : Fields) → IsOk (join_schema how left right.now.fields (map string_bytes on.now)) →
+            HasJoined j (join_transform number how (record { fields = right.now.fields; rows = right.now.rows; on = map string_bytes on.now; nulls_equal = nulls_equal }) left) []) }
     {
         Ok(Joining {
             number,
-            table: JoinTable::build(alloc, right, on)?,
+            table: JoinTable::build(alloc, right, on, nulls_equal)?,
             how,
             room: MAX_JOINED_ROWS,
         })

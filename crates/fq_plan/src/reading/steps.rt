@@ -1,8 +1,10 @@
 // Steps.
-ghost use Rattle.std.specs.Prelude.{◌≡◌, IfOk, option_map};
+ghost use Rattle.std.specs.Prelude.{◌≡◌, IfOk, codes, option_map};
+ghost use Rattle.serde_json.specs.Find.{as_bool};
 ghost use Rattle.serde_json.specs.View.{view};
+ghost use Rattle.fq_plan.specs.Parts.{member};
 ghost use Rattle.fq_plan.specs.Plan.{PlanStep};
-ghost use Rattle.fq_plan.specs.Spelling.{step_of, join_of, group_of, roll_of, roll_with};
+ghost use Rattle.fq_plan.specs.Spelling.{step_of, join_of, join_with, group_of, roll_of, roll_with};
 ghost use Rattle.fq_plan.specs.View.{plan_step_of};
 
 use crate::plans::{Step, Version};
@@ -17,7 +19,7 @@ use std::alloc::Global;
 impl Spelled for Step {
     ghost Part = { PlanStep };
 
-    ghost spelled_by = { λ _. step_of };
+    ghost spelled_by = { step_of };
 
     ghost part_of = { plan_step_of };
 
@@ -47,13 +49,40 @@ impl Spelled for Step {
     }
 }
 
-// A join with an earlier source.
+// A join with an earlier source, in version 2 with whether nulls are equal, where that is given.
 fn read_join(alloc: Global, version: Version, value: &Value) -> Result<Option<Step>, Memory>
-    ensures { IfOk result (λ o. option_map plan_step_of o ≡ join_of (view value.now)) }
+    ensures { IfOk result (λ o. option_map plan_step_of o ≡ join_of version (view value.now)) }
 {
-    if !has_members(value, 3) {
-        return Ok(None);
+    if has_members(value, 3) {
+        return read_join_with(alloc, version, value, Some(false));
     }
+    match version {
+        Version::One => Ok(None),
+        Version::Two => {
+            if !has_members(value, 4) {
+                return Ok(None);
+            }
+            read_join_with(alloc, version, value, nulls_equal(value))
+        }
+    }
+}
+
+// Whether a null matches a null, where a join says so.
+fn nulls_equal(value: &Value) -> Option<bool>
+    ensures { result ≡ member (codes "nulls_equal") as_bool (view value.now) }
+{
+    value.get("nulls_equal")?.as_bool()
+}
+
+// A join with an earlier source, where nulls are equal or not.
+fn read_join_with(
+    alloc: Global,
+    version: Version,
+    value: &Value,
+    nulls_equal: Option<bool>,
+) -> Result<Option<Step>, Memory>
+    ensures { IfOk result (λ o. option_map plan_step_of o ≡ join_with version nulls_equal (view value.now)) }
+{
     let Some(source) = read_member(alloc, version, value, "source")? else {
         return Ok(None);
     };
@@ -63,7 +92,12 @@ fn read_join(alloc: Global, version: Version, value: &Value) -> Result<Option<St
     let Some(how) = read_member(alloc, version, value, "how")? else {
         return Ok(None);
     };
-    Ok(Some(Step::Join { source, on, how }))
+    Ok(nulls_equal.map(|nulls_equal| Step::Join {
+        source,
+        on,
+        how,
+        nulls_equal,
+    }))
 }
 
 // Aggregates of groups.

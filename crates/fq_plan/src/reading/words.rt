@@ -56,12 +56,12 @@ impl Spelled for Kind {
 impl Spelled for How {
     ghost Part = { HowData };
 
-    ghost spelled_by = { λ _. word hows };
+    ghost spelled_by = { λ version. word (hows version) };
 
     ghost part_of = { λ how. how };
 
-    fn read(_alloc: Global, _version: Version, value: &Value) -> Result<Option<How>, Memory> {
-        Ok(how(value))
+    fn read(_alloc: Global, version: Version, value: &Value) -> Result<Option<How>, Memory> {
+        Ok(how(version, value))
     }
 }
 
@@ -87,9 +87,25 @@ pub fn kind(value: &Value) -> Option<Kind>
     }
 }
 
-// What a join does with a row that has no match, by its word.
-fn how(value: &Value) -> Option<How>
-    ensures { result ≡ word hows (view value.now) }
+// What a left row of a join gives, by the word of a version.
+fn how(version: Version, value: &Value) -> Option<How>
+    ensures { result ≡ word (hows version) (view value.now) }
+{
+    match version {
+        Version::One => old_how(value),
+        Version::Two => match value.as_str()? {
+            "inner" => Some(How::Inner),
+            "left" => Some(How::Left),
+            "semi" => Some(How::Semi),
+            "anti" => Some(How::Anti),
+            _ => None,
+        },
+    }
+}
+
+// The same in the first version.
+fn old_how(value: &Value) -> Option<How>
+    ensures { result ≡ word (hows Version.One) (view value.now) }
 {
     match value.as_str()? {
         "inner" => Some(How::Inner),

@@ -38,6 +38,10 @@ pub returns-clause-joins : goal.returns-clause-joins
 unfolding plans_on_literals
 returns-clause-joins c = (refl, refl)
 
+pub returns-clause-new_joins : goal.returns-clause-new_joins
+unfolding plans_on_literals
+returns-clause-new_joins c = (refl, refl, refl, refl, refl, refl, refl, refl, refl, refl, refl)
+
 pub returns-clause-suffix : goal.returns-clause-suffix
 unfolding plans_on_literals
 returns-clause-suffix c = (refl, refl)

@@ -3,7 +3,7 @@ use Rattle.fq_column.specs.declared.cells.Cell.{Cell}
 use Rattle.fq_ops.specs.Grouping.{key_at}
 use Rattle.fq_ops.proofs.PairLemmas.{index-more}
 use Rattle.fq_ops.proofs.joins.index_rows.Goals as goal
-use Rattle.fq_ops.proofs.joins.index_rows.Goals.{then-not-has_null+in_ok-add_place, else-not-has_null}
+use Rattle.fq_ops.proofs.joins.index_rows.Goals.{then-may_match+in_ok-add_place, else-may_match}
 
 pub loop-row-preserved : goal.loop-row-preserved
 loop-row-preserved c =
@@ -12,17 +12,17 @@ loop-row-preserved c =
     let key : ℕ → List Cell = λ n. key_at on (slice_index_or rows n []) in
     let read = c.read.new.self in
     let own : read ≡ key c.loop-row.row = c.in_ok-read.ensures.read in
-    elim c.if-not-has_null.branch [
-      | then-not-has_null+in_ok-add_place w ↦ record {
+    elim c.if-may_match.branch [
+      | then-may_match+in_ok-add_place w ↦ record {
         size = c.in_ok-read.ensures.size;
         beside = ap (λ g. length g.items) w.groups-is ∙ w.in_ok-add_place.ensures.beside ∙ ap (λ s. length s.keys) (sym w.seen-is);
-        index = index-more key c.loop-row.row read c.loop-row.seen.keys _ c.loop-row.groups.items _ own c.loop-row.invariant.index
-            (inl (sym w.if-not-has_null.ensures, ap (λ s. s.keys) w.seen-is ∙ w.in_ok-add_place.ensures.seen, ap (λ g. g.items) w.groups-is ∙ w.in_ok-add_place.ensures.groups));
+        index = index-more c.args.nulls_equal key c.loop-row.row read c.loop-row.seen.keys _ c.loop-row.groups.items _ own c.loop-row.invariant.index
+            (inl (sym w.if-may_match.ensures, ap (λ s. s.keys) w.seen-is ∙ w.in_ok-add_place.ensures.seen, ap (λ g. g.items) w.groups-is ∙ w.in_ok-add_place.ensures.groups));
       }
-      | else-not-has_null w ↦ record {
+      | else-may_match w ↦ record {
         size = c.in_ok-read.ensures.size;
         beside = ap (λ g. length g.items) w.groups-is ∙ c.loop-row.invariant.beside ∙ ap (λ s. length s.keys) (sym w.seen-is);
-        index = index-more key c.loop-row.row read c.loop-row.seen.keys _ c.loop-row.groups.items _ own c.loop-row.invariant.index
-            (inr (sym w.if-not-has_null.ensures, ap (λ s. s.keys) w.seen-is, ap (λ g. g.items) w.groups-is));
+        index = index-more c.args.nulls_equal key c.loop-row.row read c.loop-row.seen.keys _ c.loop-row.groups.items _ own c.loop-row.invariant.index
+            (inr (sym w.if-may_match.ensures, ap (λ s. s.keys) w.seen-is, ap (λ g. g.items) w.groups-is));
       }
     ]

@@ -7,5 +7,5 @@ abbrev pub invariant-loop-row : goal.invariant-loop-row
 invariant-loop-row l = record {
   size : length l.key ≡ length l.on;
   beside : length l.groups.items ≡ length l.seen.keys;
-  index : IsIndex (λ n. key_at l.on (slice_index_or l.right.rows n [])) l.row l.seen.keys l.groups.items;
+  index : IsIndex l.nulls_equal (λ n. key_at l.on (slice_index_or l.right.rows n [])) l.row l.seen.keys l.groups.items;
 }

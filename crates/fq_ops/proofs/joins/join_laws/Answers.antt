@@ -4,10 +4,10 @@ use Rattle.fq_ops.proofs.RefusalLemmas.{join-some, join-known_right, join-distin
 use Rattle.fq_ops.proofs.joins.join_laws.Goals as goal
 
 pub returns-clause-keys : goal.returns-clause-keys
-returns-clause-keys c left right on ok = record { some = join-some left right on ok; columns = join-known_right left right on ok; distinct = join-distinct left right on ok }
+returns-clause-keys c how left right on ok = record { some = join-some how left right on ok; columns = join-known_right how left right on ok; distinct = join-distinct how left right on ok }
 
 pub returns-clause-fields : goal.returns-clause-fields
 returns-clause-fields c = join-output
 
 pub returns-clause-parts : goal.returns-clause-parts
-returns-clause-parts c how left right on rows room ls more = within-parts (joined left right on how rows) room ls more
+returns-clause-parts c how nulls_equal left right on rows room ls more = within-parts (joined left right on how nulls_equal rows) room ls more

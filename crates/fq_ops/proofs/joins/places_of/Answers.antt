@@ -5,13 +5,13 @@ use Rattle.fq_ops.proofs.PairLemmas.{group-found, group-absent, index-matches}
 use Rattle.fq_ops.proofs.joins.places_of.Goals as goal
 
 pub returns-in-Some : goal.returns-in-Some
-returns-in-Some c = λ key count h.
+returns-in-Some c = λ nulls_equal key count h.
     let k = c.args.key.now in
     c.as_slice.ensures ∙ c.index.ensures
     ∙ group-found key c.args.seen.now.keys c.args.groups.now.items _ h k c.in-Some.i _ (sym (c.in-Some.ensures.index ∙ ap (λ eq. position (eq k) c.args.seen.now.keys) (same_fn _ _ c.key_law.ensures)))
-    ∙ index-matches key count k
+    ∙ index-matches nulls_equal key count k
 
 pub returns-in-None : goal.returns-in-None
-returns-in-None c = λ key count h.
+returns-in-None c = λ nulls_equal key count h.
     let k = c.args.key.now in
-    sym (group-absent key c.args.seen.now.keys c.args.groups.now.items _ h k (sym (c.in-None.ensures.found ∙ ap (λ eq. list_any (eq k) c.args.seen.now.keys) (same_fn _ _ c.key_law.ensures)))) ∙ index-matches key count k
+    sym (group-absent key c.args.seen.now.keys c.args.groups.now.items _ h k (sym (c.in-None.ensures.found ∙ ap (λ eq. list_any (eq k) c.args.seen.now.keys) (same_fn _ _ c.key_law.ensures)))) ∙ index-matches nulls_equal key count k

@@ -10,7 +10,7 @@ use Rattle.fq_column.specs.Lists.{is_distinct}
 use Rattle.fq_column.specs.Refusal.{first_refusal, unless_refused}
 use Rattle.fq_column.specs.Schema.{schema_checks}
 use Rattle.fq_column.proofs.SchemaLemmas.{slice_get-at}
-use Rattle.fq_ops.specs.Join.{key_checks, renamed}
+use Rattle.fq_ops.specs.Join.{key_checks, renamed, taken}
 use Rattle.fq_ops.proofs.RefusalLemmas.{item-refused, item-passed, join-key_refused, join-columns_refused, join-keys_double, join-accepted}
 use Rattle.fq_ops.proofs.schemas.join_schema.Goals as goal
 
@@ -38,7 +38,7 @@ returns-in_err-check_key c =
     let exit = err_from_is_err_and c.from_residual.result c.from_residual.ensures.1 in
     let low = length-map c.args.on.now string_bytes in
     let at = slice_get-at on i (string_bytes name) (omega (arith, low)) (ap string_bytes c.name-item.is ∙ sym (get_or-map string_bytes c.args.on.now i name (string_bytes name) (omega arith))) in
-    rw (exit.1) (inl (sym (join-key_refused left right on (some c.args.on.now (sym c.is_empty.ensures ∙ c.if-is_empty.false)) exit.0
+    rw (exit.1) (inl (sym (join-key_refused c.args.how left right on (some c.args.on.now (sym c.is_empty.ensures ∙ c.if-is_empty.false)) exit.0
     (item-refused (key_checks left right) on i (string_bytes name) exit.0 at c.loop-name.invariant
     (ap (λ n. first_refusal (key_checks left right n)) (sym c.as_str.ensures.value) ∙ c.in_err-check_key.ensures.err ∙ ap Some (sym exit.2))))))
 
@@ -62,8 +62,8 @@ returns-in_err-schema c =
     let exit = err_from_is_err_and c.from_residual-in_err-schema.result c.from_residual-in_err-schema.ensures.1 in
     let low = length-map c.args.on.now string_bytes in
     let passed = ap (λ xs. first_refusal (flat_map (key_checks left right) xs)) (sym (take_all c.loop-name.name-index on (omega (arith, low)))) ∙ c.loop-name.invariant in
-    let built = c.in_ok-add_right.ensures.ok ∙ ap (λ fs. fs ++ renamed left on right) c.in_ok-fields.ensures.ok in
-    rw (exit.1) (inl (sym (join-columns_refused left right on (some c.args.on.now (sym c.is_empty.ensures ∙ c.if-is_empty.false)) passed (nonzero (length left) (omega (arith, c.copy_of.ensures.schema.some_column))) exit.0
+    let built = c.in_ok-add_taken.ensures.ok ∙ ap (λ fs. fs ++ renamed left on (taken c.args.how right)) c.in_ok-fields.ensures.ok in
+    rw (exit.1) (inl (sym (join-columns_refused c.args.how left right on (some c.args.on.now (sym c.is_empty.ensures ∙ c.if-is_empty.false)) passed (nonzero (length left) (omega (arith, c.copy_of.ensures.schema.some_column))) exit.0
     (ap (λ (fs : Fields). unless_refused (schema_checks (names_of fs)) fs) (sym built) ∙ sym c.into_schema.ensures ∙ c.in_err-schema.was ∙ ap Err (sym exit.2)))))
 
 pub returns-then-has_double : goal.returns-then-has_double
@@ -73,8 +73,8 @@ returns-then-has_double c =
     let on = map string_bytes c.args.on.now in
     let low = length-map c.args.on.now string_bytes in
     let passed = ap (λ xs. first_refusal (flat_map (key_checks left right) xs)) (sym (take_all c.loop-name.name-index on (omega (arith, low)))) ∙ c.loop-name.invariant in
-    let built = c.in_ok-add_right.ensures.ok ∙ ap (λ fs. fs ++ renamed left on right) c.in_ok-fields.ensures.ok in
-    inl (sym (join-keys_double left right on (some c.args.on.now (sym c.is_empty.ensures ∙ c.if-is_empty.false)) passed (nonzero (length left) (omega (arith, c.copy_of.ensures.schema.some_column))) c.in_ok-schema.schema
+    let built = c.in_ok-add_taken.ensures.ok ∙ ap (λ fs. fs ++ renamed left on (taken c.args.how right)) c.in_ok-fields.ensures.ok in
+    inl (sym (join-keys_double c.args.how left right on (some c.args.on.now (sym c.is_empty.ensures ∙ c.if-is_empty.false)) passed (nonzero (length left) (omega (arith, c.copy_of.ensures.schema.some_column))) c.in_ok-schema.schema
     (turned (is_distinct same_name on) (sym c.has_double.ensures ∙ c.if-has_double.true))
     (ap (λ (fs : Fields). unless_refused (schema_checks (names_of fs)) fs) (sym built) ∙ sym c.into_schema.ensures ∙ c.in_ok-schema.was)))
 
@@ -85,7 +85,7 @@ returns c =
     let on = map string_bytes c.args.on.now in
     let low = length-map c.args.on.now string_bytes in
     let passed = ap (λ xs. first_refusal (flat_map (key_checks left right) xs)) (sym (take_all c.loop-name.name-index on (omega (arith, low)))) ∙ c.loop-name.invariant in
-    let built = c.in_ok-add_right.ensures.ok ∙ ap (λ fs. fs ++ renamed left on right) c.in_ok-fields.ensures.ok in
-    inl (sym (join-accepted left right on (some c.args.on.now (sym c.is_empty.ensures ∙ c.if-is_empty.false)) passed (nonzero (length left) (omega (arith, c.copy_of.ensures.schema.some_column))) c.in_ok-schema.schema
+    let built = c.in_ok-add_taken.ensures.ok ∙ ap (λ fs. fs ++ renamed left on (taken c.args.how right)) c.in_ok-fields.ensures.ok in
+    inl (sym (join-accepted c.args.how left right on (some c.args.on.now (sym c.is_empty.ensures ∙ c.if-is_empty.false)) passed (nonzero (length left) (omega (arith, c.copy_of.ensures.schema.some_column))) c.in_ok-schema.schema
     (unturned (is_distinct same_name on) (sym c.has_double.ensures ∙ c.if-has_double.false))
     (ap (λ (fs : Fields). unless_refused (schema_checks (names_of fs)) fs) (sym built) ∙ sym c.into_schema.ensures ∙ c.in_ok-schema.was)))

@@ -20,7 +20,7 @@ invariant_of-result c =
     subst (λ fs. AreAt places on fs) c.schema.ensures (subst (λ xs. AreAt places (map string_bytes xs) c.schema.result.now) c.as_slice.ensures.value c.in_ok-places.ensures.at) in
     record {
       beside = c.in_ok-index_rows.ensures.beside;
-      index = subst (λ key. IsIndex key (length right.rows) c.index_rows.new.seen.keys c.index_rows.new.groups.items) (keys-named right.fields on places at right.rows c.as_slice-2.result.now c.as_slice-2.ensures.value) c.in_ok-index_rows.ensures.index;
+      index = subst (λ key. IsIndex c.args.nulls_equal key (length right.rows) c.index_rows.new.seen.keys c.index_rows.new.groups.items) (keys-named right.fields on places at right.rows c.as_slice-2.result.now c.as_slice-2.ensures.value) c.in_ok-index_rows.ensures.index;
       some = c.requires.some;
       frame = c.in_ok-index_rows.ensures.frame;
     }

@@ -13,7 +13,7 @@ use Rattle.fq_plan.proofs.operators.Running.start.Goals as goal
 pub new-requires : goal.new-requires
 new-requires c = let j = c.in-Join in (
   c.args.schema.now,
-  join-can c.args.joins.now c.args.stage.now.number c.args.schema.now c.requires.0 j.source (map string_bytes j.on.items) c.index-joins-source.result c.index-joins-source.is j.how
+  join-can c.args.joins.now c.args.stage.now.number c.args.schema.now c.requires.0 j.source (map string_bytes j.on.items) c.index-joins-source.result c.index-joins-source.is j.how j.nulls_equal
       (subst (λ (o : Operator). Turns (map (λ (f : Frame). f.fields) c.args.joins.now) c.args.stage.now.number c.args.schema.now o c.requires.0) j.is c.requires.1)
       (map string_bytes c.as_slice.result.now) (ap (map string_bytes) c.as_slice.ensures.value),
 )
@@ -24,7 +24,7 @@ returns-in-Rows c after t = let front = c.in-Rows.front in
 
 pub returns-in_ok-joining-in-Join : goal.returns-in_ok-joining-in-Join
 returns-in_ok-joining-in-Join c after t = let j = c.in-Join in
-    rw j.is (join-started c.args.joins.now c.args.stage.now.number c.args.schema.now after j.source (map string_bytes j.on.items) c.index-joins-source.result c.index-joins-source.is j.how
+    rw j.is (join-started c.args.joins.now c.args.stage.now.number c.args.schema.now after j.source (map string_bytes j.on.items) c.index-joins-source.result c.index-joins-source.is j.how j.nulls_equal
     (subst (λ (o : Operator). Turns (map (λ (f : Frame). f.fields) c.args.joins.now) c.args.stage.now.number c.args.schema.now o after) j.is t)
     (map string_bytes c.as_slice.result.now) (ap (map string_bytes) c.as_slice.ensures.value) c.in_ok-joining-in-Join.joining c.in_ok-joining-in-Join.ensures)
 

@@ -7,7 +7,7 @@ use Rattle.fq_plan.proofs.operators.joining.Joining.take.Goals as goal
 
 pub overflow_sub-self : goal.overflow_sub-self
 overflow_sub-self c = let j = c.args.self.now in
-    omega (arith, c.rows.ensures.rows, ap length c.in_ok-batch.ensures.rows, join-bound j.how c.args.batch.fields j.table.fields j.table.on j.table.rows j.room c.args.batch.rows)
+    omega (arith, c.rows.ensures.rows, ap length c.in_ok-batch.ensures.rows, join-bound j.how j.table.nulls_equal c.args.batch.fields j.table.fields j.table.on j.table.rows j.room c.args.batch.rows)
 
 fault-is : (c : Joined-fault) → c.match-fault.fault ≡ option_map (λ _. JoinRows c.args.self.now.number) c.in_ok-batch.field-0.fault
 fault-is c = elim c.match-fault.branch [
