@@ -2,9 +2,9 @@
 ghost use Rattle.std.specs.Prelude.{◌≡◌, ◌≤◌, ◌+◌, ℕ, List, [], ◌∷◌, ◌++◌, IfOk, OnOk, OnErr, All, Result, length};
 ghost use Rattle.std.specs.Vec.Iter.{into_iter_items, into_iter_len};
 ghost use Rattle.std.specs.Thread.{IsSync};
-ghost use Rattle.fq_lanes.specs.WorkerLanes.{worker_names, worker_view, worker_views, idle_worker, AreNewWorkers};
+ghost use Rattle.fq_lanes.specs.WorkerLanes.{worker_name, worker_names, worker_view, worker_views, idle_worker, AreNewWorkers};
 ghost use Rattle.fq_lanes.specs.FeedLane.{feed_names, feed_view, new_feed, told_of, tolds_of, AreNewFeeds};
-ghost use Rattle.fq_lanes.specs.Lane.{Name, put_items, put_name, taken_items, IsLane, SamePut, SameTake};
+ghost use Rattle.fq_lanes.specs.Lane.{Name, put_items, put_name, take_name, taken_items, IsLane, SamePut, SameTake};
 ghost use Rattle.fq_lanes.specs.Lists.{Each};
 ghost use Rattle.fq_lanes.specs.FeedThread.{Scanned, Began};
 ghost use Rattle.fq_lanes.specs.HubView.{WorkerView, AllReplied};
@@ -26,7 +26,7 @@ use crate::workers::Work;
 use std::alloc::Global;
 use std::snapshot::Snapshot;
 use std::sync::Wait;
-use std::thread::{Promise, Scope, Threads};
+use std::thread::{Promise, PromisedHandle, Scope, Threads};
 use std::vec::IntoIter;
 
 /// How many items a feed's thread may be ahead of the hub, beside the one in its hand.
@@ -78,6 +78,18 @@ impl<F: Feed> Promise<Put<FromFeed<F::Item>>> for FeedPromise<F> {
     ghost kept_by = { λ p r. SamePut p.put.value r × Scanned F.gives F.may_fail p.feed.value (put_items r) };
 }
 
+/// The thread of a worker.
+type WorkerHandle<W> = PromisedHandle<
+    (
+        Take<ToWorker<<W as Work>::Item>>,
+        Put<Result<<W as Work>::Out, Memory>>,
+    ),
+    WorkerPromise<W>,
+>;
+
+/// The thread of a feed.
+type FeedHandle<F> = PromisedHandle<Put<FromFeed<<F as Feed>::Item>>, FeedPromise<F>>;
+
 /// Opens the lanes of a worker: the hub's ends come last among `workers`, and the answer is the ends of its thread.
 fn open_worker<'s, X: Drop, O: Drop>(
     alloc: Global,
@@ -94,6 +106,68 @@ fn open_worker<'s, X: Drop, O: Drop>(
         Ok(()) => Ok((their_jobs, their_answers)),
         Err(_) => Err(Memory),
     }
+}
+
+/// Opens the lanes of a worker and starts its thread: the hub's ends come last among `workers`. `Memory` where a growth or the thread
+/// is refused; the workers are as before then.
+fn start_worker<'s, E, R: Threads + Wait + Sync, W: Work + Sync, G: Gate<W::Out> + Sync>(
+    scope: &Scope<'s, E>,
+    rt: &'s R,
+    alloc: Global,
+    waiter: Waiter<'s>,
+    number: u16,
+    work: &'s W,
+    gate: &'s G,
+    workers: &mut Vec<WorkerLanes<'s, W::Item, W::Out>>,
+) -> Result<WorkerHandle<W>, Memory>
+where
+    W::Item: Drop + Send + 's,
+    W::Out: Drop + Send + 's,
+    ensures started { IfOk result (λ child. (hub : WorkerLanes W.Item W.Out) × (workers.new.items ≡ workers.old.items ++ hub ∷ []) × (worker_view hub ≡ idle_worker)
+        × (child.promise.work.value ≡ work.now) × (worker_name hub ≡ (take_name child.promise.jobs.value, put_name child.promise.answers.value))) }
+    ensures refused { OnErr result (workers.new.items ≡ workers.old.items) }
+{
+    let (their_jobs, their_answers) = open_worker(alloc, waiter, workers)?;
+    let promise = WorkerPromise {
+        work: Snapshot::of(work),
+        jobs: Snapshot::of(&their_jobs),
+        answers: Snapshot::of(&their_answers),
+    };
+    let task = move || -> (Take<ToWorker<W::Item>>, Put<Result<W::Out, Memory>>)
+        requires { (taken_items their_jobs ≡ []) × (put_items their_answers ≡ []) }
+        ensures { SameTake their_jobs result.0 × SamePut their_answers result.1 × Replied (W.gives work.entry.now) (taken_items result.0) (put_items result.1) }
+    { run_worker(rt, waiter, number, work, gate, their_jobs, their_answers) };
+    match scope.spawn_with(promise, task) {
+        Ok(child) => Ok(child),
+        Err(refused) => {
+            drop(refused);
+            workers.pop();
+            Err(Memory)
+        }
+    }
+}
+
+/// Takes off the last worker, stops it and joins its thread.
+fn close_worker<R: Threads + Wait, W: Work>(
+    rt: &R,
+    workers: &mut Vec<WorkerLanes<'_, W::Item, W::Out>>,
+    child: WorkerHandle<W>,
+)
+where
+    W::Item: Drop,
+    W::Out: Drop,
+    requires { (names : List (Name × Name)) × (worker_names workers.old.items ≡ names ++ (take_name child.promise.jobs.value, put_name child.promise.answers.value) ∷ []) }
+    ensures names { (names : List (Name × Name)) → worker_names workers.old.items ≡ names ++ (take_name child.promise.jobs.value, put_name child.promise.answers.value) ∷ [] →
+        worker_names workers.new.items ≡ names }
+    ensures last { (hub : WorkerLanes W.Item W.Out) × (workers.old.items ≡ workers.new.items ++ hub ∷ []) × Replied (W.gives child.promise.work.value) (put_items hub.jobs) (taken_items hub.answers) }
+{
+    let Some(worker) = workers.pop() else {
+        unreachable!()
+    };
+    let (jobs, answers) = worker.stop(rt);
+    let (their_jobs, their_answers) = child.join(rt);
+    drop(rejoin(jobs, their_jobs));
+    drop(rejoin(their_answers, answers));
 }
 
 /// Starts the threads of the workers from a number on, runs the core, and joins them.
@@ -135,50 +209,25 @@ where
         return Ok(());
     }
     let waiter = parkers.of_worker(from);
-    let Ok((their_jobs, their_answers)) = open_worker(alloc, waiter, workers) else {
+    let Ok(child) = start_worker(scope, rt, alloc, waiter, from, work, gate, workers) else {
         drain_lanes(rt, lanes, RunFault::Memory);
         return Err(Memory);
     };
-    let promise = WorkerPromise {
-        work: Snapshot::of(work),
-        jobs: Snapshot::of(&their_jobs),
-        answers: Snapshot::of(&their_answers),
-    };
-    let task = move || -> (Take<ToWorker<W::Item>>, Put<Result<W::Out, Memory>>)
-        requires { (taken_items their_jobs ≡ []) × (put_items their_answers ≡ []) }
-        ensures { SameTake their_jobs result.0 × SamePut their_answers result.1 × Replied (W.gives work.entry.now) (taken_items result.0) (put_items result.1) }
-    { run_worker(rt, waiter, from, work, gate, their_jobs, their_answers) };
-    match scope.spawn_with(promise, task) {
-        Ok(child) => {
-            let outcome = start_workers_from(
-                scope,
-                rt,
-                alloc,
-                parkers,
-                work,
-                gate,
-                from + 1,
-                count,
-                lanes,
-                workers,
-                hub,
-            );
-            let Some(worker) = workers.pop() else {
-                unreachable!()
-            };
-            let (jobs, answers) = worker.stop(rt);
-            let (their_jobs, their_answers) = child.join(rt);
-            drop(rejoin(jobs, their_jobs));
-            drop(rejoin(their_answers, answers));
-            outcome
-        }
-        Err(refused) => {
-            drop(refused);
-            workers.pop();
-            drain_lanes(rt, lanes, RunFault::Memory);
-            Err(Memory)
-        }
-    }
+    let outcome = start_workers_from(
+        scope,
+        rt,
+        alloc,
+        parkers,
+        work,
+        gate,
+        from + 1,
+        count,
+        lanes,
+        workers,
+        hub,
+    );
+    close_worker(rt, workers, child);
+    outcome
 }
 
 /// Starts a thread for each worker, runs the core, and joins them.
@@ -261,6 +310,42 @@ fn close_feed<X: Drop>(lanes: &mut Vec<FeedLane<'_, X>>, put: Put<FromFeed<X>>)
     drop(rejoin(put, take));
 }
 
+/// Opens the lane of a feed and starts its thread: the hub's end comes last among `lanes`. `Memory` where a growth or the thread is
+/// refused; the lanes are as before then.
+fn start_feed<'s, E, R: Threads + Wait + Sync, F: Feed + Drop + Send + 's>(
+    scope: &Scope<'s, E>,
+    rt: &'s R,
+    alloc: Global,
+    waiter: Waiter<'s>,
+    feed: F,
+    lanes: &mut Vec<FeedLane<'s, F::Item>>,
+) -> Result<FeedHandle<F>, Memory>
+where
+    F::Item: Drop + Send + 's,
+    requires { F.is_open feed }
+    ensures started { IfOk result (λ child. (hub : FeedLane F.Item) × (lanes.new.items ≡ lanes.old.items ++ hub ∷ []) × (feed_view hub ≡ new_feed)
+        × (child.promise.feed.value ≡ feed) × IsLane child.promise.put.value hub.take) }
+    ensures refused { OnErr result (lanes.new.items ≡ lanes.old.items) }
+{
+    let put = open_feed(alloc, waiter, lanes)?;
+    let promise = FeedPromise {
+        feed: Snapshot::of(&feed),
+        put: Snapshot::of(&put),
+    };
+    let task = move || -> Put<FromFeed<F::Item>>
+        requires { F.is_open feed × (put_items put ≡ []) }
+        ensures { SamePut put result × Scanned F.gives F.may_fail feed (put_items result) }
+    { run_feed(rt, waiter, feed, put) };
+    match scope.spawn_with(promise, task) {
+        Ok(child) => Ok(child),
+        Err(refused) => {
+            drop(refused);
+            lanes.pop();
+            Err(Memory)
+        }
+    }
+}
+
 /// Starts a thread for each feed that is left, then the workers, runs the core, and joins them.
 pub(crate) fn start_feeds<
     's,
@@ -299,31 +384,13 @@ where
         return start_workers(scope, rt, alloc, parkers, work, gate, count, lanes, hub);
     };
     let waiter = parkers.of_feed(lanes.len());
-    let Ok(put) = open_feed(alloc, waiter, lanes) else {
+    let Ok(child) = start_feed(scope, rt, alloc, waiter, feed, lanes) else {
         drain_lanes(rt, lanes, RunFault::Memory);
         return Err(Memory);
     };
-    let promise = FeedPromise {
-        feed: Snapshot::of(&feed),
-        put: Snapshot::of(&put),
-    };
-    let task = move || -> Put<FromFeed<F::Item>>
-        requires { F.is_open feed × (put_items put ≡ []) }
-        ensures { SamePut put result × Scanned F.gives F.may_fail feed (put_items result) }
-    { run_feed(rt, waiter, feed, put) };
-    match scope.spawn_with(promise, task) {
-        Ok(child) => {
-            let outcome = start_feeds(
-                scope, rt, alloc, parkers, work, gate, count, feeds, lanes, hub,
-            );
-            close_feed(lanes, child.join(rt));
-            outcome
-        }
-        Err(refused) => {
-            drop(refused);
-            lanes.pop();
-            drain_lanes(rt, lanes, RunFault::Memory);
-            Err(Memory)
-        }
-    }
+    let outcome = start_feeds(
+        scope, rt, alloc, parkers, work, gate, count, feeds, lanes, hub,
+    );
+    close_feed(lanes, child.join(rt));
+    outcome
 }

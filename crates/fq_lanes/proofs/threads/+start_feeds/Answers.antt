@@ -1,11 +1,11 @@
-use Rattle.std.proofs.Common.{rules, ◌≡◌, [], ◌∷◌, All, sym, subst, ap, ◌∙◌, length}
-use Rattle.fq_lanes.specs.FeedLane.{AreNewFeeds, tolds_of, told_of}
+use Rattle.std.proofs.Common.{rules, ◌≡◌, [], ◌∷◌, ◌++◌, All, map, sym, subst, ap, ◌∙◌, length}
+use Rattle.fq_lanes.specs.FeedLane.{AreNewFeeds, feed_name, feed_names, tolds_of, told_of}
 use Rattle.std.proofs.lemmas.List.Elements.{All-tail}
 use Rattle.std.specs.Vec.Iter.{into_iter_items}
 use Rattle.fq_lanes.specs.Lane.{put_items}
 use Rattle.fq_lanes.specs.FeedThread.{Scanned, Began}
 use Rattle.fq_lanes.specs.Lists.{Each}
-use Rattle.std.proofs.lemmas.List.{append-nil, nil_from_length}
+use Rattle.std.proofs.lemmas.List.{append-nil, map-append, nil_from_length}
 use Rattle.fq_lanes.proofs.ThreadLemmas.{list_moves, new_feeds_push}
 use Rattle.std.proofs.lemmas.Result.{on_ok_weaker}
 use Rattle.fq_lanes.proofs.threads.+start_feeds.Goals as goal
@@ -28,16 +28,23 @@ start_feeds-outcome-requires-clause-open g t c κs within =
 
 pub start_feeds-outcome-requires-clause-lanes : goal.start_feeds-outcome-requires-clause-lanes
 start_feeds-outcome-requires-clause-lanes g t c κs within =
-    let opened = c.in-Ok.ensures.opened in
-    subst (λ l. AreNewFeeds l) (sym opened.1) (new_feeds_push c.args.lanes.now.items opened.0 c.requires.lanes opened.2)
+    let started = c.in-Ok.ensures.started in
+    subst (λ l. AreNewFeeds l) (sym started.1) (new_feeds_push c.args.lanes.now.items started.0 c.requires.lanes started.2)
 
-pub returns-in-Ok-spawn_with-clause-done : goal.returns-in-Ok-spawn_with-clause-done
-returns-in-Ok-spawn_with-clause-done g t c =
+pub close_feed-requires : goal.close_feed-requires
+close_feed-requires g t c =
+    let started = c.in-Ok.ensures.started in (
+      feed_names c.args.lanes.now.items,
+      c.start_feeds-outcome.ensures.lanes ∙ ap (map feed_name) started.1 ∙ map-append feed_name c.args.lanes.now.items (started.0 ∷ [])
+          ∙ ap (λ n. feed_names c.args.lanes.now.items ++ n ∷ []) (sym (c.join.ensures.0 ∙ started.4)),
+    )
+
+pub returns-clause-done : goal.returns-clause-done
+returns-clause-done g t c =
     let last = c.close_feed.ensures.last in
     let sent = put_items c.join.result in
     let taken = told_of last.0 in
-    let same : c.in-Ok-spawn_with.child.promise.feed.value ≡ c.in-Some.feed = ap (λ p. p.feed.value) c.in-Ok-spawn_with.ensures.ok ∙ c.of.ensures in
-    let began : Began g.F.Feed.gives g.F.Feed.may_fail c.in-Some.feed taken = (sent, subst (λ f. Scanned g.F.Feed.gives g.F.Feed.may_fail f sent) same c.join.ensures.1, last.2) in
+    let began : Began g.F.Feed.gives g.F.Feed.may_fail c.in-Some.feed taken = (sent, subst (λ f. Scanned g.F.Feed.gives g.F.Feed.may_fail f sent) c.in-Ok.ensures.started.3 c.join.ensures.1, last.2) in
     on_ok_weaker c.start_feeds-outcome.result
     (λ i. (
       taken ∷ i.0,
