@@ -2,8 +2,6 @@
 use Rattle.std.proofs.Common.{◌≡◌, ℕ, ◌≤◌, List, [], ◌∷◌, length, map, take, replicate, refl, ap, sym, ◌∙◌, arith, Some, Ok}
 use Rattle.std.proofs.lemmas.List.{length-take-le, length-map}
 use Rattle.fq_column.specs.declared.cells.Cell.{Cell}
-use Rattle.fq_column.specs.declared.columns.Values.{Values}
-use Rattle.fq_column.specs.Column.{cells_of}
 use Rattle.fq_column.specs.Frame.{Fields, Name, Row, value_named}
 use Rattle.fq_column.specs.Lists.{before_missing, zip_with}
 use Rattle.fq_column.specs.Refusal.{and_then}
@@ -15,7 +13,7 @@ use Rattle.fq_expr.specs.declared.operands.Outcome.{Outcome}
 use Rattle.fq_expr.specs.Expression.{Expression, column, unary, binary}
 use Rattle.fq_expr.specs.Kinds.{kind_of, unary_kind, binary_kind}
 use Rattle.fq_expr.specs.Operand.{kind_in_rows, AnyHasRows, cells_in_rows}
-use Rattle.fq_expr.specs.Outcome.{IsOutcome}
+use Rattle.fq_expr.specs.Outcome.{IsOutcome, IsUnaryOutcome, IsBinaryOutcome}
 use Rattle.fq_expr.specs.Value.{value_of, unary_value, binary_value}
 use Rattle.fq_expr.proofs.EvaluationLemmas.{length-cells_in_rows}
 use Rattle.fq_expr.proofs.PrefixLemmas.{before_missing-all, before_missing-constant, before_missing-one, before_missing-two, length-before_missing, take-take-le, map-take, cells_in_rows-take, AnyHasRows-le}
@@ -53,22 +51,17 @@ pub outcome-rows-le : (fields : Fields) (e : Expression) (rows : List Row) (u : 
 outcome-rows-le fields e rows u is = omega (arith, outcome-rows fields e rows u is, length-before_missing (map (value_of fields e) rows), length-map rows (value_of fields e))
 
 -- an operation on one part
-pub unary-outcome : (fields : Fields) (op : Unary) (e : Expression) (rows : List Row) (part : Outcome) (values : Values) (u : Outcome) → IsOutcome fields e rows part →
-    unary_kind op (kind_in_rows part.operand) ≡ Ok (cells_of values).kind → (cells_of values).cells ≡ before_missing (map (unary_value op) (cells_in_rows part.rows part.operand)) →
-    kind_in_rows u.operand ≡ (cells_of values).kind → AnyHasRows u.rows u.operand → cells_in_rows u.rows u.operand ≡ (cells_of values).cells → IsOutcome fields (unary op e) rows u
-unary-outcome fields op e rows part values u is k c uk ur uc = record {
-  kind = ap (λ r. and_then r (unary_kind op)) is.kind ∙ k ∙ ap Ok (sym uk);
-  has_rows = ur;
-  cells = uc ∙ c ∙ ap (λ l. before_missing (map (unary_value op) l)) is.cells ∙ before_missing-one (unary_value op) (value_of fields e) rows;
+pub unary-outcome : (fields : Fields) (op : Unary) (e : Expression) (rows : List Row) (part u : Outcome) → IsOutcome fields e rows part → IsUnaryOutcome op part u → IsOutcome fields (unary op e) rows u
+unary-outcome fields op e rows part u is made = record {
+  kind = ap (λ r. and_then r (unary_kind op)) is.kind ∙ made.kind;
+  has_rows = made.has_rows;
+  cells = made.cells ∙ ap (λ l. before_missing (map (unary_value op) l)) is.cells ∙ before_missing-one (unary_value op) (value_of fields e) rows;
 }
 
 -- an operation on two parts, the right one evaluated on the rows that the left one has
-pub binary-outcome : (fields : Fields) (op : Binary) (d e : Expression) (k : ℕ) (all : List Row) (left right : Outcome) (values : Values) (u : Outcome) → k ≤ length all →
-    IsOutcome fields d (take k all) left → IsOutcome fields e (take left.rows all) right →
-    binary_kind op (kind_in_rows left.operand) (kind_in_rows right.operand) ≡ Ok (cells_of values).kind →
-    (cells_of values).cells ≡ before_missing (zip_with (binary_value op) (cells_in_rows right.rows left.operand) (cells_in_rows right.rows right.operand)) →
-    kind_in_rows u.operand ≡ (cells_of values).kind → AnyHasRows u.rows u.operand → cells_in_rows u.rows u.operand ≡ (cells_of values).cells → IsOutcome fields (binary op d e) (take k all) u
-binary-outcome fields op d e k all left right values u h isl isr k' c uk ur uc =
+pub binary-outcome : (fields : Fields) (op : Binary) (d e : Expression) (k : ℕ) (all : List Row) (left right u : Outcome) → k ≤ length all →
+    IsOutcome fields d (take k all) left → IsOutcome fields e (take left.rows all) right → IsBinaryOutcome op left right u → IsOutcome fields (binary op d e) (take k all) u
+binary-outcome fields op d e k all left right u h isl isr made =
     let lk : left.rows ≤ k = omega (arith, outcome-rows-le fields d (take k all) left isl, length-take-le k all h) in
     let same : take left.rows all ≡ take left.rows (take k all) = sym (take-take-le left.rows k all lk) in
     let rl : right.rows ≤ left.rows = omega (arith, outcome-rows-le fields e (take left.rows all) right isr, length-take-le left.rows all (omega (arith, lk, h))) in
@@ -78,7 +71,7 @@ binary-outcome fields op d e k all left right values u h isl isr k' c uk ur uc =
     let rn : right.rows ≡ length (before_missing (map (value_of fields e) (take (length ls) (take k all)))) = sym (length-cells_in_rows right.rows right.operand isr.has_rows) ∙ ap length r_cells in
     let l_cells : cells_in_rows right.rows left.operand ≡ take (length (before_missing (map (value_of fields e) (take (length ls) (take k all))))) ls = cells_in_rows-take right.rows left.rows left.operand rl ∙ ap (take right.rows) isl.cells ∙ ap (λ n. take n ls) rn in
     record {
-      kind = ap (λ r. and_then r (λ a. and_then (kind_of fields e) (binary_kind op a))) isl.kind ∙ ap (λ r. and_then r (binary_kind op (kind_in_rows left.operand))) isr.kind ∙ k' ∙ ap Ok (sym uk);
-      has_rows = ur;
-      cells = uc ∙ c ∙ (λ i. before_missing (zip_with (binary_value op) (l_cells i) (r_cells i))) ∙ before_missing-two (binary_value op) (value_of fields d) (value_of fields e) (take k all);
+      kind = ap (λ r. and_then r (λ a. and_then (kind_of fields e) (binary_kind op a))) isl.kind ∙ ap (λ r. and_then r (binary_kind op (kind_in_rows left.operand))) isr.kind ∙ made.kind;
+      has_rows = made.has_rows;
+      cells = made.cells ∙ (λ i. before_missing (zip_with (binary_value op) (l_cells i) (r_cells i))) ∙ before_missing-two (binary_value op) (value_of fields d) (value_of fields e) (take k all);
     }

@@ -36,6 +36,11 @@ abbrev pub fields_after_all : Fields → List Step → Fields
 fields_after_all fields [] = fields
 fields_after_all fields (s ∷ steps) = fields_after_all (fields_after fields s) steps
 
+-- the columns after each of the steps
+abbrev pub fields_after_each : Fields → List Step → List Fields
+fields_after_each fields [] = []
+fields_after_each fields (s ∷ steps) = fields_after fields s ∷ fields_after_each (fields_after fields s) steps
+
 -- below, `overflow n i` is the fault of item i of step n
 module _ {F : Type 0} (overflow : ℕ → ℕ → F) where
   -- each row in turn; the first row where an item faults ends the stream

@@ -3,13 +3,13 @@ ghost use Rattle.std.specs.Prelude.{◌≡◌, ◌≤◌, map, take, length, IfO
 ghost use Rattle.fq_column.specs.Frame.{value_named};
 ghost use Rattle.fq_column.specs.Lists.{before_missing, first_missing};
 ghost use Rattle.fq_column.specs.Schema.{kind_named};
-ghost use Rattle.fq_expr.specs.Kinds.{kind_of};
+ghost use Rattle.fq_expr.specs.Kinds.{kind_of, unary_kind, binary_kind};
 ghost use Rattle.fq_expr.specs.Meaning.{expression_of};
 ghost use Rattle.fq_expr.specs.Operand.{kind_in_rows, AnyHasRows, cells_in_rows};
-ghost use Rattle.fq_expr.specs.Outcome.{IsOutcome};
+ghost use Rattle.fq_expr.specs.Outcome.{IsOutcome, IsUnaryOutcome, IsBinaryOutcome};
 ghost use Rattle.fq_expr.specs.Value.{value_of};
 
-use crate::expressions::Expr;
+use crate::expressions::{Binary, Expr, Unary};
 use crate::operands::{AnyOperand, Operand, Outcome, borrowed, nulls, owned};
 use crate::operators::{binary, unary};
 use fq_column::{Batch, Column, Memory};
@@ -67,17 +67,40 @@ impl Expr {
             }),
             Expr::One(op, part) => {
                 let part = part.evaluate(alloc, batch, rows)?;
-                let values = unary(alloc, *op, part.rows, &part.operand)?;
-                Ok(owned(values))
+                apply_one(alloc, *op, part)
             }
             Expr::Two(op, left, right) => {
                 let left = left.evaluate(alloc, batch, rows)?;
                 let right = right.evaluate(alloc, batch, left.rows)?;
-                let values = binary(alloc, *op, right.rows, &left.operand, &right.operand)?;
-                Ok(owned(values))
+                apply_two(alloc, *op, left, right)
             }
         }
     }
+}
+
+// An operation on the values of one expression.
+fn apply_one<'a>(alloc: Global, op: Unary, part: Outcome<'a>) -> Result<Outcome<'a>, Memory>
+    requires has_rows { AnyHasRows part.rows part.operand }
+    requires kind { IsOk (unary_kind op (kind_in_rows part.operand)) }
+    ensures { IfOk result (IsUnaryOutcome op part.entry) }
+{
+    Ok(owned(unary(alloc, op, part.rows, &part.operand)?))
+}
+
+// An operation on the values of two expressions, in the rows that the right one has.
+fn apply_two<'a>(
+    alloc: Global,
+    op: Binary,
+    left: Outcome<'a>,
+    right: Outcome<'a>,
+) -> Result<Outcome<'a>, Memory>
+    requires left_rows { AnyHasRows right.rows left.operand }
+    requires right_rows { AnyHasRows right.rows right.operand }
+    requires kind { IsOk (binary_kind op (kind_in_rows left.operand) (kind_in_rows right.operand)) }
+    ensures { IfOk result (IsBinaryOutcome op left.entry right.entry) }
+{
+    let values = binary(alloc, op, right.rows, &left.operand, &right.operand)?;
+    Ok(owned(values))
 }
 
 // The column of a name, with no copy.

@@ -2,13 +2,13 @@
 ghost use Rattle.std.specs.Prelude.{◌≡◌, ◌+◌, ◌≤◌, ◌==◌, length, map, vec_len, IfOk, IsOk};
 ghost use Rattle.fq_column.specs.Stream.{done};
 ghost use Rattle.fq_expr.specs.Front.{fault_at};
-ghost use Rattle.fq_expr.specs.Kinds.{steps_schema};
+ghost use Rattle.fq_expr.specs.Kinds.{step_schema, steps_schema};
 ghost use Rattle.fq_expr.specs.Meaning.{step_of};
-ghost use Rattle.fq_expr.specs.Steps.{apply_steps, fields_after_all};
+ghost use Rattle.fq_expr.specs.Steps.{apply_steps, fields_after, fields_after_all, fields_after_each};
 
 use crate::application::Stepped;
 use crate::steps::RowStep;
-use fq_column::{Batch, Memory, Schema};
+use fq_column::{Batch, Memory, Schema, StepFault};
 use std::alloc::Global;
 use std::marker::Model;
 
@@ -85,6 +85,26 @@ impl Front {
         &self.schema
     }
 
+    /// The steps, in order.
+    pub fn steps(&self) -> &[RowStep]
+        ensures { map step_of result.now ≡ self.now.steps }
+    {
+        self.steps.as_slice()
+    }
+
+    /// The columns after each step, in order. `Memory` where a growth is refused.
+    pub fn schemas(&self, alloc: Global) -> Result<Vec<Schema>, Memory>
+        ensures { IfOk result (λ schemas. schemas.items ≡ fields_after_each self.now.fields self.now.steps) }
+    {
+        let mut schemas = Vec::with_capacity(alloc, self.steps.len())?;
+        let mut last = self.schema.copy(alloc)?;
+        for i in 0..self.steps.len() {
+            last = schema_after(alloc, &self.steps[i], &last)?;
+            schemas.push(last.copy(alloc)?)?;
+        }
+        Ok(schemas)
+    }
+
     /// Whether there is no step.
     pub fn is_empty(&self) -> bool
         ensures { result ≡ (length self.now.steps == 0) }
@@ -118,5 +138,17 @@ impl Front {
             piece = Piece { batch, fault };
         }
         Ok(piece)
+    }
+}
+
+// The columns after a step that can be made on these.
+fn schema_after(alloc: Global, step: &RowStep, before: &Schema) -> Result<Schema, Memory>
+    requires { IsOk (step_schema before.now (step_of step.now)) }
+    ensures { IfOk result (λ after. after ≡ fields_after before.now (step_of step.now)) }
+{
+    match step.schema(alloc, before) {
+        Ok(after) => Ok(after),
+        Err(StepFault::Memory) => Err(Memory),
+        Err(_) => unreachable!(),
     }
 }

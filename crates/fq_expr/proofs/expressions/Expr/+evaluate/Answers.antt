@@ -1,20 +1,29 @@
-use Rattle.std.proofs.Common.{◌≤◌, ◌∙◌, ap, sym, subst, arith, map, length, take, refl, Some, Ok, string_bytes}
+use Rattle.std.proofs.Common.{◌≤◌, ◌∙◌, ℕ, List, ap, sym, subst, arith, map, length, take, refl, Some, Ok, Result, string_bytes}
+use Rattle.std.specs.Prelude.{IfOk}
 use Rattle.std.proofs.lemmas.List.{length-take-le}
+use Rattle.std.proofs.lemmas.Result.{IfOk-weaker}
+use Rattle.fq_column.specs.declared.faults.Memory.{Memory}
 use Rattle.fq_column.specs.declared.cells.Cell.TheVariants as cell
 use Rattle.fq_column.specs.Column.{nullable}
-use Rattle.fq_column.specs.Frame.{Name, value_named}
+use Rattle.fq_column.specs.Frame.{Fields, Name, Row, value_named}
 use Rattle.fq_column.specs.Schema.{kind_named}
 use Rattle.fq_expr.specs.declared.expressions.Expr.{Expr}
-use Rattle.fq_expr.specs.Expression.{null, whole, text, truth}
+use Rattle.fq_expr.specs.Expression.{Expression, null, whole, text, truth, unary, binary}
 use Rattle.fq_expr.specs.Meaning.{expression_of}
-use Rattle.fq_expr.specs.Outcome.{IsOutcome}
+use Rattle.fq_expr.specs.Outcome.{IsOutcome, IsUnaryOutcome, IsBinaryOutcome}
+use Rattle.fq_expr.specs.declared.operands.Outcome.{Outcome}
 use Rattle.fq_expr.proofs.EvaluationLemmas.{map-replicate}
 use Rattle.fq_expr.proofs.OutcomeLemmas.{constant-outcome, column-outcome, outcome-rows-le, unary-outcome, binary-outcome}
 use Rattle.fq_expr.proofs.PrefixLemmas.{AnyHasRows-le}
 use Rattle.fq_expr.proofs.expressions.Expr.+evaluate.Goals as goal
 
-pub binary-requires-clause-left_rows : goal.binary-requires-clause-left_rows
-binary-requires-clause-left_rows t c =
+-- an outcome on the first rows has no more of them
+no-more : (r : Result Outcome Memory) (fields : Fields) (e : Expression) (k : ℕ) (all : List Row) → k ≤ length all → IfOk r (IsOutcome fields e (take k all)) → IfOk r (λ (u : Outcome). u.rows ≤ k)
+no-more r fields e k all h is =
+    IfOk-weaker r (IsOutcome fields e (take k all)) (λ (u : Outcome). u.rows ≤ k) (λ u o. omega (arith, outcome-rows-le fields e (take k all) u o, length-take-le k all h)) is
+
+pub apply_two-requires-clause-left_rows : goal.apply_two-requires-clause-left_rows
+apply_two-requires-clause-left_rows t c =
     let le = outcome-rows-le c.args.batch.now.fields (expression_of c.deref-in-Two.result.now) (take c.args.rows c.args.batch.now.rows) c.in_ok-left-in-Two.left c.in_ok-left-in-Two.ensures.outcome in
     let below : c.in_ok-left-in-Two.left.rows ≤ length c.args.batch.now.rows = omega (arith, le, length-take-le c.args.rows c.args.batch.now.rows c.requires.rows) in
     AnyHasRows-le c.in_ok-right-in-Two.right.rows c.in_ok-left-in-Two.left.rows c.in_ok-left-in-Two.left.operand
@@ -47,25 +56,34 @@ pub returns-in-Truth-clause-outcome : goal.returns-in-Truth-clause-outcome
 returns-in-Truth-clause-outcome t c = rw c.in-Truth.is (constant-outcome c.args.batch.now.fields (truth c.in-Truth.truth) c.args.rows c.args.batch.now.rows _ (cell.Truth c.in-Truth.truth) c.requires.rows
     refl (λ row. refl) tt (map-replicate (nullable cell.Truth) c.args.rows (Some c.in-Truth.truth)))
 
-pub returns-in_ok-values-in-One-clause-outcome : goal.returns-in_ok-values-in-One-clause-outcome
-returns-in_ok-values-in-One-clause-outcome t c =
-    let P : Expr → Type 0 = λ x. IsOutcome c.args.batch.now.fields (expression_of x) (take c.args.rows c.args.batch.now.rows) c.in_ok-part-in-One.part in
-    rw c.in-One.is (unary-outcome c.args.batch.now.fields c.in-One.op (expression_of c.in-One.part.value) (take c.args.rows c.args.batch.now.rows) c.in_ok-part-in-One.part c.in_ok-values-in-One.values c.owned.result
-    (subst P c.deref.ensures c.in_ok-part-in-One.ensures.outcome) c.in_ok-values-in-One.ensures.kind c.in_ok-values-in-One.ensures.cells c.owned.ensures.kind c.owned.ensures.rows c.owned.ensures.cells)
+pub returns-in_ok-part-in-One-clause-outcome : goal.returns-in_ok-part-in-One-clause-outcome
+returns-in_ok-part-in-One-clause-outcome t c =
+    let rows = take c.args.rows c.args.batch.now.rows in
+    let part = c.in_ok-part-in-One.part in
+    let P : Expr → Type 0 = λ x. IsOutcome c.args.batch.now.fields (expression_of x) rows part in
+    let is : P c.in-One.part.value = subst P c.deref.ensures c.in_ok-part-in-One.ensures.outcome in
+    rw c.in-One.is (IfOk-weaker c.apply_one.result (IsUnaryOutcome c.in-One.op part) (IsOutcome c.args.batch.now.fields (unary c.in-One.op (expression_of c.in-One.part.value)) rows)
+    (λ u made. unary-outcome c.args.batch.now.fields c.in-One.op (expression_of c.in-One.part.value) rows part u is made) c.apply_one.ensures)
 
-pub returns-in_ok-values-in-Two-clause-outcome : goal.returns-in_ok-values-in-Two-clause-outcome
-returns-in_ok-values-in-Two-clause-outcome t c =
-    let P : Expr → Type 0 = λ x. IsOutcome c.args.batch.now.fields (expression_of x) (take c.args.rows c.args.batch.now.rows) c.in_ok-left-in-Two.left in
-    let Q : Expr → Type 0 = λ x. IsOutcome c.args.batch.now.fields (expression_of x) (take c.in_ok-left-in-Two.left.rows c.args.batch.now.rows) c.in_ok-right-in-Two.right in
-    rw c.in-Two.is (binary-outcome c.args.batch.now.fields c.in-Two.op (expression_of c.in-Two.left.value) (expression_of c.in-Two.right.value) c.args.rows c.args.batch.now.rows
-    c.in_ok-left-in-Two.left c.in_ok-right-in-Two.right c.in_ok-values-in-Two.values c.owned-in-Two.result c.requires.rows
-    (subst P c.deref-in-Two.ensures c.in_ok-left-in-Two.ensures.outcome) (subst Q c.deref-in-Two-2.ensures c.in_ok-right-in-Two.ensures.outcome)
-    c.in_ok-values-in-Two.ensures.kind c.in_ok-values-in-Two.ensures.cells c.owned-in-Two.ensures.kind c.owned-in-Two.ensures.rows c.owned-in-Two.ensures.cells)
+pub returns-in_ok-right-in-Two-clause-outcome : goal.returns-in_ok-right-in-Two-clause-outcome
+returns-in_ok-right-in-Two-clause-outcome t c =
+    let fields = c.args.batch.now.fields in
+    let all = c.args.batch.now.rows in
+    let left = c.in_ok-left-in-Two.left in
+    let right = c.in_ok-right-in-Two.right in
+    let d = expression_of c.in-Two.left.value in
+    let e = expression_of c.in-Two.right.value in
+    let P : Expr → Type 0 = λ x. IsOutcome fields (expression_of x) (take c.args.rows all) left in
+    let Q : Expr → Type 0 = λ x. IsOutcome fields (expression_of x) (take left.rows all) right in
+    let isl : P c.in-Two.left.value = subst P c.deref-in-Two.ensures c.in_ok-left-in-Two.ensures.outcome in
+    let isr : Q c.in-Two.right.value = subst Q c.deref-in-Two-2.ensures c.in_ok-right-in-Two.ensures.outcome in
+    rw c.in-Two.is (IfOk-weaker c.apply_two.result (IsBinaryOutcome c.in-Two.op left right) (IsOutcome fields (binary c.in-Two.op d e) (take c.args.rows all))
+    (λ u made. binary-outcome fields c.in-Two.op d e c.args.rows all left right u c.requires.rows isl isr made) c.apply_two.ensures)
 
-pub returns-in_ok-values-in-One-clause-rows : goal.returns-in_ok-values-in-One-clause-rows
-returns-in_ok-values-in-One-clause-rows t c =
-    omega (arith, outcome-rows-le c.args.batch.now.fields (expression_of c.args.self.now) (take c.args.rows c.args.batch.now.rows) c.owned.result (returns-in_ok-values-in-One-clause-outcome t c), length-take-le c.args.rows c.args.batch.now.rows c.requires.rows)
+pub returns-in_ok-part-in-One-clause-rows : goal.returns-in_ok-part-in-One-clause-rows
+returns-in_ok-part-in-One-clause-rows t c =
+    no-more c.apply_one.result c.args.batch.now.fields (expression_of c.args.self.now) c.args.rows c.args.batch.now.rows c.requires.rows (returns-in_ok-part-in-One-clause-outcome t c)
 
-pub returns-in_ok-values-in-Two-clause-rows : goal.returns-in_ok-values-in-Two-clause-rows
-returns-in_ok-values-in-Two-clause-rows t c =
-    omega (arith, outcome-rows-le c.args.batch.now.fields (expression_of c.args.self.now) (take c.args.rows c.args.batch.now.rows) c.owned-in-Two.result (returns-in_ok-values-in-Two-clause-outcome t c), length-take-le c.args.rows c.args.batch.now.rows c.requires.rows)
+pub returns-in_ok-right-in-Two-clause-rows : goal.returns-in_ok-right-in-Two-clause-rows
+returns-in_ok-right-in-Two-clause-rows t c =
+    no-more c.apply_two.result c.args.batch.now.fields (expression_of c.args.self.now) c.args.rows c.args.batch.now.rows c.requires.rows (returns-in_ok-right-in-Two-clause-outcome t c)
