@@ -11,6 +11,7 @@ pub mod Join
 pub mod Meaning
 pub mod Pairs
 pub mod Picks
+pub mod PlainJoin
 pub mod Roll
 pub mod Running
 pub mod Sums

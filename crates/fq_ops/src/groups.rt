@@ -36,6 +36,17 @@ pub enum GroupFault {
     Memory,
 }
 
+impl From<Memory> for GroupFault {
+    ghost use Rattle.std.specs.Prelude.{◌≡◌};
+    ghost use Rattle.fq_ops.specs.declared.groups.GroupFault.TheVariants as fault;
+
+    ghost from_gives = { λ _ e. e ≡ fault.Memory };
+
+    fn from(_refused: Memory) -> GroupFault {
+        GroupFault::Memory
+    }
+}
+
 /// A grouping over batches that come one after another, which are taken as one long list of rows.
 ///
 /// It keeps a running value for each aggregate and group, and one copy of each key. Groups are numbered in the order of
@@ -147,25 +158,27 @@ impl Grouper {
         ensures fault { IfErr result (λ fault. (keys : List Name) (outputs : List Output) (rows : List Row) →
             HasTakenRows self keys outputs rows → IsFaultOf (grouped self.fields keys outputs rows) fault) }
     {
-        let Grouper {
-            schema: _,
-            output,
-            places: _,
-            seen,
-            accumulators,
-            rows_taken: _,
-            failed,
-        } = self;
-        if failed {
+        self.groups(alloc)
+    }
+
+    // The batch of the groups, as `finish` answers it.
+    fn groups(&self, alloc: Global) -> Result<Batch, GroupFault>
+        ensures for_good { self.now.failed ≡ true → result ≡ Err GroupFault.Memory }
+        ensures fields { IfOk result (λ b. b.fields ≡ self.now.output) }
+        ensures rows { IfOk result (λ b. (keys : List Name) (outputs : List Output) (rows : List Row) →
+            HasTakenRows self.now keys outputs rows → grouped self.now.fields keys outputs rows ≡ Ok b.rows) }
+        ensures fault { IfErr result (λ fault. (keys : List Name) (outputs : List Output) (rows : List Row) →
+            HasTakenRows self.now keys outputs rows → IsFaultOf (grouped self.now.fields keys outputs rows) fault) }
+    {
+        if self.failed {
             return Err(GroupFault::Memory);
         }
-        let keys = seen.as_slice();
-        if let Some(item) = first_unfit(accumulators.as_slice(), keys.len()) {
+        let output = self.output.copy(alloc)?;
+        let keys = self.seen.as_slice();
+        if let Some(item) = first_unfit(self.accumulators.as_slice(), keys.len()) {
             return Err(GroupFault::SumRange { item: item as u16 });
         }
-        let Ok(columns) = gather(alloc, &output, keys, accumulators.as_slice()) else {
-            return Err(GroupFault::Memory);
-        };
+        let columns = gather(alloc, &self.output, keys, self.accumulators.as_slice())?;
         match Batch::from_columns(output, columns) {
             Ok(batch) => Ok(batch),
             Err(_) => unreachable!(),

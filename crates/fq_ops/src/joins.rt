@@ -1,14 +1,15 @@
 // Joins of left batches with one right batch.
-ghost use Rattle.std.specs.Prelude.{◌≡◌, ◌≤◌, ◌<◌, ◌+◌, ◌-◌, ◌++◌, ℕ, Bool, true, not, List, [], ◌∷◌, All, map, length, get_or, string_bytes, slice_index_or, Some, None, IfOk, IsOk, IsTrue, OnOk};
-ghost use Rattle.std.specs.List.{AllPass, position_or_len};
+ghost use Rattle.std.specs.Prelude.{◌≡◌, ◌≤◌, ◌<◌, ◌+◌, ◌-◌, ◌++◌, ℕ, Bool, true, false, not, List, [], ◌∷◌, All, map, length, get_or, string_bytes, slice_index_or, Some, None, IfOk, IsOk, OnOk};
+ghost use Rattle.std.specs.List.{position_or_len};
 ghost use Rattle.indexmap.specs.IndexSet.{insert_key};
-ghost use Rattle.fq_column.specs.Frame.{Fields, IsFrame, Name, Row, names_of, same_name, has_name};
-ghost use Rattle.fq_column.specs.Lists.{is_distinct, numbers};
+ghost use Rattle.fq_column.specs.Frame.{Fields, IsFrame, Name, Row, has_name};
+ghost use Rattle.fq_column.specs.Lists.{numbers};
 ghost use Rattle.fq_column.specs.declared.cells.Cell.{Cell as Value};
 ghost use Rattle.fq_column.specs.Stream.{then_stream, rename_fault};
 ghost use Rattle.fq_ops.specs.Group.{same_key};
 ghost use Rattle.fq_ops.specs.Grouping.{replaced, key_at};
 ghost use Rattle.fq_ops.specs.Join.{AreKeys, join_schema as judged_join, joined_fields, join_rows};
+ghost use Rattle.fq_ops.specs.PlainJoin.{plain_fields, plain_how, plain_join};
 ghost use Rattle.fq_ops.specs.Picks.{Pick, columns_of, picks_from};
 ghost use Rattle.fq_ops.specs.Pairs.{IsIndex, Pair, can_match, join_picks, left_value, matches_of, pairs_of, pairs_within, right_value};
 
@@ -27,13 +28,16 @@ use std::marker::Model;
 ///
 /// Where a join is not refused, its keys are what [`JoinTable::build`] asks, and its columns those of the definition.
 /// A join of left rows that come in two parts is the join of the first part and then, if no fault ends it, that of the
-/// second with the room that is left.
+/// second with the room that is left. An inner or a left join whose nulls are not equal is the plain one.
 pub fn join_laws()
     ensures keys { (how : How) (left right : Fields) (on : List Name) → IsOk (judged_join how left right on) → AreKeys right on }
     ensures fields { (how : How) (left right : Fields) (on : List Name) → IsOk (judged_join how left right on) → judged_join how left right on ≡ Ok (joined_fields how left right on) }
     ensures parts { (how : How) (nulls_equal : Bool) (left right : Fields) (on : List Name) (rows : List Row) (room : ℕ) (ls more : List Row) →
         let u = join_rows how nulls_equal left right on rows room ls in
         join_rows how nulls_equal left right on rows room (ls ++ more) ≡ then_stream u (rename_fault (λ p. length ls + p) (join_rows how nulls_equal left right on rows (room - length u.rows) more)) }
+    ensures plain_columns { (keeps_all : Bool) (left right : Fields) (on : List Name) → joined_fields (plain_how keeps_all) left right on ≡ plain_fields left right on }
+    ensures plain_rows { (keeps_all : Bool) (left right : Fields) (on : List Name) (rows : List Row) (room : ℕ) (ls : List Row) →
+        join_rows (plain_how keeps_all) false left right on rows room ls ≡ plain_join left right on keeps_all rows room ls }
 {}
 
 /// What a left row gives, by its matches among the right rows (Polars, `how` of `join`).

@@ -9,7 +9,7 @@ use Rattle.fq_ops.specs.Group.{grouped}
 use Rattle.fq_ops.specs.Picks.{columns_of}
 use Rattle.fq_ops.proofs.GroupedLemmas.{picks-count, picks-kinds, taken-fits, taken-not}
 use Rattle.fq_ops.proofs.PickLemmas.{frame-picked, no-fault}
-use Rattle.fq_ops.proofs.groups.Grouper.finish.Goals as goal
+use Rattle.fq_ops.proofs.groups.Grouper.groups.Goals as goal
 
 apart : (f : BatchFault) → Some f ≡ None → ⊥
 apart f e = cc
@@ -31,7 +31,7 @@ unreachable-requires c =
     let picks = group_picks places seen accumulators (kinds_of output) (length output) in
     let some : 0 < length picks = omega (arith, picks-count places seen accumulators output, c.self.invariant.width, c.self.invariant.some) in
     let none = no-fault (numbers (length seen)) output picks (picks-kinds places seen accumulators output) some in
-    apart c.in-Err.field-0.0 (sym c.in-Err.ensures.refused ∙ ap (batch_fault output) c.in-Ok.ensures ∙ none)
+    apart c.in-Err.field-0.0 (sym c.in-Err.ensures.refused ∙ (λ i. batch_fault (c.in_ok-output.ensures i) (c.in_ok-columns.ensures i)) ∙ none)
 
 pub returns-clause-rows : goal.returns-clause-rows
 returns-clause-rows c = λ names outputs rows h.
@@ -45,10 +45,10 @@ returns-clause-rows c = λ names outputs rows h.
     let some : 0 < length picks = omega (arith, picks-count places seen accumulators output, c.self.invariant.width, c.self.invariant.some) in
     let none : first_found (out_of_range_in accumulators) (numbers (length seen)) ≡ None =
     (λ i. first_found (out_of_range_in (sym c.as_slice.ensures.value i)) (numbers (length (sym c.as_slice-keys.ensures.keys i)))) ∙ sym c.in_default.ensures.found in
-    let columns : c.in-Ok.columns.items ≡ columns_of picks (numbers (length seen)) =
-    c.in-Ok.ensures ∙ (λ i. columns_of (group_picks (length output - length (c.as_slice-2.ensures.value i)) (c.as_slice-keys.ensures.keys i) (c.as_slice-2.ensures.value i) (kinds_of output) (length output)) (numbers (length (c.as_slice-keys.ensures.keys i)))) in
+    let columns : c.in_ok-columns.columns.items ≡ columns_of picks (numbers (length seen)) =
+    c.in_ok-columns.ensures ∙ (λ i. columns_of (group_picks (length output - length (c.as_slice-2.ensures.value i)) (c.as_slice-keys.ensures.keys i) (c.as_slice-2.ensures.value i) (kinds_of output) (length output)) (numbers (length (c.as_slice-keys.ensures.keys i)))) in
     ap (λ (g : Gathered). grouped g.fields names outputs rows) (sym c.self.view_is)
     ∙ taken-fits _ names outputs rows own none
-    ∙ ap Ok (sym (ap (λ (f : Frame). f.rows) c.in-Ok-from_columns.ensures.ok
-    ∙ ap (λ cs. (frame_of output cs).rows) columns
+    ∙ ap Ok (sym (ap (λ (f : Frame). f.rows) c.in-Ok.ensures.ok
+    ∙ (λ i. (frame_of (c.in_ok-output.ensures i) (columns i)).rows)
     ∙ frame-picked (numbers (length seen)) output picks some))
