@@ -5,6 +5,7 @@
 #![tactic(auto)]
 
 mod checks;
+mod explanations;
 mod faults;
 mod feeds;
 mod gathering;
@@ -24,6 +25,7 @@ mod waiting;
 mod workers;
 
 pub use checks::Checked;
+pub use explanations::Explanation;
 pub use faults::{CheckFault, Fault, Place, PlanFault};
 pub use fq_csv::ScanFault;
 pub use fq_expr::{Piece, RowFault};

@@ -91,25 +91,11 @@ pub fn kind(value: &Value) -> Option<Kind>
 fn how(version: Version, value: &Value) -> Option<How>
     ensures { result ≡ word (hows version) (view value.now) }
 {
-    match version {
-        Version::One => old_how(value),
-        Version::Two => match value.as_str()? {
-            "inner" => Some(How::Inner),
-            "left" => Some(How::Left),
-            "semi" => Some(How::Semi),
-            "anti" => Some(How::Anti),
-            _ => None,
-        },
-    }
-}
-
-// The same in the first version.
-fn old_how(value: &Value) -> Option<How>
-    ensures { result ≡ word (hows Version.One) (view value.now) }
-{
-    match value.as_str()? {
-        "inner" => Some(How::Inner),
-        "left" => Some(How::Left),
+    match (value.as_str()?, version) {
+        ("inner", _) => Some(How::Inner),
+        ("left", _) => Some(How::Left),
+        ("semi", Version::Two) => Some(How::Semi),
+        ("anti", Version::Two) => Some(How::Anti),
         _ => None,
     }
 }
