@@ -6,7 +6,7 @@ use Rattle.fq_plan.specs.declared.faults.Fault.{Fault}
 use Rattle.fq_plan.specs.declared.faults.Fault.TheVariants.{Inputs, Setting, Memory, Read, Write}
 use Rattle.fq_plan.specs.declared.faults.PlanFault.TheVariants as plan
 use Rattle.fq_program.specs.declared.failures.Failure.{Failure}
-use Rattle.fq_program.specs.declared.failures.Failure.TheVariants.{Words, PlanFile, Plan, Check, Run}
+use Rattle.fq_program.specs.declared.failures.Failure.TheVariants.{Words, InputTwice, PlanFile, Plan, Check, Run}
 use Rattle.fq_program.specs.declared.status.Status.{Status}
 use Rattle.fq_program.specs.declared.status.Status.TheVariants.{Done, BadWords, BadPlan, BadFile, BadDevice, NoMemory}
 
@@ -26,17 +26,18 @@ status_of_refusal refusal = elim refusal.code [ code.Memory ↦ NoMemory | _ ↦
 -- the status of a failure
 abbrev pub status_of : Failure → Status
 status_of Words = BadWords
+status_of InputTwice = BadWords
 status_of PlanFile = BadDevice
 status_of (Plan plan.Memory) = NoMemory
 status_of (Plan fault) = BadPlan
 status_of (Check refusal) = status_of_refusal refusal
 status_of (Run fault) = status_of_fault fault
 
--- a refusal of the check as a failure of the program: want of memory has one name, wherever it came
+-- a refusal of the check as a failure of the program: a failed allocation has one name, wherever it was
 abbrev pub refused : CheckFault → Failure
 refused refusal = elim refusal.code [ code.Memory ↦ Run Memory | _ ↦ Check refusal ]
 
--- the failures that no input explains: of a device, or for want of memory
+-- the failures that no input explains: of a device, or an allocation that failed
 abbrev pub IsOutside : Failure → Type 0
 IsOutside failure = (status_of failure ≡ BadDevice) ⊎ (status_of failure ≡ NoMemory)
 

@@ -1,4 +1,4 @@
--- The program without words: a plan's line, then one CSV file.
+-- The program without arguments: a plan's line, then one CSV file.
 use Rattle.std.specs.Prelude.{ℕ, ◌+◌, ◌==◌, not, List, [], ◌∷◌, length, drop, take_while, Result, Ok, Err, if◌then◌else◌}
 use Rattle.std.specs.Result.{result_map_both}
 use Rattle.fq_column.specs.Frame.{Frame}

@@ -5,7 +5,7 @@ ghost use Rattle.fq_program.specs.declared.failures.Failure.TheVariants as failu
 ghost use Rattle.fq_plan.specs.declared.faults.Fault.TheVariants as fault;
 
 use crate::status::Status;
-use fq_column::StepFault;
+use fq_column::{Memory, StepFault};
 use fq_plan::{CheckFault, Fault, PlanFault};
 use std::alloc::{AllocError, AllocFailed};
 use std::io::Write;
@@ -14,9 +14,12 @@ use thiserror::Error;
 /// Why the program ends without a frame. Its text is the line that the program prints, without the program's name.
 #[derive(Clone, Copy, Debug, PartialEq, Eq, Error)]
 pub enum Failure {
-    /// A word is not UTF-8.
-    #[error("a word is not UTF-8")]
+    /// An argument is not valid UTF-8.
+    #[error("an argument is not valid UTF-8")]
     Words,
+    /// The arguments name standard input more than once.
+    #[error("standard input (-) can be read only once")]
+    InputTwice,
     /// The plan file can't be opened or read.
     #[error("cannot read plan")]
     PlanFile,
@@ -32,7 +35,7 @@ pub enum Failure {
 }
 
 impl Failure {
-    /// Memory was refused, wherever that was.
+    /// An allocation failed, wherever that was.
     pub const MEMORY: Failure = Failure::Run(Fault::Memory);
 
     /// The exit status of the program that ends so.
@@ -40,7 +43,7 @@ impl Failure {
         ensures { result ≡ status_of self }
     {
         match self {
-            Failure::Words => Status::BadWords,
+            Failure::Words | Failure::InputTwice => Status::BadWords,
             Failure::PlanFile => Status::BadDevice,
             Failure::Plan(PlanFault::Memory) => Status::NoMemory,
             Failure::Plan(_) => Status::BadPlan,
@@ -104,6 +107,14 @@ impl From<Fault> for Failure {
 
     fn from(fault: Fault) -> Failure {
         Failure::Run(fault)
+    }
+}
+
+impl From<Memory> for Failure {
+    ghost from_gives = { λ _ e. e ≡ failure.Run fault.Memory };
+
+    fn from(_refused: Memory) -> Failure {
+        Failure::MEMORY
     }
 }
 

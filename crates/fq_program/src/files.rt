@@ -1,13 +1,21 @@
 // What opens files by name.
-use std::fs::{File, Files};
-use std::io::{ErrorKind, Read};
+use crate::progress::{Line, Watched};
+use std::fs::{File, Files, OpenFile};
+use std::io;
+use std::io::{ErrorKind, Read, Write};
+
+/// The name of standard input among the names of files.
+pub const STANDARD_INPUT: &str = "-";
+
+/// Goes back to the start of a terminal's line and clears it (ECMA-48, EL).
+pub const CLEAR_LINE: &[u8] = b"\r\x1b[K";
 
 /// Why a file is not opened.
 #[derive(Clone, Copy, Debug, PartialEq, Eq)]
 pub enum OpenFault {
     /// There is no such file, or it can't be opened.
     Failed,
-    /// Memory was refused.
+    /// An allocation failed.
     Memory,
 }
 
@@ -18,22 +26,103 @@ pub trait Opener {
 
     /// A reader of the file of this name, from its start.
     fn reader_of(&mut self, name: &str) -> Result<Self::Reader, OpenFault>;
+
+    /// From here on, the readers of the files that are opened show how far they are. An opener may have nowhere to show it.
+    fn show_progress(&mut self) {}
+
+    /// Takes away what the readers have shown.
+    fn clear_progress(&mut self) {}
 }
 
-/// The files of a system. The scanner of a file has a buffer of its own, so a file is read as it is.
+/// The files of a system, and its standard input under the name `-`, which can be opened once. The scanner of a file has a buffer of
+/// its own, so a file is read as it is.
 #[derive(Drop)]
-pub struct SystemFiles<'a, F: Files>(pub &'a F);
+pub struct SystemFiles<'a, F: Files, I: Read, L: Write> {
+    files: &'a F,
+    // none once it is opened
+    input: Option<I>,
+    log: L,
+    // the number of the next file that shows how far it is read, where files do
+    shown: Option<usize>,
+}
 
-impl<F: Files> Opener for SystemFiles<'_, F>
+impl<'a, F: Files, I: Read, L: Write> SystemFiles<'a, F, I, L> {
+    /// These files and this standard input. Progress is shown on `log`.
+    pub fn new(files: &'a F, input: I, log: L) -> SystemFiles<'a, F, I, L> {
+        SystemFiles {
+            files,
+            input: Some(input),
+            log,
+            shown: None,
+        }
+    }
+}
+
+impl<F: Files, I: Read, L: Write> SystemFiles<'_, F, I, L> {
+    fn open(&mut self, name: &str) -> Result<SystemReader<F::File, I>, OpenFault> {
+        if name == STANDARD_INPUT {
+            return Ok(SystemReader::Input(self.input.take().ok_or(OpenFault::Failed)?));
+        }
+        match File::open(self.files, name) {
+            Ok(file) => Ok(SystemReader::File(file)),
+            Err(error) if error.kind() == ErrorKind::OutOfMemory => Err(OpenFault::Memory),
+            Err(_) => Err(OpenFault::Failed),
+        }
+    }
+}
+
+impl<F: Files, I: Read + Drop + Send, L: Write + Copy + Drop + Send> Opener
+    for SystemFiles<'_, F, I, L>
 where
     F::File: Send,
 {
-    type Reader = F::File;
+    type Reader = Watched<SystemReader<F::File, I>, L>;
 
-    fn reader_of(&mut self, name: &str) -> Result<F::File, OpenFault> {
-        File::open(self.0, name).map_err(|error| match error.kind() {
-            ErrorKind::OutOfMemory => OpenFault::Memory,
-            _ => OpenFault::Failed,
-        })
+    fn reader_of(&mut self, name: &str) -> Result<Self::Reader, OpenFault> {
+        let reader = self.open(name)?;
+        let line = match self.shown {
+            Some(file) => {
+                self.shown = Some(file.saturating_add(1));
+                Some(Line::new(self.log, file, reader.size()))
+            }
+            None => None,
+        };
+        Ok(Watched::new(reader, line))
+    }
+
+    fn show_progress(&mut self) {
+        self.shown = Some(0);
+    }
+
+    fn clear_progress(&mut self) {
+        let _ = self.log.write_all(CLEAR_LINE);
+    }
+}
+
+/// An open file of a system, or its standard input.
+#[derive(Drop)]
+pub enum SystemReader<F: Read, I: Read> {
+    /// A file.
+    File(F),
+    /// Standard input.
+    Input(I),
+}
+
+impl<F: Read + OpenFile, I: Read> SystemReader<F, I> {
+    // The size in bytes, where the system knows it.
+    fn size(&self) -> Option<u64> {
+        match self {
+            SystemReader::File(file) => Some(file.metadata().ok()?.len()),
+            SystemReader::Input(_) => None,
+        }
+    }
+}
+
+impl<F: Read, I: Read> Read for SystemReader<F, I> {
+    fn read(&mut self, buffer: &mut [u8]) -> io::Result<usize> {
+        match self {
+            SystemReader::File(file) => file.read(buffer),
+            SystemReader::Input(input) => input.read(buffer),
+        }
     }
 }

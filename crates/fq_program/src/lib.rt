@@ -1,7 +1,7 @@
 //! What the program frameq does, over inputs, files and outputs that are given to it.
 //!
-//! [`one_input`] is the program without words: the first line of its input is the plan, in JSON, and the bytes after it are
-//! the one CSV file. [`with_words`] is the program with words, a plan file over data files that an [`Opener`] opens. Each
+//! [`one_input`] is the program without arguments: the first line of its input is the plan, in JSON, and the bytes after it are
+//! the one CSV file. [`with_words`] is the program with arguments, a plan file over data files that an [`Opener`] opens. Each
 //! answers the exit status, which is a [`Status`]; where there is no frame, a [`Failure`] says why in one line.
 #![tactic(auto)]
 
@@ -10,6 +10,7 @@ mod files;
 mod inputs;
 mod options;
 mod program;
+mod progress;
 mod status;
 mod words;
 

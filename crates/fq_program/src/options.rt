@@ -1,24 +1,29 @@
-// The words of the command line.
+// The arguments of the command line.
+use crate::files::STANDARD_INPUT;
 use crate::program::{BATCH_SIZE, WORKERS};
 use clap::{Arg, ArgAction, ArgMatches, Command, Error, value_parser};
 use std::alloc::{AllocError, Global};
 
-/// What the program's words ask for.
+/// The version of the program.
+const VERSION: &str = "0.1.0";
+
+/// What the program's arguments ask for.
 #[derive(Drop)]
 pub struct Options<'a>(ArgMatches<'a>);
 
 impl<'a> Options<'a> {
-    /// The options that words spell, the program's own name left out. Help that is asked for is an error here, as in `clap`.
+    /// The options that words spell, the program's own name left out. Help or a version that is asked for is an error here, as in
+    /// `clap`.
     pub fn of_words(alloc: Global, words: &'a [String]) -> Result<Options<'a>, Error> {
         Ok(Options(command(alloc)?.try_get_matches_from(words)?))
     }
 
-    /// The name of the plan file, which no words lack that are taken.
+    /// The name of the plan file. It is always present: `clap` requires it.
     pub fn plan(&self) -> Option<&'a str> {
         self.0.get_str("plan")
     }
 
-    /// The names of the data files, in order.
+    /// The names of the data files, in order. There is none only where the plan is to be explained.
     pub fn files(&self) -> &[&'a str] {
         self.0.get_strs("file").unwrap_or_default()
     }
@@ -32,6 +37,23 @@ impl<'a> Options<'a> {
     pub fn workers(&self) -> u16 {
         self.0.get_one("workers").unwrap_or(WORKERS)
     }
+
+    /// Whether the plan is to be explained, and not run.
+    pub fn explain(&self) -> bool {
+        self.0.get_flag("explain")
+    }
+
+    /// Whether to show how far the files are read.
+    pub fn progress(&self) -> bool {
+        self.0.get_flag("progress")
+    }
+
+    /// Whether more than one of the plan and the files is standard input.
+    pub fn reads_input_twice(&self) -> bool {
+        let plan = usize::from(self.plan() == Some(STANDARD_INPUT));
+        let files = self.files().iter().filter(|name| **name == STANDARD_INPUT);
+        plan + files.count() > 1
+    }
 }
 
 // The command line, and its help.
@@ -41,7 +63,7 @@ fn command<'a>(alloc: Global) -> Result<Command<'a>, AllocError> {
         .value_name("PLAN")
         .required(true)
         .action(ArgAction::Set)
-        .help("The plan: a file with one JSON object");
+        .help("The plan: a file with one JSON object, or - for standard input");
     let batch = Arg::new(alloc, "batch")
         .long("batch")
         .value_name("N")
@@ -54,19 +76,32 @@ fn command<'a>(alloc: Global) -> Result<Command<'a>, AllocError> {
         .value_parser(value_parser!(u16).range(1..=16))
         .default_value("2")
         .help("Threads that work on batches, from 1 to 16");
+    let explain = Arg::new(alloc, "explain")
+        .long("explain")
+        .action(ArgAction::SetTrue)
+        .help("Print what each step of the plan leaves and where it runs; no data is read");
+    let progress = Arg::new(alloc, "progress")
+        .long("progress")
+        .action(ArgAction::SetTrue)
+        .help("Show on standard error how far the files are read");
     let file = Arg::new(alloc, "file")
         .value_name("FILE")
-        .required(true)
+        .required_unless_present("explain")?
         .action(ArgAction::Append)
         .num_args(1..)
-        .help("The CSV files: those of the plan's first source, then those of the next, and so on");
+        .help(
+            "The CSV files, or - for standard input: those of the plan's first source, then those of the next, and so on",
+        );
     Command::new(alloc, "frameq")
         .no_binary_name(true)
+        .version(VERSION)
         .about("Runs a plan over CSV files, and prints one CSV frame")
         .after_help(AFTER_HELP)
         .arg(plan)?
         .arg(batch)?
         .arg(workers)?
+        .arg(explain)?
+        .arg(progress)?
         .arg(file)
 }
 
@@ -75,15 +110,15 @@ const AFTER_HELP: &str =
 steps. They run in order over the rows of the last source; a join names one of the sources before it. Neither
 --batch nor --workers changes what is printed.
 
-With no words at all, the first line of standard input is the plan, and the bytes after it are its one file.
+Without arguments, the first line of standard input is the plan, and the bytes after it are its one file.
 
 Exit status:
-  0  the frame is on standard output
-  2  wrong words, or not as many files as the plan wants
+  0  the frame, or the text asked for, is on standard output
+  2  arguments that are refused, or the wrong number of files
   3  the plan is refused
   4  a fault of a file's text, or of a step on its rows
-  5  a file can't be read, or a write failed
-  6  memory was refused
+  5  a file cannot be opened or read, or a write failed
+  6  out of memory
 Where it is not 0, a line on standard error says why.
 
 Example, with plan.json

@@ -1,4 +1,4 @@
-// The program without words.
+// The program without arguments.
 ghost use Rattle.std.specs.Prelude.{◌≡◌, ◌≢◌, ◌⊎◌, ℕ, List, Some, Ok, Err, IfErr, OnOk, MatchResult};
 ghost use Rattle.std.specs.Io.KnownBytes.{Appends, Keeps};
 ghost use Rattle.fq_column.specs.Frame.{Frame};
@@ -16,10 +16,10 @@ use std::io::{Read, Write};
 use std::sync::Wait;
 use std::thread::Threads;
 
-/// The rows of a batch, where no word says otherwise.
+/// The rows of a batch, where no argument says otherwise.
 pub const BATCH_SIZE: u32 = 1024;
 
-/// The number of workers, where no word says otherwise.
+/// The number of workers, where no argument says otherwise.
 pub const WORKERS: u16 = 2;
 
 /// Runs the plan of the input's first line over the CSV file of the bytes after it, and answers the exit status.

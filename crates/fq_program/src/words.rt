@@ -1,4 +1,4 @@
-// The program with words.
+// The program with arguments.
 ghost use Rattle.std.specs.Prelude.{◌≡◌, ◌≢◌, ◌<◌, ◌^◌, length, IfErr};
 ghost use Rattle.std.specs.Io.KnownBytes.{Keeps};
 ghost use Rattle.fq_plan.specs.declared.faults.Fault.TheVariants as fault;
@@ -12,18 +12,19 @@ use crate::options::Options;
 use crate::program::checked_plan;
 use crate::status::Status;
 use clap::error::ErrorKind;
-use fq_plan::Fault;
+use fq_plan::{Checked, Fault};
 use std::alloc::Global;
 use std::io::Write;
 use std::sync::Wait;
 use std::thread::Threads;
 
-/// Does what the words ask for, the program's own name left out, and answers the exit status.
+/// Does what the arguments ask for, the program's own name left out, and answers the exit status.
 ///
-/// `--plan PLAN [--batch N] [--workers N] FILE...` runs a plan over files and writes the frame to `out`; `--help` writes
-/// the help there. At any other status than 0 something on `err` says why, and nothing is written to `out`, but at 5, where
-/// the write itself has failed, an unknown part may be. A failed write to `err` changes no status. Words are judged first,
-/// then the plan file, the plan, the number of files; then the files are opened in order, and read as the run goes on.
+/// `--plan PLAN [--batch N] [--workers N] [--progress] FILE...` runs a plan over files and writes the frame to `out`. `--plan PLAN
+/// --explain` writes there what the plan's steps leave, and opens no file of data; `--help` and `--version` write a text. At any
+/// status but 0 a message on `err` says why, and nothing is written to `out`, except that at 5, where the write itself failed, an
+/// unknown part may be. A failed write to `err` changes no status. The arguments are judged first, then the plan file, the plan, and
+/// the number of files; then the files are opened in order, and read as the run goes on.
 pub fn with_words<T: Threads + Wait + Sync, O: Opener, W: Write, E: Write>(
     rt: &T,
     alloc: Global,
@@ -40,7 +41,7 @@ pub fn with_words<T: Threads + Wait + Sync, O: Opener, W: Write, E: Write>(
     }
 }
 
-// Says what is wrong with the words on `err`, or the help that they ask for on `out`.
+// Says what is wrong with the arguments on `err`, or writes the text that they ask for to `out`.
 fn answer_words<W: Write, E: Write>(answer: &clap::Error, out: &mut W, err: &mut E) -> u8
     ensures unwritten { result ≢ done → result ≢ bad_device → Keeps (W.contents out.old) (W.contents out.new) }
 {
@@ -57,7 +58,7 @@ fn answer_words<W: Write, E: Write>(answer: &clap::Error, out: &mut W, err: &mut
     )
 }
 
-// Writes the frame of the plan file over the data files.
+// Explains the plan of the plan file, or runs it over the data files.
 fn run_options<T: Threads + Wait + Sync, O: Opener, W: Write>(
     rt: &T,
     alloc: Global,
@@ -67,10 +68,45 @@ fn run_options<T: Threads + Wait + Sync, O: Opener, W: Write>(
 ) -> Result<(), Failure>
     ensures unwritten { IfErr result (λ f. f ≢ failure.Run fault.Write → Keeps (W.contents out.old) (W.contents out.new)) }
 {
+    if options.reads_input_twice() {
+        return Err(Failure::InputTwice);
+    }
     let name = options.plan().ok_or(Failure::PlanFile)?;
     let reader = open(files, name, Failure::PlanFile)?;
     let text = read_whole(alloc, reader, Failure::PlanFile)?;
     let plan = checked_plan(alloc, text.as_slice())?;
+    if options.explain() {
+        return write_explanation(alloc, &plan, out);
+    }
+    if options.progress() {
+        files.show_progress();
+    }
+    let answer = run_plan(rt, alloc, &plan, options, files, out);
+    if options.progress() {
+        files.clear_progress();
+    }
+    answer
+}
+
+// Writes what the steps of the plan leave.
+fn write_explanation<W: Write>(alloc: Global, plan: &Checked, out: &mut W) -> Result<(), Failure>
+    ensures unwritten { IfErr result (λ f. f ≢ failure.Run fault.Write → Keeps (W.contents out.old) (W.contents out.new)) }
+{
+    let explanation = plan.explain(alloc)?;
+    write!(out, "{explanation}").map_err(|_| Failure::Run(Fault::Write))
+}
+
+// Writes the frame of the plan over the data files.
+fn run_plan<T: Threads + Wait + Sync, O: Opener, W: Write>(
+    rt: &T,
+    alloc: Global,
+    plan: &Checked,
+    options: &Options<'_>,
+    files: &mut O,
+    out: &mut W,
+) -> Result<(), Failure>
+    ensures unwritten { IfErr result (λ f. f ≢ failure.Run fault.Write → Keeps (W.contents out.old) (W.contents out.new)) }
+{
     let (names, wanted) = (options.files(), plan.inputs());
     let got = names.len();
     if got != usize::from(wanted) {

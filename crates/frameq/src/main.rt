@@ -1,6 +1,6 @@
 //! frameq: a plan over CSV files.
 //!
-//! With words, a plan file runs over data files: see `frameq --help`. Without words, the first line of standard input is
+//! With arguments, a plan file runs over data files: see `frameq --help`. Without arguments, the first line of standard input is
 //! the plan, in JSON, and the bytes after it are the one CSV file. The frame goes to standard output, a line on standard
 //! error says why there is none, and the exit status says how the run ended. What is done stands in `fq_program`; here
 //! it meets the system.
@@ -17,11 +17,14 @@ fn main(rt: HostRuntime) -> ExitCode {
     ExitCode::from(match words_of(&rt) {
         Err(failure) => report(Err(failure), &mut err),
         Ok(words) if words.is_empty() => one_input(&rt, alloc, rt.stdin(), &mut out, &mut err),
-        Ok(words) => with_words(&rt, alloc, words, &mut SystemFiles(&rt), &mut out, &mut err),
+        Ok(words) => {
+            let mut files = SystemFiles::new(&rt, rt.stdin(), rt.stderr());
+            with_words(&rt, alloc, words, &mut files, &mut out, &mut err)
+        }
     })
 }
 
-// The program's words, its own name left out.
+// The program's arguments, its own name left out.
 fn words_of(rt: &(impl env::Env + AllocGlobal)) -> Result<Vec<String>, Failure> {
     match env::args(rt) {
         Ok(words) => Ok(words.skip(1).collect(rt.alloc())?),
