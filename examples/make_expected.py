@@ -1,5 +1,5 @@
 #!/usr/bin/env python3
-"""Computes what the three longer examples have to print, with SQLite and with plain Python, and never with frameq.
+"""Computes the expected outputs of the three longer examples with SQLite and plain Python, never with frameq.
 
     examples/make_expected.py
 
