@@ -1,11 +1,13 @@
 #!/usr/bin/env python3
 """Times frameq on whole plans beside the other programs on PATH that do the same work.
 
-    bench/program.py [--rows N] [--runs N] [--task NAME]... [--program PATH] [--beside PATH]
+    bench/program.py [--rows N] [--runs N] [--task NAME]... [--program PATH] [--beside PATH] [--save FILE]
+    bench/program.py --draw FILE
 
 Inputs are made first, the same at each call. In each round every program runs once on each task, one after another; the
 first round is not timed, and there the answers are compared, as sets of rows. Peers: another frameq (--beside), mawk, Miller,
-SQLite, pandas, and R's data.table, where they are installed. Under `taskset -c 0` all run on one core.
+SQLite, pandas, and R's data.table, where they are installed. Under `taskset -c 0` all run on one core. The figures can be saved as JSON
+and are then drawn beside it, as speed.svg and workers.svg; --draw draws saved figures again and runs nothing.
 """
 import argparse
 import csv
@@ -21,9 +23,10 @@ import time
 from dataclasses import dataclass
 from typing import Callable, Dict, List, Optional
 
+import pictures
+
 ROOT = os.path.dirname(os.path.dirname(os.path.abspath(__file__)))
 WORKERS = (1, 2, 4)
-DEFAULT = "frameq, 2 workers"
 REGIONS = 1_000
 PRODUCTS = 200_000
 SHOPS = 100
@@ -465,15 +468,26 @@ def timed_rounds(key, task, programs, folder, runs):
     return measures
 
 
-def print_table(measures):
-    best = {name: min(all_runs, key=lambda one: one.seconds) for name, all_runs in measures.items()}
-    print(f"  {'':22} {'best s':>8} {'user s':>8} {'system s':>8} {'median s':>9} {'MB':>7}   best, beside {DEFAULT}")
-    for name, all_runs in measures.items():
-        median = statistics.median(one.seconds for one in all_runs)
-        megabytes = max(one.megabytes for one in all_runs)
-        one = best[name]
-        print(f"  {name:22} {one.seconds:8.3f} {one.user:8.3f} {one.system:8.3f} {median:9.3f} {megabytes:7.0f}   "
-              f"{one.seconds / best[DEFAULT].seconds:.2f}")
+def figures_of(programs, measures):
+    """What the runs of each program on a task come to. `seconds`, `user` and `system` are those of the best run."""
+    figures = []
+    for program in programs:
+        runs = measures[program.name]
+        best = min(runs, key=lambda one: one.seconds)
+        figures.append({
+            "name": program.name, "version": program.version, "seconds": round(best.seconds, 3), "user": round(best.user, 3),
+            "system": round(best.system, 3), "median": round(statistics.median(one.seconds for one in runs), 3),
+            "megabytes": round(max(one.megabytes for one in runs)),
+        })
+    return figures
+
+
+def print_table(figures):
+    beside = next(one["seconds"] for one in figures if one["name"] == pictures.DEFAULT)
+    print(f"  {'':22} {'best s':>8} {'user s':>8} {'system s':>8} {'median s':>9} {'MB':>7}   best, beside {pictures.DEFAULT}")
+    for one in figures:
+        print(f"  {one['name']:22} {one['seconds']:8.3f} {one['user']:8.3f} {one['system']:8.3f} {one['median']:9.3f} "
+              f"{one['megabytes']:7}   {one['seconds'] / beside:.2f}")
 
 
 def binary(given: Optional[str]):
@@ -491,16 +505,23 @@ def arguments():
     parser.add_argument("--task", action="append", choices=TASKS, help="a task; may be given again [all]")
     parser.add_argument("--program", help="the frameq to time [the one that ./frameq builds]")
     parser.add_argument("--beside", help="another frameq to time beside it")
+    parser.add_argument("--save", metavar="FILE", help="save the figures as JSON, and draw them as speed.svg and workers.svg in its folder")
+    parser.add_argument("--draw", metavar="FILE", help="only draw figures that were saved")
     return parser.parse_args()
 
 
 def main():
     given = arguments()
+    if given.draw:
+        pictures.draw(given.draw)
+        return
     own = frameq(binary(given.program))
     if given.beside:
         own += frameq(os.path.abspath(given.beside), "other")
     peers = [peer for peer in (mawk(), miller(), sqlite(), pandas(), data_table()) if peer]
-    print(f"{len(os.sched_getaffinity(0))} cores; frameq {own[0].version}; " + "; ".join(f"{peer.name} {peer.version}" for peer in peers))
+    cores = len(os.sched_getaffinity(0))
+    tables = []
+    print(f"{cores} cores; frameq {own[0].version}; " + "; ".join(f"{peer.name} {peer.version}" for peer in peers))
     with tempfile.TemporaryDirectory() as folder:
         keys = given.task or list(TASKS)
         make_inputs(folder, given.rows, {file for key in keys for file in TASKS[key].files})
@@ -513,7 +534,13 @@ def main():
             rows = compare_answers(key, task, programs, folder)
             size = sum(os.path.getsize(os.path.join(folder, file)) for file in task.files)
             print(f"\n{task.name}: {size / 1e6:.1f} MB, {rows} rows out, all answers alike", flush=True)
-            print_table(timed_rounds(key, task, programs, folder, given.runs))
+            figures = figures_of(programs, timed_rounds(key, task, programs, folder, given.runs))
+            print_table(figures)
+            tables.append({"task": task.name, "programs": figures})
+    if given.save:
+        note = f"{given.rows:,} rows ({given.rows // 6:,} with 12 columns); best of {given.runs} runs, interleaved; cores: {cores}"
+        pictures.save({"note": note, "tables": tables}, given.save)
+        pictures.draw(given.save)
 
 
 if __name__ == "__main__":
