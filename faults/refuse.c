@@ -14,7 +14,7 @@
    Where a call is refused, a byte goes to the descriptor REFUSE_TELL. Needs no header. */
 
 #define RTLD_NEXT ((void *)-1L)
-enum { EINTR = 4, EIO = 5, EAGAIN = 11, EMFILE = 24, READ = 0, WRITE = 1, OPENAT = 257, HERE = -100 };
+enum { EINTR = 4, EIO = 5, EAGAIN = 11, ENOMEM = 12, EMFILE = 24, READ = 0, WRITE = 1, OPENAT = 257, HERE = -100 };
 
 typedef unsigned long size_t;
 
@@ -56,16 +56,20 @@ static long fails(int error) {
     return -1;
 }
 
+static int is_out_of_memory(void) {
+    return is_refused("memory") && fails(ENOMEM);
+}
+
 void *malloc(size_t size) {
-    return is_refused("memory") ? 0 : __libc_malloc(size);
+    return is_out_of_memory() ? 0 : __libc_malloc(size);
 }
 
 void *calloc(size_t count, size_t size) {
-    return is_refused("memory") ? 0 : __libc_calloc(count, size);
+    return is_out_of_memory() ? 0 : __libc_calloc(count, size);
 }
 
 void *realloc(void *old, size_t size) {
-    return is_refused("memory") ? 0 : __libc_realloc(old, size);
+    return is_out_of_memory() ? 0 : __libc_realloc(old, size);
 }
 
 long read(int file, void *buffer, size_t size) {
