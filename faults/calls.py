@@ -42,9 +42,9 @@ def build_calls(room):
     copy_crates(room)
     pipe, program = f"{room}/pipe", f"{room}/calls"
     os.mkfifo(pipe)
-    words = ["rt", "try", "--fail-alloc", str(FAILED_ALLOCATION), "--", "hold", pipe]
+    command = ["rt", "try", "--fail-alloc", str(FAILED_ALLOCATION), "--", "hold", pipe]
     with open(f"{room}/said", "w+b") as said:
-        tried = subprocess.Popen(words, cwd=f"{room}/crates/faults", stdin=subprocess.DEVNULL, stdout=said, stderr=said,
+        tried = subprocess.Popen(command, cwd=f"{room}/crates/faults", stdin=subprocess.DEVNULL, stdout=said, stderr=said,
                                  env={**os.environ, "TMPDIR": room})
         held, began = None, time.monotonic()
         while held is None and tried.poll() is None and time.monotonic() - began < LONGEST_BUILD:

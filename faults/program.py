@@ -170,8 +170,8 @@ def build_library(count, room):
     """The library that refuses calls, or nothing where it is not compiled."""
     library = f"{room}/refuse.so"
     compiler = [f"{KIT}/toolchain/bin/clang", "-fuse-ld=lld"] if os.path.exists(f"{KIT}/toolchain/bin/clang") else ["cc"]
-    words = [*compiler, "-shared", "-fPIC", "-O2", "-nostdlib", "-ffreestanding", "-fno-builtin", "-o", library, f"{HERE}/refuse.c"]
-    made = subprocess.run(words, stdout=subprocess.PIPE, stderr=subprocess.STDOUT)
+    command = [*compiler, "-shared", "-fPIC", "-O2", "-nostdlib", "-ffreestanding", "-fno-builtin", "-o", library, f"{HERE}/refuse.c"]
+    made = subprocess.run(command, stdout=subprocess.PIPE, stderr=subprocess.STDOUT)
     if made.returncode:
         count.add("program", "not built", f"refuse.c is not compiled:\n{made.stdout.decode(errors='replace')}")
         return None

@@ -102,7 +102,7 @@ def devices(count, program, rows):
 
 
 def open_files(count, program, rows):
-    """Descriptors for fewer files than a run opens: four are what it takes to start."""
+    """Fewer descriptors than a run opens files; it takes four to start."""
     for name, arguments, own in rows:
         for most in range(4, 9):
             answer = program.run(arguments, under=limit("nofile", most))
@@ -115,8 +115,8 @@ def early_reader(count, program, rows):
         ran = subprocess.Popen([program.path, *arguments], stdin=subprocess.DEVNULL, stdout=subprocess.PIPE, stderr=subprocess.PIPE)
         ran.stdout.read(5)
         ran.stdout.close()
-        said = ran.stderr.read().decode()
-        answer = Answer(ran.wait(LONGEST_RUN), "", said)
+        _, said = ran.communicate(timeout=LONGEST_RUN)
+        answer = Answer(ran.returncode, "", said.decode())
         check(count, "reader that ends", name, answer, lambda it: it == Answer(5, "", WRITE_LINE))
 
 
