@@ -70,6 +70,9 @@ ROWS = [
         fault(4, "file 0, row 1, column 0: bad cell"), None),
 ]
 
+# Arguments that run no plan, after the status that they give.
+ARGUMENTS = [(0, "--help"), (2, "--nope"), (2, "--plan"), (2, "--plan", "p", "--workers", "17", "a"), (2, "--plan", "p", "--batch", "x", "a")]
+
 
 class Program:
     """The built program, and a folder with the plans and files of its rows."""
@@ -159,11 +162,10 @@ def try_call(count, kind, name, run, own, library, sort, number):
     return is_met
 
 
-def try_sort(count, program, library, row, sort):
+def try_sort(count, name, run, own, library, sort):
     """Refuses the first call of a sort, the second and so on, until a run meets none."""
-    run = functools.partial(program.run_row, row)
-    if all(try_call(count, f"program, {sort}", row.name, run, row.answer, library, sort, it) for it in range(1, MOST_CALLS)):
-        count.add(f"program, {sort}", "without end", f"{row.name}: there is always one more call")
+    if all(try_call(count, f"program, {sort}", name, run, own, library, sort, it) for it in range(1, MOST_CALLS)):
+        count.add(f"program, {sort}", "without end", f"{name}: there is always one more call")
 
 
 def build_library(count, room):
@@ -179,7 +181,14 @@ def build_library(count, room):
 
 
 def try_program(count, pool, program, library):
-    together(((try_sort, count, program, library, row, sort) for row in ROWS for sort in SORTS), pool)
+    runs = [(row.name, functools.partial(program.run_row, row), row.answer) for row in ROWS]
+    for status, *arguments in ARGUMENTS:
+        # what clap prints is its own, and the same where nothing is refused
+        run, name = functools.partial(program.run, arguments), " ".join(arguments)
+        own = run()
+        count.add("program, arguments", f"status {own.status}", None if own.status == status else f"{name}: {own}")
+        runs.append((name, run, own))
+    together(((try_sort, count, *it, library, sort) for it in runs for sort in SORTS), pool)
 
 
 def try_random_case(count, program, library, room, case, own, draw):
