@@ -1,0 +1,217 @@
+"""The built program: plans and files with their answers, and runs in which one call of the C library is refused."""
+import collections
+import functools
+import os
+import random
+import re
+import subprocess
+import sys
+
+from calls import HERE, KIT, ROOT
+from counts import LONGEST_RUN, together, write
+
+sys.path.insert(0, f"{ROOT}/differential")
+import cases
+import oracle
+
+MOST_CALLS = 5000  # of one sort, in a run
+SEED, RANDOM_CASES, RUNS_OF_A_CASE = 1, 300, 8
+
+Answer = collections.namedtuple("Answer", "status out err")
+# A plan and its files: on the command line with these options, or on standard input where there are none.
+Row = collections.namedtuple("Row", "name plan files answer options", defaults=[("--workers", "2")])
+
+
+def source(files, *columns):
+    return '{"files":%d,"columns":[%s]}' % (files, ",".join('["%s","%s"]' % tuple(it.split()) for it in columns))
+
+
+def plan(sources, steps):
+    return '{"version":1,"sources":[%s],"steps":[%s]}' % (",".join(sources), steps)
+
+
+def frame(text):
+    return Answer(0, text, "")
+
+
+def fault(status, line):
+    return Answer(status, "", f"frameq: {line}\n")
+
+
+MEMORY = fault(6, "out of memory")
+NO_PLAN = fault(5, "cannot read plan")
+WRITE_LINE = "frameq: write failed\n"
+SUMS = '{"group_by":{"keys":["g"],"aggs":[["s","sum","v"]]}}'
+LEFT = '{"join":{"source":0,"on":["k"],"how":"left"}}'
+INNER = '{"join":{"source":0,"on":["k"],"how":"inner"}}'
+ROLLED = '{"rolling_sum":{"column":"v","window":3,"min_samples":2,"name":"r"}}'
+OVER_TEN = '{"filter":["gt",{"col":"v"},10]}'
+JOINED = ["k,w\n1,a\n,b\n1,c\n", "k,v\n2,10\n1,20\n,30\n"]
+K_W_AND_K_V = [source(1, "k int", "w text"), source(1, "k int", "v int")]
+
+# Plans and files, with what the program answers where nothing is refused.
+ROWS = [
+    Row("two files in order", plan([source(2, "v int")], ""), ["v\n1\n2\n3\n", "v\n4\n5\n"],
+        frame("v\n1\n2\n3\n4\n5\n"), ("--batch", "2")),
+    Row("a filter", plan([source(1, "id int", "v int")], OVER_TEN), ["id,v\n1,5\n2,\n3,20\n"], frame("id,v\n3,20\n")),
+    Row("sums that fit as a whole", plan([source(2, "g int", "v int")], SUMS),
+        ["g,v\n1,9223372036854775807\n1,1\n", "g,v\n1,-1\n"], frame("g,s\n1,9223372036854775807\n")),
+    Row("a sum that does not fit", plan([source(2, "g int", "v int")], SUMS),
+        ["g,v\n1,9223372036854775807\n1,1\n", "g,v\n"], fault(4, "step 0, item 0: sum out of range")),
+    Row("a left join", plan(K_W_AND_K_V, LEFT), JOINED, frame("k,v,w\n2,10,\n1,20,a\n1,20,c\n,30,\n")),
+    Row("an inner join", plan(K_W_AND_K_V, INNER), JOINED, frame("k,v,w\n1,20,a\n1,20,c\n")),
+    Row("rolling sums across files", plan([source(2, "i int", "v int")], ROLLED),
+        ["i,v\n1,1\n2,\n", "i,v\n3,4\n4,\n5,\n6,7\n"], frame("i,v,r\n1,1,\n2,,\n3,4,5\n4,,\n5,,\n6,7,\n"), ("--batch", "1")),
+    Row("a bad cell", plan([source(1, "x int")], ""), ["x\n9223372036854775808\n"],
+        fault(4, "file 0, row 1, column 0: bad cell")),
+    Row("no such column", plan([source(1, "id int")], OVER_TEN), ["id\n1\n"], fault(3, "plan: step 0: no such column")),
+    Row("standard input", plan([source(1, "id int", "v int")], OVER_TEN), ["id,v\n1,5\n2,\n3,20\n"], frame("id,v\n3,20\n"), None),
+    Row("a bad cell on standard input", plan([source(1, "x int")], ""), ["x\n9223372036854775808\n"],
+        fault(4, "file 0, row 1, column 0: bad cell"), None),
+]
+
+# Arguments that run no plan, after the status that they give.
+ARGUMENTS = [(0, "--help"), (2, "--nope"), (2, "--plan"), (2, "--plan", "p", "--workers", "17", "a"), (2, "--plan", "p", "--batch", "x", "a")]
+
+
+class Program:
+    """The built program, and a folder with the plans and files of its rows."""
+
+    def __init__(self, path, room):
+        self.path, self.arguments, self.inputs = os.path.abspath(path), {}, {}
+        for row in ROWS:
+            folder = f"{room}/{row.name.replace(' ', '-')}"
+            os.mkdir(folder)
+            if row.options is None:
+                self.arguments[row.name], self.inputs[row.name] = [], write(f"{folder}/input", f"{row.plan}\n{row.files[0]}")
+                continue
+            files = [write(f"{folder}/{number}.csv", text) for number, text in enumerate(row.files)]
+            self.arguments[row.name] = ["--plan", write(f"{folder}/plan.json", row.plan), *row.options, *files]
+            self.inputs[row.name] = os.devnull
+
+    def run_row(self, row, **how):
+        """The answer of a row's run."""
+        with open(self.inputs[row.name], "rb") as file:
+            return self.run(self.arguments[row.name], stdin=file, **how)
+
+    def run(self, arguments, under=(), **how):
+        """The answer of a run, under another command where one is given; or why there is none."""
+        how = {"stdin": subprocess.DEVNULL, "stdout": subprocess.PIPE, "stderr": subprocess.PIPE, **how}
+        try:
+            ran = subprocess.run([*under, self.path, *arguments], timeout=LONGEST_RUN, **how)
+        except subprocess.TimeoutExpired:
+            return Answer(None, "", f"it did not end in {LONGEST_RUN} s")
+        text = lambda them: (them or b"").decode(errors="replace")
+        return Answer(ran.returncode, text(ran.stdout), text(ran.stderr))
+
+
+def is_documented(answer):
+    """Whether an answer without a frame is one that docs/FAULTS.md has."""
+    lines = {3: r"plan: .+", 4: r"(file|step) \d+.*: .+", 5: r"cannot read plan|read failed: file \d+", 6: "out of memory"}
+    if answer.status == 5 and answer.err == WRITE_LINE:
+        return True
+    pattern = lines.get(answer.status)
+    return bool(pattern and not answer.out and re.fullmatch(f"frameq: ({pattern})\n", answer.err))
+
+
+def name_of(answer, own):
+    """What an answer is called in the counts."""
+    if answer == own:
+        return "with the row's answer"
+    return {5: "read or write failed", 6: "out of memory"}.get(answer.status, f"status {answer.status}")
+
+
+SORTS = ("memory", "thread", "open", "read", "write", "interrupt", "short-read", "short-write")
+
+
+def is_allowed(sort, answer, own):
+    """Whether an answer is allowed where a call of this sort is refused."""
+    if answer == own:
+        return True
+    if sort in ("memory", "thread"):
+        return answer == MEMORY
+    if sort in ("open", "read"):
+        return answer == NO_PLAN or bool(re.fullmatch(r"frameq: read failed: file \d+\n", answer.err)) and answer.status == 5 and not answer.out
+    if sort == "write" and own.status == 0:
+        return answer.status == 5 and answer.err == WRITE_LINE and own.out.startswith(answer.out)
+    # a line on standard error that is not written to its end changes no status
+    return sort == "write" and own.err.startswith(answer.err) and answer == own._replace(err=answer.err)
+
+
+def refuse(run, library, sort, number):
+    """The answer of a run in which this call of a sort is refused, and whether it made that call."""
+    reader, writer = os.pipe()
+    try:
+        answer = run(env={"LD_PRELOAD": library, "REFUSE": f"{sort} {number}", "REFUSE_TELL": str(writer)}, pass_fds=[writer])
+        os.set_blocking(reader, False)
+        try:
+            return answer, bool(os.read(reader, 1))
+        except BlockingIOError:
+            return answer, False
+    finally:
+        os.close(reader)
+        os.close(writer)
+
+
+def try_call(count, kind, name, run, own, library, sort, number):
+    """Refuses one call of a run, and gives whether the run made it."""
+    answer, is_met = refuse(run, library, sort, number)
+    allowed = is_allowed(sort, answer, own) if is_met else answer == own
+    ending = name_of(answer, own) if is_met else "met none"
+    count.add(kind, ending, None if allowed else f"{name}, {sort} call {number}: {answer._replace(out=answer.out[:200])}")
+    return is_met
+
+
+def try_sort(count, name, run, own, library, sort):
+    """Refuses the first call of a sort, the second and so on, until a run meets none."""
+    if all(try_call(count, f"program, {sort}", name, run, own, library, sort, it) for it in range(1, MOST_CALLS)):
+        count.add(f"program, {sort}", "without end", f"{name}: there is always one more call")
+
+
+def build_library(count, room):
+    """The library that refuses calls, or nothing where it is not compiled."""
+    library = f"{room}/refuse.so"
+    compiler = [f"{KIT}/toolchain/bin/clang", "-fuse-ld=lld"] if os.path.exists(f"{KIT}/toolchain/bin/clang") else ["cc"]
+    command = [*compiler, "-shared", "-fPIC", "-O2", "-nostdlib", "-ffreestanding", "-fno-builtin", "-o", library, f"{HERE}/refuse.c"]
+    made = subprocess.run(command, stdout=subprocess.PIPE, stderr=subprocess.STDOUT)
+    if made.returncode:
+        count.add("program", "not built", f"refuse.c is not compiled:\n{made.stdout.decode(errors='replace')}")
+        return None
+    return library
+
+
+def try_program(count, pool, program, library):
+    runs = [(row.name, functools.partial(program.run_row, row), row.answer) for row in ROWS]
+    for status, *arguments in ARGUMENTS:
+        # what clap prints is its own, and the same where nothing is refused
+        run, name = functools.partial(program.run, arguments), " ".join(arguments)
+        own = run()
+        count.add("program, arguments", f"status {own.status}", None if own.status == status else f"{name}: {own}")
+        runs.append((name, run, own))
+    together(((try_sort, count, *it, library, sort) for it in runs for sort in SORTS), pool)
+
+
+def try_random_case(count, program, library, room, case, own, draw):
+    """A random plan over random files, in which calls that are drawn are refused."""
+    os.mkdir(room)
+    paths = [f"{room}/plan.json", *(f"{room}/{number}.csv" for number in range(len(case.files)))]
+    for path, data in zip(paths, (case.plan, *case.files)):
+        with open(path, "wb") as file:
+            file.write(data)
+    arguments = ["--batch", str(case.batch), "--workers", str(case.workers), "--plan", *paths]
+    for _ in range(RUNS_OF_A_CASE):
+        sort = draw.choice(("memory",) * 4 + SORTS)
+        number = draw.randint(1, 300 if sort == "memory" else 12)
+        run = functools.partial(program.run, arguments)
+        try_call(count, f"random, {sort}", f"seed {SEED}, {room[room.rindex('/') + 1:]}", run, own, library, sort, number)
+
+
+def try_random(count, pool, program, library, room):
+    text = lambda them: them.decode(errors="replace")
+    jobs = []
+    for number in range(RANDOM_CASES):
+        case = cases.case(SEED, number)
+        wanted = oracle.answer(case.plan, case.files)
+        own = Answer(wanted.status, text(wanted.output), text(wanted.error))
+        jobs.append((try_random_case, count, program, library, f"{room}/case {number}", case, own, random.Random(number)))
+    together(jobs, pool)

@@ -1,0 +1,215 @@
+"""The built program where the operating system refuses something."""
+import os
+import shutil
+import subprocess
+import tempfile
+import threading
+import time
+
+from counts import LONGEST_RUN, together, write
+from program import INNER, MEMORY, NO_PLAN, ROWS, WRITE_LINE, Answer, fault, frame, is_allowed, is_documented, plan, source
+
+
+def limit(kind, most):
+    """The command under which a program has a limit of this kind (prlimit's long options name them)."""
+    return ["prlimit", f"--{kind}={most}", "--"]
+
+
+def closing(descriptor):
+    """The command under which a program has this descriptor closed."""
+    return ["sh", "-c", f'exec "$@" {descriptor}>&-', "sh"]
+
+
+def check(count, kind, what, answer, allowed):
+    is_right = allowed(answer)
+    count.add(f"system, {kind}", f"status {answer.status}", None if is_right else f"{what}: {answer._replace(out=answer.out[:200])}")
+
+
+def large_rows(room):
+    """Plans over 20,000 rows: no step, a grouping with as many groups, and a join, with what they print."""
+    numbers = range(20_000)
+    text = write(f"{room}/numbers.csv", "k,v\n" + "".join(f"{it},{it % 7}\n" for it in numbers))
+    made = []
+    for name, steps, wanted in [
+        ("all", "", "k,v\n" + "".join(f"{it},{it % 7}\n" for it in numbers)),
+        ("grouped", '{"group_by":{"keys":["k"],"aggs":[["s","sum","v"]]}}', "k,s\n" + "".join(f"{it},{it % 7}\n" for it in numbers)),
+    ]:
+        path = write(f"{room}/{name}.json", plan([source(1, "k int", "v int")], steps))
+        made.append((name, ["--plan", path, text], frame(wanted)))
+    joined = plan([source(1, "k int", "v int")] * 2, INNER)
+    wanted = frame("k,v,v_right\n" + "".join(f"{it},{it % 7},{it % 7}\n" for it in numbers))
+    made.append(("joined", ["--plan", write(f"{room}/joined.json", joined), text, text], wanted))
+    made.append(("all at 16 workers", ["--workers", "16", *made[0][1]], made[0][2]))
+    return made
+
+
+def starts(program, most):
+    """Whether the program starts in an address space of so many bytes: it says what it does."""
+    answer = program.run(["--help"], under=limit("as", most))
+    return answer.status == 0 or answer == MEMORY
+
+
+def address_spaces(count, pool, program, rows):
+    """Address spaces from where the program starts to where each run has enough."""
+    least = next((it for it in range(1 << 20, 1 << 27, 1 << 18) if starts(program, it)), None)
+    if least is None:
+        print("system, address space: not run: the program starts in none")
+        return
+
+    def until_enough(name, arguments, own):
+        # the loader takes some pages more or less
+        most = least + (1 << 18)
+        while most < 1 << 33:
+            answer = program.run(arguments, under=limit("as", most))
+            check(count, "address space", f"{name} in {most} bytes", answer, lambda it: it in (own, MEMORY))
+            most += max(most // 40, 1 << 16)
+        check(count, "address space", f"{name} without a limit", program.run(arguments), lambda it: it == own)
+
+    together(((until_enough, *it) for it in rows), pool)
+
+
+def stack_sizes(count, program, rows):
+    """Small stacks: the program's first thread has as much as the limit says."""
+    for name, arguments, own in rows:
+        for most in (1 << 20, 1 << 19, 1 << 18):
+            answer = program.run(arguments, under=limit("stack", most))
+            check(count, "stack", f"{name} with a stack of {most} bytes", answer, lambda it, own=own: it in (own, MEMORY))
+
+
+def devices(count, program, rows):
+    """A full device, a closed pipe, a closed output, a file of limited size."""
+    for name, arguments, own in rows:
+        wanted = Answer(5, "", WRITE_LINE)
+        with open("/dev/full", "wb") as full:
+            check(count, "full device", name, program.run(arguments, stdout=full), lambda it: it == wanted)
+            check(count, "full standard error", name, program.run(arguments, stderr=full), lambda it, own=own: it == own)
+        for restores in (True, False):
+            reader, writer = os.pipe()
+            os.close(reader)
+            answer = program.run(arguments, stdout=writer, restore_signals=restores)
+            os.close(writer)
+            check(count, "closed pipe", f"{name}, signals {restores}", answer, lambda it: it == wanted)
+        answer = program.run(arguments, under=closing(1))
+        check(count, "closed output", name, answer, lambda it: it == wanted)
+        for most in (0, 1, 7, 4096, len(own.out) - 1):
+            with tempfile.TemporaryFile() as file:
+                how = {"stdout": file, "restore_signals": False, "under": limit("fsize", most)}
+                answer = program.run(arguments, **how)
+                file.seek(0)
+                text = file.read().decode()
+            check(count, "file of limited size", f"{name}, {most} bytes", answer,
+                  lambda it, own=own, text=text: it == wanted and own.out.startswith(text))
+
+
+def open_files(count, program, rows):
+    """Fewer descriptors than a run opens files; it takes four to start."""
+    for name, arguments, own in rows:
+        for most in range(4, 9):
+            answer = program.run(arguments, under=limit("nofile", most))
+            check(count, "open files", f"{name}, {most} descriptors", answer, lambda it, own=own: it == own or is_allowed("open", it, own))
+
+
+def early_reader(count, program, rows):
+    """A reader of the output that ends after some bytes."""
+    for name, arguments, _ in rows:
+        ran = subprocess.Popen([program.path, *arguments], stdin=subprocess.DEVNULL, stdout=subprocess.PIPE, stderr=subprocess.PIPE)
+        ran.stdout.read(5)
+        ran.stdout.close()
+        _, said = ran.communicate(timeout=LONGEST_RUN)
+        answer = Answer(ran.returncode, "", said.decode())
+        check(count, "reader that ends", name, answer, lambda it: it == Answer(5, "", WRITE_LINE))
+
+
+def folders(count, program, room):
+    """A folder, and a file that cannot be opened, in the place of a file."""
+    data, text = write(f"{room}/v.csv", "v\n1\n"), write(f"{room}/v.json", plan([source(2, "v int")], ""))
+    for path in (room, f"{room}/missing.csv", f"{data}/below"):
+        for arguments, wanted in [
+            (["--plan", path, data, data], NO_PLAN),
+            (["--plan", text, path, data], fault(5, "read failed: file 0")),
+            (["--plan", text, data, path], fault(5, "read failed: file 1")),
+        ]:
+            check(count, "folder or missing file", path, program.run(arguments), lambda it, wanted=wanted: it == wanted)
+    with open("/proc/self/mem", "rb") as unreadable:
+        check(count, "unreadable input", "standard input", program.run([], stdin=unreadable),
+              lambda it: it == fault(5, "read failed: file 0"))
+    folder = os.open(room, os.O_RDONLY)
+    check(count, "unreadable input", "a folder", program.run([], stdin=folder), lambda it: it == fault(5, "read failed: file 0"))
+    os.close(folder)
+    check(count, "unreadable input", "closed", program.run([], under=closing(0)),
+          lambda it: it == fault(5, "read failed: file 0"))
+
+
+def pipes(count, program, room):
+    """Named pipes as plan and data, written byte by byte, and ones whose writer ends early."""
+    whole, row = "v\n1\n2\n3\n", plan([source(2, "v int")], "")
+    data = write(f"{room}/w.csv", "v\n4\n")
+    for number, (plan_text, data_text, wanted) in enumerate([
+        (row, whole, frame("v\n1\n2\n3\n4\n")),
+        (row, "", fault(4, "file 0: header differs")),
+        (row, "v\n1\n2", frame("v\n1\n2\n4\n")),
+        (row, "v\n1\n2,", fault(4, "file 0, row 2: wrong number of fields")),
+        (row[:-1], whole, fault(3, "plan: not JSON")),
+    ]):
+        names = [f"{room}/pipe-{number}-plan", f"{room}/pipe-{number}-data"]
+        writers = []
+        for name, text in zip(names, (plan_text, data_text)):
+            os.mkfifo(name)
+            writers.append(threading.Thread(target=write_slowly, args=(name, text), daemon=True))
+            writers[-1].start()
+        answer = program.run(["--plan", names[0], names[1], data])
+        check(count, "pipe", repr(data_text), answer, lambda it, wanted=wanted: it == wanted)
+
+
+def write_slowly(path, text):
+    with open(path, "wb", buffering=0) as pipe:
+        for byte in text.encode():
+            try:
+                pipe.write(bytes([byte]))
+            except BrokenPipeError:
+                return
+
+
+def shrinking_files(count, program, room):
+    """A file that is cut while it is read: a frame, or a fault of the row at which it was cut."""
+    text = "k,v\n" + "".join(f"{it},{it % 7}\n" for it in range(400_000))
+    path, steps = f"{room}/shrinks.csv", write(f"{room}/shrinks.json", plan([source(1, "k int", "v int")], ""))
+    for turn in range(12):
+        write(path, text)
+        ran = subprocess.Popen([program.path, "--plan", steps, path], stdout=subprocess.PIPE, stderr=subprocess.PIPE)
+        time.sleep(turn * 0.004)
+        os.truncate(path, 1000 + turn)
+        out, err = ran.communicate(timeout=LONGEST_RUN)
+        answer = Answer(ran.returncode, out.decode(), err.decode())
+        check(count, "shrinking file", f"cut after {turn * 4} ms", answer._replace(out=answer.out[:100]),
+              lambda it, out=answer.out: it.status == 0 and text.startswith(out[:-1]) and not it.err or is_documented(it))
+
+
+def threads(count, program, rows):
+    """So many threads for the user, where this one may have them refused."""
+    how = {} if os.geteuid() else {"user": "nobody", "extra_groups": []}
+    try:
+        why = None if program.run(rows[0][1], **how) == rows[0][2] else "nobody cannot run the program"
+    except (OSError, LookupError, subprocess.SubprocessError) as error:
+        why = error
+    if why:
+        print(f"system, threads: not run: {why}; the part 'program' refuses each thread in turn")
+        return
+    for name, arguments, own in rows:
+        for most in (*range(1, 24), 4096):
+            answer = program.run(arguments, under=limit("nproc", most), **how)
+            check(count, "threads", f"{name}, {most} threads", answer, lambda it, own=own: it in (own, MEMORY))
+
+
+def try_system(count, pool, program, room):
+    if not shutil.which("prlimit"):
+        print("system: not run: there is no prlimit")
+        return
+    os.chmod(room, 0o755)
+    rows = large_rows(room)
+    small = [(it.name, program.arguments[it.name], it.answer) for it in ROWS if it.answer.status == 0 and it.options is not None]
+    parts = [(stack_sizes, count, program, rows), (devices, count, program, rows), (early_reader, count, program, rows),
+             (open_files, count, program, small + rows), (folders, count, program, room), (pipes, count, program, room), (shrinking_files, count, program, room),
+             (threads, count, program, small + rows)]
+    together(parts, pool)
+    address_spaces(count, pool, program, rows + small)
