@@ -1,6 +1,6 @@
 use Rattle.std.proofs.Common.{◌≡◌, [], ◌∷◌, ◌++◌, ap, map, sym, subst, ◌∙◌}
 use Rattle.std.proofs.lemmas.List.{map-append}
-use Rattle.fq_lanes.specs.Lane.{put_items, taken_items, left_items, put_name, take_name}
+use Rattle.fq_lanes.specs.Lane.{put_items, taken_items, left_items, take_name}
 use Rattle.fq_lanes.specs.WorkerLanes.{worker_name, worker_names}
 use Rattle.fq_lanes.specs.WorkerThread.{Replied}
 use Rattle.fq_lanes.specs.declared.messages.ToWorker.TheVariants.{Stop}
