@@ -5,12 +5,22 @@
 //! groups. At the end the groups are printed.
 #![tactic(auto)]
 
-ghost use Rattle.std.specs.Prelude.{◌≡◌, IfOk};
+ghost use Rattle.std.specs.Prelude.{◌≡◌, ◌++◌, ℕ, List, [], Some, codes, map, string_bytes, IfOk, OnOk};
+ghost use Rattle.fq_column.specs.Frame.{Frame, Row};
+ghost use Rattle.fq_column.specs.Stream.{Stream};
+ghost use Rattle.fq_csv.specs.File.{file_stream, plain};
+ghost use Rattle.fq_csv.specs.Printed.{printed};
+ghost use Rattle.fq_csv.specs.declared.faults.ScanFault.{ScanFault as AnyFault};
+ghost use Rattle.fq_expr.specs.Meaning.{expression_of};
+ghost use Rattle.fq_expr.specs.Expression.{column as column_of, binary};
 ghost use Rattle.fq_expr.specs.Steps.{fields_after_all};
+ghost use Rattle.fq_ops.specs.Gathered.{HasTakenRows};
+ghost use Rattle.fq_ops.specs.Meaning.{outputs_of};
+ghost use Rattle.region_totals.specs.Totals.{AreTotals, HasTotals, keys as group_keys, orders, outputs, priced as steps_of_orders};
 
 use fq_column::{Batch, Kind, Memory, Schema, StepFault};
 use fq_csv::{MAX_ROWS, NullValues, Scan, ScanFault, Scanner, print_frame};
-use fq_expr::{Binary, Expr, Front, RowFault, RowStep, Unary};
+use fq_expr::{Binary, Expr, Front, RowFault, RowStep, Unary, steps_of_joined_streams};
 use fq_ops::{Agg, GroupFault, Grouper, What, group_schema};
 use std::alloc::Global;
 use std::io;
@@ -49,7 +59,10 @@ fn main(rt: HostRuntime) -> Result<(), Failure> {
 }
 
 // The totals of a file, as CSV text.
-fn totals<R: Read + Drop>(alloc: Global, file: R) -> Result<Vec<u8>, Failure> {
+fn totals<R: Read + Drop>(alloc: Global, file: R) -> Result<Vec<u8>, Failure>
+    ensures { IfOk result (λ text. (bytes : List ℕ) → R.remaining file ≡ Some bytes →
+        (frame : Frame) × AreTotals steps_of_orders (file_stream 0 (plain orders) MAX_ROWS bytes) frame × (text.items ≡ printed frame)) }
+{
     let columns = columns(alloc)?;
     let (front, columns_after) = front(alloc, columns.copy(alloc)?)?;
     let grouper = grouper(alloc, columns_after)?;
@@ -60,7 +73,9 @@ fn totals<R: Read + Drop>(alloc: Global, file: R) -> Result<Vec<u8>, Failure> {
 }
 
 // The columns of the file.
-fn columns(alloc: Global) -> Result<Schema, StepFault> {
+fn columns(alloc: Global) -> Result<Schema, StepFault>
+    ensures { IfOk result (λ columns. columns ≡ orders) }
+{
     let names = vec![in alloc;
         name(alloc, "region")?,
         name(alloc, "units")?,
@@ -73,7 +88,7 @@ fn columns(alloc: Global) -> Result<Schema, StepFault> {
 
 // The steps on each row: the orders that were not returned, with their cents; and the columns after these.
 fn front(alloc: Global, columns: Schema) -> Result<(Front, Schema), StepFault>
-    ensures before { IfOk result (λ r. r.0.fields ≡ columns) }
+    ensures steps { IfOk result (λ r. r.0 ≡ record steps_of_orders { fields = columns }) }
     ensures after { IfOk result (λ r. r.1 ≡ fields_after_all r.0.fields r.0.steps) }
 {
     let is_returned = Box::new(alloc, column(alloc, "returned")?)?;
@@ -86,7 +101,9 @@ fn front(alloc: Global, columns: Schema) -> Result<(Front, Schema), StepFault>
 }
 
 // The units times the cents of a unit.
-fn cents(alloc: Global) -> Result<Expr, Memory> {
+fn cents(alloc: Global) -> Result<Expr, Memory>
+    ensures { IfOk result (λ e. expression_of e ≡ binary Binary.Mul (column_of (codes "units")) (column_of (codes "unit_cents"))) }
+{
     let units = Box::new(alloc, column(alloc, "units")?)?;
     let unit_cents = Box::new(alloc, column(alloc, "unit_cents")?)?;
     Ok(Expr::Two(Binary::Mul, units, unit_cents))
@@ -94,7 +111,8 @@ fn cents(alloc: Global) -> Result<Expr, Memory> {
 
 // The grouping by region, of these columns.
 fn grouper(alloc: Global, columns: Schema) -> Result<Grouper, StepFault>
-    ensures { IfOk result (λ g. g.fields ≡ columns) }
+    ensures columns { IfOk result (λ g. g.fields ≡ columns) }
+    ensures empty { IfOk result (λ g. HasTakenRows g group_keys outputs []) }
 {
     let keys = vec![in alloc; name(alloc, "region")?]?;
     let aggs = aggregates(alloc)?;
@@ -103,7 +121,9 @@ fn grouper(alloc: Global, columns: Schema) -> Result<Grouper, StepFault>
 }
 
 // What is known of each region: its orders, and the sum of their cents.
-fn aggregates(alloc: Global) -> Result<Vec<Agg>, Memory> {
+fn aggregates(alloc: Global) -> Result<Vec<Agg>, Memory>
+    ensures { IfOk result (λ aggs. outputs_of aggs.items ≡ outputs) }
+{
     let orders = Agg {
         name: name(alloc, "orders")?,
         what: What::Len,
@@ -124,16 +144,17 @@ fn grouped<R: Read + Drop>(
 ) -> Result<Batch, Failure>
     requires file { scanner.layout.schema ≡ front.now.fields }
     requires steps { grouper.fields ≡ fields_after_all front.now.fields front.now.steps }
+    requires empty { HasTakenRows grouper group_keys outputs [] }
+    ensures { IfOk result (λ frame. (u : Stream AnyFault) → scanner.upcoming ≡ Some u → AreTotals front.now u frame) }
 {
     'batches: loop {
         match scanner.next_batch() {
             Scan::Batch { batch, .. } => take(alloc, front, &mut grouper, batch)?,
-            Scan::End { fault, .. } => {
-                return match fault {
-                    Some(fault) => Err(Failure::Scan(fault)),
-                    None => Ok(grouper.finish(alloc)?),
-                };
-            }
+            Scan::End {
+                fault: Some(fault),
+                ..
+            } => return Err(Failure::Scan(fault)),
+            Scan::End { fault: None, .. } => return Ok(grouper.finish(alloc)?),
         }
     }
 }
@@ -142,8 +163,10 @@ fn grouped<R: Read + Drop>(
 fn take(alloc: Global, front: &Front, grouper: &mut Grouper, batch: Batch) -> Result<(), Failure>
     requires file { batch.fields ≡ front.now.fields }
     requires steps { grouper.old.fields ≡ fields_after_all front.now.fields front.now.steps }
-    ensures { grouper.new.fields ≡ grouper.old.fields }
+    ensures columns { grouper.new.fields ≡ grouper.old.fields }
+    ensures taken { OnOk result ((rows : List Row) → HasTotals front.now grouper.old rows → HasTotals front.now grouper.new (rows ++ batch.rows)) }
 {
+    steps_of_joined_streams::<RowFault>();
     let piece = front.apply(alloc, batch)?;
     if let Some(fault) = piece.fault {
         return Err(Failure::Row(fault));
@@ -156,11 +179,15 @@ fn take(alloc: Global, front: &Front, grouper: &mut Grouper, batch: Batch) -> Re
 }
 
 // A name in memory of its own.
-fn name(alloc: Global, text: &str) -> Result<String, Memory> {
+fn name(alloc: Global, text: &str) -> Result<String, Memory>
+    ensures { IfOk result (λ name. string_bytes name ≡ text.now) }
+{
     Ok(String::from_str(alloc, text)?)
 }
 
 // The value of a column.
-fn column(alloc: Global, text: &str) -> Result<Expr, Memory> {
+fn column(alloc: Global, text: &str) -> Result<Expr, Memory>
+    ensures { IfOk result (λ e. expression_of e ≡ column_of text.now) }
+{
     Ok(Expr::Col(name(alloc, text)?))
 }

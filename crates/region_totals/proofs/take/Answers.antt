@@ -1,0 +1,16 @@
+use Rattle.std.proofs.Common.{sym, ◌∙◌}
+use Rattle.fq_column.specs.Stream.{done}
+use Rattle.fq_expr.specs.Front.{fault_at}
+use Rattle.region_totals.specs.Totals.{keys, outputs, stepped}
+use Rattle.region_totals.proofs.TotalsLemmas.{totals-more}
+use Rattle.region_totals.proofs.take.Goals as goal
+
+pub returns-clause-taken : goal.returns-clause-taken
+returns-clause-taken c rows h =
+    let front = c.args.front.now in
+    totals-more front c.args.grouper.now c.take.new.self rows c.args.batch.rows c.in_ok-piece.piece.batch.rows
+    (c.steps_of_joined_streams.ensures fault_at front.first front.fields front.steps (done rows) (done c.args.batch.rows))
+    c.in_ok-piece.ensures.rows
+    (sym c.in_ok-piece.ensures.fault ∙ c.in_default.is)
+    (c.in_ok-take.ensures.taken keys outputs (stepped front rows).rows)
+    h
