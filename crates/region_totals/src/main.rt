@@ -5,18 +5,19 @@
 //! groups. At the end the groups are printed.
 #![tactic(auto)]
 
-ghost use Rattle.std.specs.Prelude.{◌≡◌, ◌++◌, ℕ, List, [], Some, codes, map, string_bytes, IfOk, OnOk};
+ghost use Rattle.std.specs.Prelude.{◌≡◌, ◌++◌, ℕ, List, [], Some, codes, string_bytes, IfOk, OnOk};
 ghost use Rattle.fq_column.specs.Frame.{Frame, Row};
 ghost use Rattle.fq_column.specs.Stream.{Stream};
 ghost use Rattle.fq_csv.specs.File.{file_stream, plain};
 ghost use Rattle.fq_csv.specs.Printed.{printed};
-ghost use Rattle.fq_csv.specs.declared.faults.ScanFault.{ScanFault as AnyFault};
+ghost use Rattle.fq_csv.specs.declared.faults.ScanFault.{ScanFault};
 ghost use Rattle.fq_expr.specs.Meaning.{expression_of};
 ghost use Rattle.fq_expr.specs.Expression.{column as column_of, binary};
 ghost use Rattle.fq_expr.specs.Steps.{fields_after_all};
 ghost use Rattle.fq_ops.specs.Gathered.{HasTakenRows};
 ghost use Rattle.fq_ops.specs.Meaning.{outputs_of};
-ghost use Rattle.region_totals.specs.Totals.{AreTotals, HasTotals, keys as group_keys, orders, outputs, priced as steps_of_orders};
+ghost use Rattle.region_totals.specs.Report.{group_keys, group_outputs, order_steps, orders};
+ghost use Rattle.region_totals.specs.Totals.{AreTotals, HasTotals};
 
 use fq_column::{Batch, Kind, Memory, Schema, StepFault};
 use fq_csv::{MAX_ROWS, NullValues, Scan, ScanFault, Scanner, print_frame};
@@ -61,7 +62,7 @@ fn main(rt: HostRuntime) -> Result<(), Failure> {
 // The totals of a file, as CSV text.
 fn totals<R: Read + Drop>(alloc: Global, file: R) -> Result<Vec<u8>, Failure>
     ensures { IfOk result (λ text. (bytes : List ℕ) → R.remaining file ≡ Some bytes →
-        (frame : Frame) × AreTotals steps_of_orders (file_stream 0 (plain orders) MAX_ROWS bytes) frame × (text.items ≡ printed frame)) }
+        (frame : Frame) × AreTotals order_steps (file_stream 0 (plain orders) MAX_ROWS bytes) frame × (text.items ≡ printed frame)) }
 {
     let columns = columns(alloc)?;
     let (front, columns_after) = front(alloc, columns.copy(alloc)?)?;
@@ -88,7 +89,7 @@ fn columns(alloc: Global) -> Result<Schema, StepFault>
 
 // The steps on each row: the orders that were not returned, with their cents; and the columns after these.
 fn front(alloc: Global, columns: Schema) -> Result<(Front, Schema), StepFault>
-    ensures steps { IfOk result (λ r. r.0 ≡ record steps_of_orders { fields = columns }) }
+    ensures steps { IfOk result (λ r. r.0 ≡ record order_steps { fields = columns }) }
     ensures after { IfOk result (λ r. r.1 ≡ fields_after_all r.0.fields r.0.steps) }
 {
     let is_returned = Box::new(alloc, column(alloc, "returned")?)?;
@@ -112,7 +113,7 @@ fn cents(alloc: Global) -> Result<Expr, Memory>
 // The grouping by region, of these columns.
 fn grouper(alloc: Global, columns: Schema) -> Result<Grouper, StepFault>
     ensures columns { IfOk result (λ g. g.fields ≡ columns) }
-    ensures empty { IfOk result (λ g. HasTakenRows g group_keys outputs []) }
+    ensures empty { IfOk result (λ g. HasTakenRows g group_keys group_outputs []) }
 {
     let keys = vec![in alloc; name(alloc, "region")?]?;
     let aggs = aggregates(alloc)?;
@@ -122,7 +123,7 @@ fn grouper(alloc: Global, columns: Schema) -> Result<Grouper, StepFault>
 
 // What is known of each region: its orders, and the sum of their cents.
 fn aggregates(alloc: Global) -> Result<Vec<Agg>, Memory>
-    ensures { IfOk result (λ aggs. outputs_of aggs.items ≡ outputs) }
+    ensures { IfOk result (λ aggs. outputs_of aggs.items ≡ group_outputs) }
 {
     let orders = Agg {
         name: name(alloc, "orders")?,
@@ -144,12 +145,12 @@ fn grouped<R: Read + Drop>(
 ) -> Result<Batch, Failure>
     requires file { scanner.layout.schema ≡ front.now.fields }
     requires steps { grouper.fields ≡ fields_after_all front.now.fields front.now.steps }
-    requires empty { HasTakenRows grouper group_keys outputs [] }
-    ensures { IfOk result (λ frame. (u : Stream AnyFault) → scanner.upcoming ≡ Some u → AreTotals front.now u frame) }
+    requires empty { HasTakenRows grouper group_keys group_outputs [] }
+    ensures { IfOk result (λ frame. (u : Stream ScanFault) → scanner.upcoming ≡ Some u → AreTotals front.now u frame) }
 {
     'batches: loop {
         match scanner.next_batch() {
-            Scan::Batch { batch, .. } => take(alloc, front, &mut grouper, batch)?,
+            Scan::Batch { batch, .. } => add_batch(alloc, front, &mut grouper, batch)?,
             Scan::End {
                 fault: Some(fault),
                 ..
@@ -160,7 +161,12 @@ fn grouped<R: Read + Drop>(
 }
 
 // Adds the rows of a batch, after the steps, to the groups.
-fn take(alloc: Global, front: &Front, grouper: &mut Grouper, batch: Batch) -> Result<(), Failure>
+fn add_batch(
+    alloc: Global,
+    front: &Front,
+    grouper: &mut Grouper,
+    batch: Batch,
+) -> Result<(), Failure>
     requires file { batch.fields ≡ front.now.fields }
     requires steps { grouper.old.fields ≡ fields_after_all front.now.fields front.now.steps }
     ensures columns { grouper.new.fields ≡ grouper.old.fields }

@@ -16,7 +16,7 @@ batches-preserved g c =
     let inv = c.batches.invariant in
     record {
       layout = c.in-Batch.ensures.form.same.layout ∙ inv.layout;
-      fields = c.in_ok-take-in-Batch.ensures.columns ∙ inv.fields;
+      fields = c.in_ok-add_batch-in-Batch.ensures.columns ∙ inv.fields;
       stream = λ u e.
           let r = inv.stream u e in
           let s = c.in-Batch.ensures.stream r.1 r.2 in
@@ -25,6 +25,6 @@ batches-preserved g c =
             without size r.1,
             s.1,
             r.3 ∙ joined-more r.0 c.in-Batch.batch.rows (r.0 ++ c.in-Batch.batch.rows) size r.1 s.0 refl,
-            c.in_ok-take-in-Batch.ensures.taken r.0 r.4,
+            c.in_ok-add_batch-in-Batch.ensures.taken r.0 r.4,
           );
     }

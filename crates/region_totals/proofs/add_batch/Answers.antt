@@ -1,9 +1,10 @@
 use Rattle.std.proofs.Common.{sym, ◌∙◌}
 use Rattle.fq_column.specs.Stream.{done}
 use Rattle.fq_expr.specs.Front.{fault_at}
-use Rattle.region_totals.specs.Totals.{keys, outputs, stepped}
+use Rattle.region_totals.specs.Report.{group_keys, group_outputs}
+use Rattle.region_totals.specs.Totals.{stepped}
 use Rattle.region_totals.proofs.TotalsLemmas.{totals-more}
-use Rattle.region_totals.proofs.take.Goals as goal
+use Rattle.region_totals.proofs.add_batch.Goals as goal
 
 pub returns-clause-taken : goal.returns-clause-taken
 returns-clause-taken c rows h =
@@ -12,5 +13,5 @@ returns-clause-taken c rows h =
     (c.steps_of_joined_streams.ensures fault_at front.first front.fields front.steps (done rows) (done c.args.batch.rows))
     c.in_ok-piece.ensures.rows
     (sym c.in_ok-piece.ensures.fault ∙ c.in_default.is)
-    (c.in_ok-take.ensures.taken keys outputs (stepped front rows).rows)
+    (c.in_ok-take.ensures.taken group_keys group_outputs (stepped front rows).rows)
     h
