@@ -1,0 +1,17 @@
+use Rattle.std.proofs.Common.{sym, ◌∙◌}
+use Rattle.fq_column.specs.Stream.{done}
+use Rattle.fq_expr.specs.Front.{fault_at}
+use Rattle.region_totals.specs.Report.{group_keys, group_outputs}
+use Rattle.region_totals.specs.Totals.{stepped}
+use Rattle.region_totals.proofs.TotalsLemmas.{totals-more}
+use Rattle.region_totals.proofs.add_batch.Goals as goal
+
+pub returns-clause-taken : goal.returns-clause-taken
+returns-clause-taken c rows h =
+    let front = c.args.front.now in
+    totals-more front c.args.grouper.now c.take.new.self rows c.args.batch.rows c.in_ok-piece.piece.batch.rows
+    (c.steps_of_joined_streams.ensures fault_at front.first front.fields front.steps (done rows) (done c.args.batch.rows))
+    c.in_ok-piece.ensures.rows
+    (sym c.in_ok-piece.ensures.fault ∙ c.in_default.is)
+    (c.in_ok-take.ensures.taken group_keys group_outputs (stepped front rows).rows)
+    h
