@@ -3,7 +3,7 @@
 
     differential/compare.py [--cases N] [--seed S] [--program PATH]
 
-Each case runs at four settings, one of them random, and where it has one file also without words. Where it has 16 files, the
+Each case runs at four settings, one of them random, and where it has one file also without arguments. Where it has 16 files, the
 random setting has 16 workers. Output, exit status and the line on standard
 error are compared byte by byte. At the first difference the case is kept in a folder, whose path is printed, and the status
 is 1. At the end a table says how many cases ended in which way.
@@ -55,7 +55,7 @@ def write_case(folder, case):
 
 
 def runs_of(case):
-    """The runs of a case: at each setting, and without words where there is one file."""
+    """The runs of a case: at each setting, and without arguments where there is one file."""
     expected = oracle.answer(case.plan, case.files)
     drawn = ["--batch", str(case.batch), "--workers", str(case.workers)]
     runs = [Run([*setting, "--plan", "plan.json", *file_names(case)], b"", expected) for setting in [*SETTINGS, drawn]]

@@ -822,6 +822,6 @@ def answer(plan_text, files):
 
 
 def answer_without_words(standard_input):
-    """What it answers without words: the first line is the plan, and the bytes after it are the one file."""
+    """What it answers without arguments: the first line is the plan, and the bytes after it are the one file."""
     line, _, file = standard_input.partition(b"\n")
     return answer(line, [file])
