@@ -109,10 +109,13 @@ pub enum SystemReader<F: Read, I: Read> {
 }
 
 impl<F: Read + OpenFile, I: Read> SystemReader<F, I> {
-    // The size in bytes, where the system knows it.
+    // The size in bytes, where the system knows it. That of a named pipe is said to be 0.
     fn size(&self) -> Option<u64> {
         match self {
-            SystemReader::File(file) => Some(file.metadata().ok()?.len()),
+            SystemReader::File(file) => {
+                let size = file.metadata().ok()?.len();
+                (size > 0).then_some(size)
+            }
             SystemReader::Input(_) => None,
         }
     }
