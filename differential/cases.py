@@ -193,8 +193,8 @@ def null_values(draw):
     return [draw.choice(texts) for _ in range(draw.randint(0, most))]
 
 
-def plan(draw):
-    version = draw.choice([1, 2])
+def plan(draw, versions=(1, 2)):
+    version = draw.choice(versions)
     sources = [source(draw) for _ in range(draw.choice([1, 1, 2, 2, 3]))]
     for one in sources:
         if draw.often(60 if version == 2 else 0.5):
@@ -405,10 +405,10 @@ def files_of(draw, value):
 
 # ---- cases
 
-def case(seed, number):
-    """Case `number` of a seed."""
+def case(seed, number, versions=(1, 2)):
+    """Case `number` of a seed, with a plan of one of these versions."""
     draw = Draw(f"{seed}, {number}")
-    value = plan(draw)
+    value = plan(draw, versions)
     files = files_of(draw, value)
     text = wrong_plan_text(draw, value) if draw.often(10) else text_of(draw, value)
     batch = draw.choice([1, 2, 3, 7, 64, 1000, 65536])

@@ -1,7 +1,7 @@
 #!/usr/bin/env python3
 """Compares frameq with a second implementation of its definitions, on random plans and files.
 
-    differential/compare.py [--cases N] [--seed S] [--program PATH]
+    differential/compare.py [--cases N] [--seed S] [--version V] [--program PATH]
 
 Each case runs at four settings, one of them random, and where it has one file also without arguments. Where it has 16 files, the
 random setting has 16 workers. Output, exit status and the line on standard
@@ -109,6 +109,7 @@ def arguments():
     parser = argparse.ArgumentParser(description="Compares frameq with a second implementation, on random plans and files.")
     parser.add_argument("--cases", type=int, default=1000, help="how many cases [1000]")
     parser.add_argument("--seed", type=int, default=1, help="another seed, other cases [1]")
+    parser.add_argument("--version", type=int, choices=[1, 2], help="the version of all plans [each with even odds]")
     parser.add_argument("--program", help="the frameq to compare [the one that ./frameq builds]")
     return parser.parse_args()
 
@@ -116,11 +117,12 @@ def arguments():
 def main():
     given = arguments()
     program = binary(given.program)
+    versions = (given.version,) if given.version else (1, 2)
     endings, count_of_runs = Counter(), 0
     with tempfile.TemporaryDirectory() as folder:
         for number in range(given.cases):
             try:
-                answers = compare(program, folder, cases.case(given.seed, number))
+                answers = compare(program, folder, cases.case(given.seed, number, versions))
             except Difference as difference:
                 sys.exit(f"seed {given.seed}, case {number}: the answers differ; the case is in {difference}")
             endings[ending_of(answers[0])] += 1

@@ -1,6 +1,6 @@
 // What a checked plan reads and does, for people.
 use crate::checks::Checked;
-use crate::stages::{CheckedSource, Operator};
+use crate::stages::{CheckedSource, Operator, Stage};
 use fq_column::{Kind, Memory, Schema};
 use fq_expr::RowStep;
 use std::alloc::Global;
@@ -19,7 +19,7 @@ pub struct Explanation<'a> {
 }
 
 impl Checked {
-    /// What the plan reads and does. `Memory` where a growth is refused.
+    /// What the plan reads and does. `Memory` if an allocation fails.
     pub fn explain(&self, alloc: Global) -> Result<Explanation<'_>, Memory> {
         Ok(Explanation {
             plan: self,
@@ -31,26 +31,42 @@ impl Checked {
 impl Display for Explanation<'_> {
     fn fmt<W: Write>(&self, f: &mut Formatter<W>) -> fmt::Result {
         let plan = self.plan;
-        for (number, source) in plan.joins.iter().enumerate() {
-            write_source(f, number, source)?;
-        }
-        write_source(f, plan.joins.len(), &plan.main)?;
-        let steps = plan.leading.front.steps().iter();
-        for (number, (step, after)) in steps.zip(&self.leading).enumerate() {
-            write!(f, "step {number}, {}, in the workers:", row_word(step))?;
-            write_columns(f, after)?;
-        }
-        for stage in &plan.stages {
-            write!(
-                f,
-                "step {}, {}, afterwards:",
-                stage.number,
-                word(&stage.operator)
-            )?;
-            write_columns(f, &stage.after)?;
-        }
-        Ok(())
+        write_sources(f, plan)?;
+        write_leading(f, plan, &self.leading)?;
+        write_stages(f, &plan.stages)
     }
+}
+
+// The lines of the sources.
+fn write_sources<W: Write>(f: &mut Formatter<W>, plan: &Checked) -> fmt::Result {
+    for (number, source) in plan.joins.iter().enumerate() {
+        write_source(f, number, source)?;
+    }
+    write_source(f, plan.joins.len(), &plan.main)
+}
+
+// The lines of the leading steps, with the columns after each.
+fn write_leading<W: Write>(
+    f: &mut Formatter<W>,
+    plan: &Checked,
+    schemas: &[Schema],
+) -> fmt::Result {
+    let steps = plan.leading.front.steps().iter();
+    for (number, (step, after)) in steps.zip(schemas).enumerate() {
+        write!(f, "step {number}, {}, in the workers:", row_word(step))?;
+        write_columns(f, after)?;
+    }
+    Ok(())
+}
+
+// The lines of the steps after the leading ones.
+fn write_stages<W: Write>(f: &mut Formatter<W>, stages: &[Stage]) -> fmt::Result {
+    for stage in stages {
+        let word = word(&stage.operator);
+        write!(f, "step {}, {word}, afterwards:", stage.number)?;
+        write_columns(f, &stage.after)?;
+    }
+    Ok(())
 }
 
 // A source's line.

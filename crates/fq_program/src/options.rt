@@ -58,32 +58,61 @@ impl<'a> Options<'a> {
 
 // The command line, and its help.
 fn command<'a>(alloc: Global) -> Result<Command<'a>, AllocError> {
-    let plan = Arg::new(alloc, "plan")
+    Command::new(alloc, "frameq")
+        .no_binary_name(true)
+        .version(VERSION)
+        .about("Runs a plan over CSV files, and prints one CSV frame")
+        .after_help(AFTER_HELP)
+        .arg(plan(alloc))?
+        .arg(batch(alloc))?
+        .arg(workers(alloc))?
+        .arg(explain(alloc))?
+        .arg(progress(alloc))?
+        .arg(file(alloc)?)
+}
+
+fn plan<'a>(alloc: Global) -> Arg<'a> {
+    Arg::new(alloc, "plan")
         .long("plan")
         .value_name("PLAN")
         .required(true)
         .action(ArgAction::Set)
-        .help("The plan: a file with one JSON object, or - for standard input");
-    let batch = Arg::new(alloc, "batch")
+        .help("The plan: a file with one JSON object, or - for standard input")
+}
+
+fn batch<'a>(alloc: Global) -> Arg<'a> {
+    Arg::new(alloc, "batch")
         .long("batch")
         .value_name("N")
         .value_parser(value_parser!(u32).range(1..=65_536))
         .default_value("1024")
-        .help("Rows that are read and worked on at a time, from 1 to 65536");
-    let workers = Arg::new(alloc, "workers")
+        .help("Rows that are read and worked on at a time, from 1 to 65536")
+}
+
+fn workers<'a>(alloc: Global) -> Arg<'a> {
+    Arg::new(alloc, "workers")
         .long("workers")
         .value_name("N")
         .value_parser(value_parser!(u16).range(1..=16))
         .default_value("2")
-        .help("Threads that work on batches, from 1 to 16");
-    let explain = Arg::new(alloc, "explain")
+        .help("Threads that work on batches, from 1 to 16")
+}
+
+fn explain<'a>(alloc: Global) -> Arg<'a> {
+    Arg::new(alloc, "explain")
         .long("explain")
         .action(ArgAction::SetTrue)
-        .help("Print what each step of the plan leaves and where it runs; no data is read");
-    let progress = Arg::new(alloc, "progress")
+        .help("Print what each step of the plan leaves and where it runs; no data is read")
+}
+
+fn progress<'a>(alloc: Global) -> Arg<'a> {
+    Arg::new(alloc, "progress")
         .long("progress")
         .action(ArgAction::SetTrue)
-        .help("Show on standard error how far the files are read");
+        .help("Show on standard error how far the files are read")
+}
+
+fn file<'a>(alloc: Global) -> Result<Arg<'a>, AllocError> {
     let file = Arg::new(alloc, "file")
         .value_name("FILE")
         .required_unless_present("explain")?
@@ -92,17 +121,7 @@ fn command<'a>(alloc: Global) -> Result<Command<'a>, AllocError> {
         .help(
             "The CSV files, or - for standard input: those of the plan's first source, then those of the next, and so on",
         );
-    Command::new(alloc, "frameq")
-        .no_binary_name(true)
-        .version(VERSION)
-        .about("Runs a plan over CSV files, and prints one CSV frame")
-        .after_help(AFTER_HELP)
-        .arg(plan)?
-        .arg(batch)?
-        .arg(workers)?
-        .arg(explain)?
-        .arg(progress)?
-        .arg(file)
+    Ok(file)
 }
 
 const AFTER_HELP: &str =

@@ -68,23 +68,45 @@ fn run_options<T: Threads + Wait + Sync, O: Opener, W: Write>(
 ) -> Result<(), Failure>
     ensures unwritten { IfErr result (λ f. f ≢ failure.Run fault.Write → Keeps (W.contents out.old) (W.contents out.new)) }
 {
+    let plan = read_plan_file(alloc, options, files)?;
+    if options.explain() {
+        write_explanation(alloc, &plan, out)
+    } else if options.progress() {
+        run_with_progress(rt, alloc, &plan, options, files, out)
+    } else {
+        run_plan(rt, alloc, &plan, options, files, out)
+    }
+}
+
+// The plan of the plan file.
+fn read_plan_file<O: Opener>(
+    alloc: Global,
+    options: &Options<'_>,
+    files: &mut O,
+) -> Result<Checked, Failure> {
     if options.reads_input_twice() {
         return Err(Failure::InputTwice);
     }
     let name = options.plan().ok_or(Failure::PlanFile)?;
     let reader = open(files, name, Failure::PlanFile)?;
     let text = read_whole(alloc, reader, Failure::PlanFile)?;
-    let plan = checked_plan(alloc, text.as_slice())?;
-    if options.explain() {
-        return write_explanation(alloc, &plan, out);
-    }
-    if options.progress() {
-        files.show_progress();
-    }
-    let answer = run_plan(rt, alloc, &plan, options, files, out);
-    if options.progress() {
-        files.clear_progress();
-    }
+    checked_plan(alloc, text.as_slice())
+}
+
+// `run_plan`, with readers that show how far they are.
+fn run_with_progress<T: Threads + Wait + Sync, O: Opener, W: Write>(
+    rt: &T,
+    alloc: Global,
+    plan: &Checked,
+    options: &Options<'_>,
+    files: &mut O,
+    out: &mut W,
+) -> Result<(), Failure>
+    ensures unwritten { IfErr result (λ f. f ≢ failure.Run fault.Write → Keeps (W.contents out.old) (W.contents out.new)) }
+{
+    files.show_progress();
+    let answer = run_plan(rt, alloc, plan, options, files, out);
+    files.clear_progress();
     answer
 }
 

@@ -1,10 +1,13 @@
 // The check of a plan's steps.
-ghost use Rattle.std.specs.Prelude.{◌≡◌, ◌⊎◌, ◌+◌, ◌≤◌, ◌++◌, ◌∷◌, [], ℕ, List, Ok, Err, Some, None, map, length, vec_len, MatchOption, IfOk, IfErr, pos};
+ghost use Rattle.std.specs.Prelude.{◌≡◌, ◌⊎◌, ◌+◌, ◌≤◌, ◌++◌, ◌∷◌, [], ℕ, List, Ok, Err, Some, None, map, length, vec_len, MatchOption, IfOk, IfErr, pos, string_bytes};
 ghost use Rattle.fq_column.specs.Frame.{Fields};
-ghost use Rattle.fq_expr.specs.Kinds.{steps_schema};
+ghost use Rattle.fq_expr.specs.Kinds.{step_schema, steps_schema};
 ghost use Rattle.fq_expr.specs.Meaning.{step_of};
+ghost use Rattle.fq_ops.specs.Group.{group_schema as group_schema_of};
+ghost use Rattle.fq_ops.specs.Meaning.{outputs_of};
+ghost use Rattle.fq_ops.specs.Roll.{roll_schema as roll_schema_of};
 ghost use Rattle.fq_plan.specs.Judged.{judged_step, judged_steps, refused_at, IsPlaceOf};
-ghost use Rattle.fq_plan.specs.Plan.{PlanStep, front_of, item_at, rest_of, row_wise};
+ghost use Rattle.fq_plan.specs.Plan.{PlanStep, front_of, group_by, item_at, join, rest_of, rolling_sum, row_wise};
 ghost use Rattle.fq_plan.specs.Stages.{checked_fields, operator_steps, stage_steps, Leads, Turns};
 ghost use Rattle.fq_plan.specs.View.{plan_step_of};
 
@@ -13,7 +16,7 @@ use crate::plans::Step;
 use crate::stages::{CheckedSource, Operator, Stage};
 use fq_column::{Memory, Schema, StepFault};
 use fq_expr::{Front, RowStep};
-use fq_ops::{group_schema, join_schema, roll_schema};
+use fq_ops::{Agg, How, group_schema, join_schema, roll_schema};
 use std::alloc::Global;
 
 /// The leading row-wise steps, and the steps after them.
@@ -104,58 +107,112 @@ fn check_step(
     ensures refused { IfErr result (λ code. (judged_step (checked_fields joins.now) schema (plan_step_of step) ≡ Err code) ⊎ (code ≡ StepFault.Memory)) }
 {
     match step {
-        Step::Rows(step) => {
-            let after = step.schema(alloc, &schema)?;
-            let mut steps = Vec::with_capacity(alloc, 1)?;
-            steps.push(step)?;
-            let front = Front::new(alloc, steps, schema, number)?;
-            Ok((Operator::Rows(front), after))
-        }
+        Step::Rows(step) => check_rows(alloc, number, schema, step),
         Step::Join {
             source,
             on,
             how,
             nulls_equal,
-        } => {
-            let Some((source, right)) = source_at(joins, source) else {
-                return Err(StepFault::NoSuchSource);
-            };
-            let after = join_schema(alloc, &schema, &right.schema, on.as_slice(), how)?;
-            let operator = Operator::Join {
-                source,
-                on,
-                how,
-                nulls_equal,
-            };
-            Ok((operator, after))
-        }
-        Step::GroupBy { keys, aggs } => {
-            let after = group_schema(alloc, &schema, keys.as_slice(), aggs.as_slice())?;
-            Ok((Operator::GroupBy { keys, aggs }, after))
-        }
+        } => check_join(alloc, joins, &schema, source, on, how, nulls_equal),
+        Step::GroupBy { keys, aggs } => check_grouping(alloc, &schema, keys, aggs),
         Step::RollingSum {
             column,
             window,
             min_samples,
             name,
-        } => {
-            let after = roll_schema(
-                alloc,
-                &schema,
-                column.as_str(),
-                window,
-                min_samples,
-                name.as_str(),
-            )?;
-            let operator = Operator::RollingSum {
-                column,
-                window: window as u32,
-                min_samples: min_samples as u32,
-                name,
-            };
-            Ok((operator, after))
-        }
+        } => check_rolling(alloc, &schema, column, window, min_samples, name),
     }
+}
+
+// `check_step` of a row-wise step.
+fn check_rows(
+    alloc: Global,
+    number: u16,
+    schema: Schema,
+    step: RowStep,
+) -> Result<(Operator, Schema), StepFault>
+    requires { number + 1 ≤ 64 }
+    ensures step { IfOk result (λ r. operator_steps r.0 ≡ row_wise (step_of step) ∷ []) }
+    ensures turns { IfOk result (λ r. (joins : List Fields) → Turns joins number schema r.0 r.1) }
+    ensures refused { IfErr result (λ code. (step_schema schema (step_of step) ≡ Err code) ⊎ (code ≡ StepFault.Memory)) }
+{
+    let after = step.schema(alloc, &schema)?;
+    let mut steps = Vec::with_capacity(alloc, 1)?;
+    steps.push(step)?;
+    let front = Front::new(alloc, steps, schema, number)?;
+    Ok((Operator::Rows(front), after))
+}
+
+// `check_step` of a join.
+fn check_join(
+    alloc: Global,
+    joins: &[CheckedSource],
+    schema: &Schema,
+    source: i64,
+    on: Vec<String>,
+    how: How,
+    nulls_equal: bool,
+) -> Result<(Operator, Schema), StepFault>
+    ensures step { IfOk result (λ r. operator_steps r.0 ≡ join source (map string_bytes on.items) how nulls_equal ∷ []) }
+    ensures turns { IfOk result (λ r. (number : ℕ) → Turns (checked_fields joins.now) number schema.now r.0 r.1) }
+    ensures refused { IfErr result (λ code. (judged_step (checked_fields joins.now) schema.now (join source (map string_bytes on.items) how nulls_equal) ≡ Err code) ⊎ (code ≡ StepFault.Memory)) }
+{
+    let Some((source, right)) = source_at(joins, source) else {
+        return Err(StepFault::NoSuchSource);
+    };
+    let after = join_schema(alloc, schema, &right.schema, on.as_slice(), how)?;
+    let operator = Operator::Join {
+        source,
+        on,
+        how,
+        nulls_equal,
+    };
+    Ok((operator, after))
+}
+
+// `check_step` of a grouping.
+fn check_grouping(
+    alloc: Global,
+    schema: &Schema,
+    keys: Vec<String>,
+    aggs: Vec<Agg>,
+) -> Result<(Operator, Schema), StepFault>
+    ensures step { IfOk result (λ r. operator_steps r.0 ≡ group_by (map string_bytes keys.items) (outputs_of aggs.items) ∷ []) }
+    ensures turns { IfOk result (λ r. (joins : List Fields) (number : ℕ) → Turns joins number schema.now r.0 r.1) }
+    ensures refused { IfErr result (λ code. (group_schema_of schema.now (map string_bytes keys.items) (outputs_of aggs.items) ≡ Err code) ⊎ (code ≡ StepFault.Memory)) }
+{
+    let after = group_schema(alloc, schema, keys.as_slice(), aggs.as_slice())?;
+    Ok((Operator::GroupBy { keys, aggs }, after))
+}
+
+// `check_step` of a rolling sum.
+fn check_rolling(
+    alloc: Global,
+    schema: &Schema,
+    column: String,
+    window: i64,
+    min_samples: i64,
+    name: String,
+) -> Result<(Operator, Schema), StepFault>
+    ensures step { IfOk result (λ r. operator_steps r.0 ≡ rolling_sum (string_bytes column) window min_samples (string_bytes name) ∷ []) }
+    ensures turns { IfOk result (λ r. (joins : List Fields) (number : ℕ) → Turns joins number schema.now r.0 r.1) }
+    ensures refused { IfErr result (λ code. (roll_schema_of schema.now (string_bytes column) window min_samples (string_bytes name) ≡ Err code) ⊎ (code ≡ StepFault.Memory)) }
+{
+    let after = roll_schema(
+        alloc,
+        schema,
+        column.as_str(),
+        window,
+        min_samples,
+        name.as_str(),
+    )?;
+    let operator = Operator::RollingSum {
+        column,
+        window: window as u32,
+        min_samples: min_samples as u32,
+        name,
+    };
+    Ok((operator, after))
 }
 
 // The source of a number, which may be no source's.
