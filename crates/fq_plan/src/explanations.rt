@@ -1,4 +1,4 @@
-// What a checked plan reads and does, for people.
+//! What a checked plan reads and does, for people.
 use crate::checks::Checked;
 use crate::stages::{CheckedSource, Operator};
 use fq_column::{Kind, Memory, Schema};
@@ -19,7 +19,7 @@ pub struct Explanation<'a> {
 }
 
 impl Checked {
-    /// What the plan reads and does. `Memory` where a growth is refused.
+    /// What the plan reads and does. `Memory` if an allocation fails.
     pub fn explain(&self, alloc: Global) -> Result<Explanation<'_>, Memory> {
         Ok(Explanation {
             plan: self,
