@@ -1,11 +1,10 @@
 #!/usr/bin/env python3
-"""Measures the most memory that frameq takes over files of growing size.
+"""Measures the peak memory of frameq over files of growing size.
 
     bench/memory.py [--megabytes N]... [--program PATH] [--workers N]
 
 For each size a file of sales is made, the same at each call, and each task runs over it once. A line has the task, the size of
-the file and of what was printed, the seconds, and the most memory. Where a task has a bound, it is printed beside; the exit
-status is 1 where one is passed.
+the file and of what was printed, the seconds, the peak memory, and the bound on it. The exit status is 1 if a bound is exceeded.
 """
 import argparse
 import os
@@ -52,7 +51,7 @@ PRODUCT_LIST = '{"files":1,"columns":[["product","int"],["maker","text"]]}'
 
 @dataclass
 class Task:
-    """A plan over the files, and the most megabytes that it may take where it prints so many."""
+    """A plan over the files, and the bound on its peak memory in MB, by the megabytes that it prints."""
     name: str
     sources: str
     steps: str
@@ -97,7 +96,7 @@ TASKS = [
 
 
 def run(words, folder):
-    """Runs the words with output to a file: the seconds, the most megabytes, and the megabytes printed."""
+    """Runs a command with its output to a file: the seconds, the peak memory in MB, and the megabytes printed."""
     began = time.monotonic()
     with open(os.path.join(folder, "printed"), "wb") as out:
         child = subprocess.Popen(words, cwd=folder, stdin=subprocess.DEVNULL, stdout=out)

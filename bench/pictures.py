@@ -58,7 +58,7 @@ def chart_of(figures, title, shown, series_of, colours):
 
 
 def with_version(program):
-    """The name of a program with its version, where that is known."""
+    """The name of a program with its version, if that is known."""
     name, version = program["name"], program.get("version")
     return f"{name} ({version.removeprefix(name + ' ')})" if version else name
 
@@ -77,7 +77,7 @@ def workers_chart(figures):
 
 
 def description(chart):
-    """The figures of a chart in words, for readers who do not see it."""
+    """The figures of a chart in words, for readers who cannot see it."""
     lines = [f"{task}: " + ", ".join(f"{series} {seconds:.2f} s" for series, seconds in bars) for task, bars in chart.tasks]
     return f"Bar chart of seconds by task; a shorter bar is faster. {chart.note}. " + "; ".join(lines) + "."
 

@@ -6,7 +6,7 @@
 
 Inputs are made first, the same at each call. In each round every program runs once on each task, one after another; the
 first round is not timed, and there the answers are compared, as sets of rows. Peers: another frameq (--beside), mawk, Miller,
-SQLite, pandas, and R's data.table, where they are installed. Under `taskset -c 0` all run on one core. The figures can be saved as JSON
+SQLite, pandas, and R's data.table, if they are installed. Under `taskset -c 0` all run on one core. The figures can be saved as JSON
 and are then drawn beside it, as speed.svg and workers.svg; --draw draws saved figures again and runs nothing.
 """
 import argparse
@@ -121,7 +121,7 @@ class Task:
     sources: str
     steps: str
     files: List[str]
-    # what each peer runs; none where it has no CSV with quotes, or nothing of the kind
+    # what each peer runs; None if it has no CSV with quotes, or nothing of the kind
     awk: Optional[str]
     miller: Optional[List[str]]
     sqlite: Optional[str]
@@ -309,7 +309,7 @@ TASKS = {
 
 @dataclass
 class Program:
-    """What is timed: its name, its version, and the words that run a task in the folder of the inputs."""
+    """What is timed: its name, its version, and the command that runs a task in the folder of the inputs."""
     name: str
     version: str
     words: Callable[[str, Task], List[str]]
@@ -317,7 +317,7 @@ class Program:
 
 
 def first_line(words):
-    """The first line that a command prints, or none where it does not run."""
+    """The first line that a command prints, or None if it does not run."""
     try:
         ran = subprocess.run(words, stdin=subprocess.DEVNULL, stdout=subprocess.PIPE, stderr=subprocess.STDOUT, check=True)
     except (OSError, subprocess.CalledProcessError):
@@ -412,7 +412,7 @@ def data_table():
 
 @dataclass
 class Measure:
-    """What one run took: seconds on the clock, of the processor for itself and in the system, and the most memory in MB."""
+    """What one run took: seconds on the clock, of the processor for itself and in the system, and the peak memory in MB."""
     seconds: float
     user: float
     system: float
@@ -420,7 +420,7 @@ class Measure:
 
 
 def measure(words, folder, output):
-    """Runs words in the folder, with the answer in the file `output`."""
+    """Runs a command in the folder, with the answer in the file `output`."""
     with open(output, "wb") as out:
         start = time.perf_counter()
         child = subprocess.Popen(words, cwd=folder, stdin=subprocess.DEVNULL, stdout=out)
@@ -451,7 +451,7 @@ def compare_answers(key, task, programs, folder):
     measure(programs[0].words(key, task), folder, expected)
     for program in programs[1:]:
         measure(program.words(key, task), folder, output)
-        # In a process of its own, since what this one has held would count to the memory of those it starts.
+        # In a process of its own, since what this one has held would count towards the memory of those it starts.
         with multiprocessing.Pool(1) as judge:
             is_same = judge.apply(same_answer, (expected, output))
         if not is_same:

@@ -120,7 +120,7 @@ def join_step(draw, columns, joins, version):
 
 
 def column_name(draw, columns, kind=None):
-    """The name of a column, mostly of this kind where one is asked for."""
+    """The name of a column, mostly of this kind if one is asked for."""
     names = [name for name in columns if kind in (None, columns[name])]
     if draw.often(1):
         return UNKNOWN
@@ -128,7 +128,7 @@ def column_name(draw, columns, kind=None):
 
 
 def may_sum(draw, columns):
-    """Whether to sum a column: where one has whole numbers, and seldom where none has."""
+    """Whether to sum a column: if one has whole numbers, and seldom if none has."""
     return "int" in columns.values() or draw.often(10)
 
 
@@ -342,7 +342,7 @@ def field(draw, kind, care, nulls):
 
 
 def quoted(draw, text, care):
-    """A field as it stands in a file: in quotes where it needs them, seldom without; and now and then where it does not.
+    """A field as it stands in a file: in quotes if it needs them, seldom without; and now and then if it does not.
     Seldom its last bytes stand after the last quote, where quotes and all else are what they are."""
     needs_quotes = any(mark in text for mark in (b",", b'"', b"\r", b"\n"))
     if draw.often(100 - care.wrong if needs_quotes else 4):

@@ -3,10 +3,10 @@
 
     differential/compare.py [--cases N] [--seed S] [--version V] [--program PATH]
 
-Each case runs at four settings, one of them random, and where it has one file also without arguments. Where it has 16 files, the
-random setting has 16 workers. Output, exit status and the line on standard
-error are compared byte by byte. At the first difference the case is kept in a folder, whose path is printed, and the status
-is 1. At the end a table says how many cases ended in which way.
+Each case runs at four settings, one of them random, and, if it has one file, also without arguments. If it has 16 files, the
+random setting has 16 workers. Output, exit status and the line on standard error are compared byte by byte. At the first
+difference the case is kept in a folder, whose path is printed, and the status is 1. At the end a table says how many cases
+ended in which way.
 """
 import argparse
 import os
@@ -23,7 +23,7 @@ ROOT = os.path.dirname(os.path.dirname(os.path.abspath(__file__)))
 LONGEST_RUN = 60  # seconds
 SETTINGS = [[], ["--batch", "1", "--workers", "1"], ["--batch", "2", "--workers", "16"]]
 
-# One run of the program: its words, its standard input, and the answer that it is to give.
+# One run of the program: its arguments, its standard input, and the answer that it is to give.
 Run = namedtuple("Run", "words standard_input expected")
 
 
@@ -55,7 +55,7 @@ def write_case(folder, case):
 
 
 def runs_of(case):
-    """The runs of a case: at each setting, and without arguments where there is one file."""
+    """The runs of a case: at each setting, and without arguments if there is one file."""
     expected = oracle.answer(case.plan, case.files)
     drawn = ["--batch", str(case.batch), "--workers", str(case.workers)]
     runs = [Run([*setting, "--plan", "plan.json", *file_names(case)], b"", expected) for setting in [*SETTINGS, drawn]]
@@ -66,7 +66,7 @@ def runs_of(case):
 
 
 def answer_of(program, run, folder):
-    """The program's answer, or one that no program gives where the run does not end."""
+    """The program's answer, or one that no program gives if the run does not end."""
     setting = {"cwd": folder, "input": run.standard_input, "capture_output": True, "timeout": LONGEST_RUN}
     try:
         ran = subprocess.run([program, *run.words], **setting, check=False)
@@ -76,7 +76,7 @@ def answer_of(program, run, folder):
 
 
 def keep(case, run, actual):
-    """The path of a new folder with the case, the run's words and input, and both answers."""
+    """The path of a new folder with the case, the run's arguments and input, and both answers."""
     folder = tempfile.mkdtemp(prefix="frameq-difference-")
     write_case(folder, case)
     write(os.path.join(folder, "words"), " ".join(["frameq", *run.words]).encode() + b"\n")
@@ -95,7 +95,7 @@ def ending_of(answer):
 
 
 def compare(program, folder, case):
-    """The answers that the runs of a case are to give, where the program gives them."""
+    """The answers that the runs of a case are to give, if the program gives them."""
     write_case(folder, case)
     runs = runs_of(case)
     for run in runs:

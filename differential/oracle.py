@@ -3,7 +3,7 @@
 It is written from docs/GUIDE.md, docs/FAULTS.md and the definitions in `specs/` of the crates, and shares no code with the
 program: there are no batches, no columns and no threads here. All of it works on whole lists of rows. A row is a dict from
 the names of its columns to its cells, in the order of the columns. A cell is None (null), an int, bytes (a text, as UTF-8)
-or a bool; in one column they are of one kind. Want of memory and failures of devices are left out.
+or a bool; in one column they are of one kind. Running out of memory and failures of devices are left out.
 """
 import csv
 import io
@@ -70,7 +70,7 @@ MOST_NESTED = 127
 
 
 class NotJson(Exception):
-    """The bytes are no JSON."""
+    """The bytes are not JSON."""
 
 
 def json_of(text):
@@ -103,7 +103,7 @@ def finite(number):
 
 
 def refuse_constant(name):
-    """NaN and Infinity are no JSON."""
+    """NaN and Infinity are not JSON."""
     raise ValueError(name)
 
 
@@ -120,7 +120,7 @@ def nesting(characters):
 
 
 def has_lone_surrogate(value):
-    """Whether a string in the value is no Unicode text, since it has half of a pair of surrogates."""
+    """Whether a string in the value is not Unicode text, since it has half of a pair of surrogates."""
     if isinstance(value, str):
         return any("\ud800" <= character <= "\udfff" for character in value)
     if isinstance(value, list):
@@ -133,7 +133,7 @@ def has_lone_surrogate(value):
 # ---- reading a plan (fq_plan/specs/Spelling)
 
 class WrongShape(Exception):
-    """The JSON value is no plan."""
+    """The JSON value is not a plan."""
 
 
 def require(condition):
@@ -238,7 +238,7 @@ def group_of(value):
 
 
 def rolling_sum_of(value):
-    """A rolling sum; where `min_samples` is left out it is the window."""
+    """A rolling sum; if `min_samples` is left out it is the window."""
     require(isinstance(value, dict))
     if "min_samples" not in value:
         column, window, name = members_of(("column", "window", "name"), value)
@@ -487,7 +487,7 @@ csv.field_size_limit(1 << 30)
 
 
 def records_of(data):
-    """The records of a CSV file (RFC 4180). A mark of the byte order is no part of it, and an empty line is no record."""
+    """The records of a CSV file (RFC 4180). A byte order mark is not part of it, and an empty line is not a record."""
     data = data.removeprefix(b"\xef\xbb\xbf")
     # In latin-1 every byte is a character, so that fields are bytes again afterwards.
     lines = io.StringIO(data.decode("latin-1"), newline="")
@@ -495,7 +495,7 @@ def records_of(data):
 
 
 def cell_of(kind, field):
-    """The cell that a field is; ValueError where it is none."""
+    """The cell that a field is; ValueError if it is none."""
     if not field:
         return None
     if kind == "text":
@@ -557,7 +557,7 @@ def fitted(number):
 
 
 def value_of(expression, row):
-    """The value of an expression on a row. All parts are evaluated, also where one of them decides."""
+    """The value of an expression on a row. All parts are evaluated, even if one of them decides."""
     if isinstance(expression, Column):
         return row[expression.name]
     if isinstance(expression, Literal):
@@ -594,7 +594,7 @@ def value_of_binary(operator, left, right):
 
 
 def logic(operator, left, right):
-    """Kleene's logic: one side decides where it is false under `and`, or true under `or`; else null gives null."""
+    """Kleene's logic: one side decides if it is false under `and`, or true under `or`; else null gives null."""
     deciding = operator == "or"
     if left is deciding or right is deciding:
         return deciding
@@ -658,7 +658,7 @@ def apply_select(n, step, stream):
 
 
 def keys_match(left, right, step):
-    """Whether the keys of two rows are the same; a null matches nothing, or a null where nulls are equal."""
+    """Whether the keys of two rows are the same; a null matches nothing, or a null if nulls are equal."""
     return all((step.nulls_equal or left[name] is not None) and left[name] == right[name] for name in step.on)
 
 
@@ -728,7 +728,7 @@ def apply_group_by(n, step, stream):
 
 
 def apply_rolling_sum(n, step, stream):
-    """The sum over each row and those before it in the window, where it has values enough."""
+    """The sum over each row and those before it in the window, if it has values enough."""
     cells = [row[step.column] for row in stream.rows]
 
     def with_sum(pair):
@@ -762,8 +762,8 @@ def apply_step(n, step, columns, joins, stream):
 
 
 def meaning(plan, sources, columns_along, files):
-    """The rows that a checked plan means over its files. The first fault of the sources before the last goes first, also
-    where no step uses that source; then that in which the steps' stream ends."""
+    """The rows that a checked plan means over its files. The first fault of the sources before the last takes precedence,
+    even if no step uses that source, over that in which the steps' stream ends."""
     *join_streams, stream = streams_of_sources(plan, sources, files)
     fault = joined(join_streams).fault
     if fault is not None:
@@ -793,7 +793,7 @@ def text_of_field(field):
 
 
 def text_of_record(fields):
-    """A record's line; one empty field alone is quoted, since an empty line is no record."""
+    """A record's line; one empty field alone is quoted, since an empty line is not a record."""
     return b",".join(map(text_of_field, fields)) + (b'""\n' if fields == [b""] else b"\n")
 
 
@@ -814,7 +814,7 @@ def output_of(plan_text, files):
 
 
 def answer(plan_text, files):
-    """What the program answers to the bytes of a plan file and of data files, in the order of its words."""
+    """What the program answers to the bytes of a plan file and of data files, in the order of its arguments."""
     try:
         return Answer(0, output_of(plan_text, files), b"")
     except Ending as ending:

@@ -35,7 +35,7 @@ def copy_crates(room):
 
 
 def build_calls(room):
-    """Builds the program of rows by `rt try`, and gives its path, or what was said where it is not built.
+    """Builds the program of rows by `rt try`, and gives its path, or what was said if it is not built.
 
     `rt try` builds anew for each run, so its run is only held, by a pipe that it reads, until the program is copied.
     """

@@ -18,7 +18,7 @@ MOST_CALLS = 5000  # of one sort, in a run
 SEED, RANDOM_CASES, RUNS_OF_A_CASE = 1, 300, 8
 
 Answer = collections.namedtuple("Answer", "status out err")
-# A plan and its files: on the command line with these options, or on standard input where there are none.
+# A plan and its files: on the command line with these options, or on standard input if there are none.
 Row = collections.namedtuple("Row", "name plan files answer options", defaults=[("--workers", "2")])
 
 
@@ -49,7 +49,7 @@ OVER_TEN = '{"filter":["gt",{"col":"v"},10]}'
 JOINED = ["k,w\n1,a\n,b\n1,c\n", "k,v\n2,10\n1,20\n,30\n"]
 K_W_AND_K_V = [source(1, "k int", "w text"), source(1, "k int", "v int")]
 
-# Plans and files, with what the program answers where nothing is refused.
+# Plans and files, with what the program answers if nothing is refused.
 ROWS = [
     Row("two files in order", plan([source(2, "v int")], ""), ["v\n1\n2\n3\n", "v\n4\n5\n"],
         frame("v\n1\n2\n3\n4\n5\n"), ("--batch", "2")),
@@ -95,7 +95,7 @@ class Program:
             return self.run(self.arguments[row.name], stdin=file, **how)
 
     def run(self, arguments, under=(), **how):
-        """The answer of a run, under another command where one is given; or why there is none."""
+        """The answer of a run, under another command if one is given; or why there is none."""
         how = {"stdin": subprocess.DEVNULL, "stdout": subprocess.PIPE, "stderr": subprocess.PIPE, **how}
         try:
             ran = subprocess.run([*under, self.path, *arguments], timeout=LONGEST_RUN, **how)
@@ -125,7 +125,7 @@ SORTS = ("memory", "thread", "open", "read", "write", "interrupt", "short-read",
 
 
 def is_allowed(sort, answer, own):
-    """Whether an answer is allowed where a call of this sort is refused."""
+    """Whether an answer is allowed if a call of this sort is refused."""
     if answer == own:
         return True
     if sort in ("memory", "thread"):
@@ -169,7 +169,7 @@ def try_sort(count, name, run, own, library, sort):
 
 
 def build_library(count, room):
-    """The library that refuses calls, or nothing where it is not compiled."""
+    """The library that refuses calls, or None if it is not compiled."""
     library = f"{room}/refuse.so"
     compiler = [f"{KIT}/toolchain/bin/clang", "-fuse-ld=lld"] if os.path.exists(f"{KIT}/toolchain/bin/clang") else ["cc"]
     command = [*compiler, "-shared", "-fPIC", "-O2", "-nostdlib", "-ffreestanding", "-fno-builtin", "-o", library, f"{HERE}/refuse.c"]
@@ -183,7 +183,7 @@ def build_library(count, room):
 def try_program(count, pool, program, library):
     runs = [(row.name, functools.partial(program.run_row, row), row.answer) for row in ROWS]
     for status, *arguments in ARGUMENTS:
-        # what clap prints is its own, and the same where nothing is refused
+        # what clap prints is its own, and the same if nothing is refused
         run, name = functools.partial(program.run, arguments), " ".join(arguments)
         own = run()
         count.add("program, arguments", f"status {own.status}", None if own.status == status else f"{name}: {own}")

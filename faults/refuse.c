@@ -2,7 +2,7 @@
 
    REFUSE has the sort of the calls, and which of them is refused, counted from 1, as 'memory 7':
 
-       memory        malloc, calloc and realloc answer no memory
+       memory        malloc, calloc and realloc answer that they are out of memory
        thread        pthread_create answers EAGAIN
        open          open and openat answer EMFILE
        read          read answers EIO
@@ -11,7 +11,7 @@
        write         write answers EIO
        short-write   write takes one byte
 
-   Where a call is refused, a byte goes to the descriptor REFUSE_TELL. Needs no header. */
+   If a call is refused, a byte goes to the descriptor REFUSE_TELL. Needs no header. */
 
 #define RTLD_NEXT ((void *)-1L)
 enum { EINTR = 4, EIO = 5, EAGAIN = 11, ENOMEM = 12, EMFILE = 24, READ = 0, WRITE = 1, OPENAT = 257, HERE = -100 };

@@ -1,4 +1,4 @@
-"""The built program where the operating system refuses something."""
+"""The built program when the operating system refuses something."""
 import os
 import shutil
 import subprocess
@@ -186,7 +186,7 @@ def shrinking_files(count, program, room):
 
 
 def threads(count, program, rows):
-    """So many threads for the user, where this one may have them refused."""
+    """So many threads for the user, if this one may have them refused."""
     how = {} if os.geteuid() else {"user": "nobody", "extra_groups": []}
     try:
         why = None if program.run(rows[0][1], **how) == rows[0][2] else "nobody cannot run the program"

@@ -31,7 +31,7 @@ impl Column {
         }
     }
 
-    /// Copies a cell, into its own memory where both are texts.
+    /// Copies a cell, into its own memory if both are texts.
     pub fn read(&self, row: usize, cell: &mut Cell) {
         match (self, &mut *cell) {
             (Column::Text(values), Cell::Text(own)) if values[row].is_some() => {

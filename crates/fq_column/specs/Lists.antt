@@ -1,7 +1,7 @@
 -- Words on lists that std lacks.
 --     zip_with f xs ys      f of the items at each place, as far as both lists go
 --     keep mask xs      the items whose mark is true
---     value_if mark x      the value, where the mark is true
+--     value_if mark x      the value, if the mark is true
 --     numbers n      0 up to n
 --     pieces b xs      xs cut into runs of b
 --     is_distinct eq xs      whether no item is equal to a later one
@@ -23,7 +23,7 @@ keep [] xs = []
 keep (b ∷ bs) [] = []
 keep (b ∷ bs) (x ∷ xs) = if b then x ∷ keep bs xs else keep bs xs
 
--- the value, where the mark is true
+-- the value, if the mark is true
 abbrev pub value_if : {X : Type 0} → Bool → X → Option X
 value_if mark x = if mark then Some x else None
 

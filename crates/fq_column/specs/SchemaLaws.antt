@@ -1,4 +1,4 @@
--- The test of two schemas answers true exactly where they are equal.
+-- The test of two schemas answers true exactly if they are equal.
 use Rattle.std.specs.Prelude.{◌≡◌, true, refl}
 use Rattle.std.proofs.Common.{ap}
 use Rattle.std.specs.Bool.{Decides}

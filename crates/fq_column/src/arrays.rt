@@ -1,4 +1,4 @@
-// Arrays: values of one type, some of which are missing.
+//! Arrays: values of one type, some of which are missing.
 ghost use Rattle.std.specs.Prelude.{◌≡◌, ◌≤◌, ◌<◌, ◌++◌, [], ◌∷◌, Some, None, take, length, map, replicate, vec_len, IfOk, OnOk, OnErr, slice_get, slice_set, slice_index_or, option_copied, option_and_then};
 ghost use Rattle.fq_column.specs.Lists.{keep as kept, value_if};
 
@@ -10,14 +10,14 @@ use std::marker::Model;
 
 /// A value that an array can hold.
 pub trait Element: Drop {
-    /// What stands where no value is; takes no memory.
+    /// A filler for places without a value; allocates nothing.
     fn filler() -> Self;
 
     /// An equal value in memory of its own.
     fn copy_of(&self, alloc: Global) -> Result<Self, Memory>
         ensures copy { IfOk result (λ x. x ≡ self.now) };
 
-    /// Puts copies of the others at the end, or leaves the list as it was.
+    /// Appends copies of the others, or leaves the list as it was.
     fn append_copies(items: &mut Vec<Self>, others: &[Self]) -> Result<(), Memory>
         ensures ok { OnOk result (items.new.items ≡ items.old.items ++ others.now) }
         ensures err { OnErr result (items.new.items ≡ items.old.items) };
@@ -98,7 +98,7 @@ impl<T> Model for Array<T> {
 }
 
 impl<T: Element> Array<T> {
-    /// The empty array, which takes no memory.
+    /// The empty array, which allocates nothing.
     pub fn new(alloc: Global) -> Array<T>
         ensures { result ≡ [] }
     {
@@ -140,7 +140,7 @@ impl<T: Element> Array<T> {
         self.values.len()
     }
 
-    /// The value at place `i`, where it is there.
+    /// The value at place `i`, if it has one.
     pub fn get(&self, i: usize) -> Option<&T>
         requires { i < length self.now }
         ensures { slice_get self.now i ≡ Some (option_copied result) }

@@ -1,4 +1,4 @@
-// Batches: a schema and rows, kept as columns.
+//! Batches: a schema and rows, kept as columns.
 ghost use Rattle.std.specs.Prelude.{◌≡◌, ◌<◌, ◌≤◌, ◌++◌, ◌==◌, Some, None, take, length, map, not, All, IfOk, IfErr, IfNone, OnOk, OnErr, MatchResult, slice_get};
 ghost use Rattle.std.specs.Bool.{OnFalse};
 ghost use Rattle.std.specs.List.{list_all, zip};
@@ -39,8 +39,8 @@ impl Model for Batch {
 impl Batch {
     /// The batch of a schema's columns, with no copy.
     ///
-    /// Refused, in this order: `Width` where there are more or fewer columns than the schema has, `Kind` where a column
-    /// is not of its kind, `Length` where two columns differ in length. A refusal hands the schema and the columns back.
+    /// Refused, in this order: `Width` if there are more or fewer columns than the schema has, `Kind` if a column is not
+    /// of its kind, `Length` if two columns differ in length. A refusal hands the schema and the columns back.
     pub fn from_columns(
         schema: Schema,
         columns: Vec<Column>,
@@ -133,7 +133,7 @@ impl Batch {
 
     /// Puts a column in the place of the one of its name, or else last; may grow.
     ///
-    /// A refusal leaves the batch as it was.
+    /// If an allocation fails, the batch is as it was.
     pub fn put(&mut self, name: &str, column: Column) -> Result<(), Memory>
         requires height { length column.cells ≡ length self.old.rows }
         requires room { length (put_named self.old.fields (name.now, column.kind)) ≤ 64 }
@@ -144,7 +144,7 @@ impl Batch {
         Ok(())
     }
 
-    /// A copy of row `i`; takes memory for the row and each of its texts.
+    /// A copy of row `i`; allocates for the row and each of its texts.
     pub fn row(&self, alloc: Global, i: usize) -> Result<Vec<Cell>, Memory>
         requires { i < length self.now.rows }
         ensures { IfOk result (λ row. slice_get self.now.rows i ≡ Some row.items) }
@@ -168,7 +168,7 @@ impl Batch {
 
 /// Puts a column among the columns of a schema: in the place of the one of its name, or else last; may grow.
 ///
-/// A refusal leaves both as they were.
+/// If an allocation fails, both are as they were.
 pub fn put_column(
     schema: &mut Schema,
     columns: &mut Vec<Column>,
@@ -295,7 +295,6 @@ fn extend_columns(columns: &mut [Column], others: &mut IntoIter<Column>) -> Resu
     Ok(())
 }
 
-// Copies of the columns.
 fn copy_columns(alloc: Global, columns: &[Column]) -> Result<Vec<Column>, Memory>
     ensures { IfOk result (λ copies. copies.items ≡ columns.now) }
 {

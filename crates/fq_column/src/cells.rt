@@ -1,4 +1,4 @@
-// Kinds and cells.
+//! Kinds and cells.
 use crate::texts::Text;
 
 /// The kind of a column.

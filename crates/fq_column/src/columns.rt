@@ -1,4 +1,4 @@
-// Columns: cells of one kind.
+//! Columns: cells of one kind.
 ghost use Rattle.std.specs.Prelude.{◌≡◌, ◌<◌, ◌↔◌, ◌++◌, [], ◌∷◌, Some, take, length, map, IsTrue, IfOk, OnOk, OnErr, slice_get};
 ghost use Rattle.std.specs.Option.{option_map_or};
 ghost use Rattle.fq_column.specs.Column.{AreOfKind, cells_of};
@@ -40,7 +40,7 @@ impl Model for Column {
 }
 
 impl Column {
-    /// The empty column of a kind, which takes no memory.
+    /// The empty column of a kind, which allocates nothing.
     pub fn new(alloc: Global, kind: Kind) -> Column
         ensures { result ≡ record { kind = kind; cells = [] } }
     {
@@ -164,7 +164,7 @@ impl Column {
         }
     }
 
-    /// Appends a copy of a text; takes the text's memory, and may grow.
+    /// Appends a copy of a text; allocates for the text, and may grow.
     pub fn push_text(&mut self, text: &str) -> Result<(), Memory>
         requires { self.old.kind ≡ Kind.Text }
         ensures ok { OnOk result (self.new ≡ record self.old { cells = self.old.cells ++ Cell.Text text.now ∷ [] }) }
@@ -251,7 +251,7 @@ impl Column {
         }
     }
 
-    /// A copy of cell `i`; takes memory for a text.
+    /// A copy of cell `i`; allocates for a text.
     pub fn cell(&self, alloc: Global, i: usize) -> Result<Cell, Memory>
         requires { i < length self.now.cells }
         ensures { IfOk result (λ c. slice_get self.now.cells i ≡ Some c) }
@@ -270,7 +270,7 @@ impl Column {
         }
     }
 
-    /// Copies cell `i` into a cell, whose memory serves again where both are texts.
+    /// Copies cell `i` into a cell, whose memory is reused if both are texts.
     pub fn read_cell(&self, alloc: Global, i: usize, cell: &mut Cell) -> Result<(), Memory>
         requires { i < length self.now.cells }
         ensures { OnOk result (slice_get self.now.cells i ≡ Some cell.new) }

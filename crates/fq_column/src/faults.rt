@@ -1,4 +1,4 @@
-// Refusals of schemas, steps and batches, and want of memory.
+//! Refusals of schemas, steps and batches, and failed allocations.
 use std::alloc::{AllocError, AllocFailed};
 
 /// Why a schema or a step is refused; the numbers are those of the plan language's reference.
@@ -6,7 +6,7 @@ use std::alloc::{AllocError, AllocFailed};
 pub enum StepFault {
     /// A name that is not a column's.
     NoSuchColumn = 1,
-    /// An operand, key or column of another kind than is wanted.
+    /// An operand, key or column of the wrong kind.
     WrongKind = 2,
     /// Two columns of one name.
     DoubleName = 3,
@@ -14,7 +14,7 @@ pub enum StepFault {
     NotBool = 4,
     /// More than 64 columns.
     TooMany = 5,
-    /// No column, key or item where at least one is wanted.
+    /// No column, key or item where at least one is needed.
     NoColumn = 6,
     /// A join with a source that is not before the last.
     NoSuchSource = 7,
@@ -22,14 +22,14 @@ pub enum StepFault {
     Window = 8,
     /// A least number of values that is not 1 to the window.
     Samples = 9,
-    /// A growth was refused.
+    /// An allocation failed.
     Memory = 10,
 }
 
 /// Why columns do not make a batch of a schema.
 #[derive(Clone, Copy, Debug, PartialEq, Eq)]
 pub enum BatchFault {
-    /// Another number of columns than the schema has.
+    /// More or fewer columns than the schema has.
     Width = 1,
     /// A column of another kind than the schema says.
     Kind = 2,
@@ -37,7 +37,7 @@ pub enum BatchFault {
     Length = 3,
 }
 
-/// A growth was refused.
+/// An allocation failed.
 #[derive(Clone, Copy, Debug, PartialEq, Eq)]
 pub struct Memory;
 

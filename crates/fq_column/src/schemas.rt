@@ -1,4 +1,4 @@
-// Schemas: distinct names, each with the kind of its column.
+//! Schemas: distinct names, each with the kind of its column.
 ghost use Rattle.std.specs.Prelude.{◌≡◌, ◌<◌, ◌↔◌, None, Some, Ok, Err, map, length, string_bytes, not, IsTrue, IfOk, OnOk, OnErr, ◌≤◌, ◌++◌, ◌∷◌, [], MatchResult, slice_get};
 ghost use Rattle.std.specs.Cmp as laws;
 ghost use Rattle.fq_column.specs.Frame.{put_named, IsSchema, names_of, kinds_of, position_of, same_name};
@@ -34,8 +34,8 @@ impl Model for Schema {
 impl Schema {
     /// The schema of these names and kinds, with no copy.
     ///
-    /// Refused, in this order: `NoColumn` where there is no name, `TooMany` where there are more than 64, `DoubleName`
-    /// where two are equal, byte for byte.
+    /// Refused, in this order: `NoColumn` if there is no name, `TooMany` if there are more than 64, `DoubleName` if two
+    /// are equal, byte for byte.
     pub fn new(names: Vec<String>, kinds: Vec<Kind>) -> Result<Schema, StepFault>
         requires { length names.items ≡ length kinds.items }
         ensures ok { IfOk result (λ s. s ≡ fields_of (map string_bytes names.items) kinds.items) }
@@ -79,7 +79,7 @@ impl Schema {
         self.kinds[i]
     }
 
-    /// The place of a name, which is the only one, or none.
+    /// The place of the column with this name, or `None`.
     pub fn position(&self, name: &str) -> Option<usize>
         ensures { result ≡ position_of name.now (names_of self.now) }
     {
@@ -93,7 +93,7 @@ impl Schema {
 
     /// Puts a column in the place of the one of its name, or else last; may grow.
     ///
-    /// A refusal leaves the schema as it was.
+    /// If an allocation fails, the schema is as it was.
     pub fn put(&mut self, name: &str, kind: Kind) -> Result<(), Memory>
         requires { length (put_named self.old (name.now, kind)) ≤ 64 }
         ensures ok { OnOk result (self.new ≡ put_named self.old (name.now, kind)) }

@@ -1,4 +1,4 @@
-// A text of a cell, which contracts see as its bytes.
+//! A text of a cell, which contracts see as its bytes.
 ghost use Rattle.std.specs.Prelude.{◌≡◌, [], Some, refl, IfOk, OnOk, OnErr, nat_eq};
 ghost use Rattle.std.specs.Cmp as laws;
 ghost use Rattle.std.specs.Ordering.{nat_cmp};
@@ -26,9 +26,9 @@ enum Storage {
     Heap(String),
 }
 
-/// A text of a cell, which is equal to, ordered with and hashed as another by its UTF-8 bytes.
+/// A text of a cell. Texts are compared, ordered and hashed by their UTF-8 bytes.
 ///
-/// Up to 16 bytes lie in the value itself; a longer text takes memory.
+/// Up to 16 bytes lie in the value itself; a longer text is allocated.
 #[derive(Drop, Debug)]
 pub struct Text {
     storage: Storage,
@@ -44,7 +44,7 @@ impl Model for Text {
 }
 
 impl Text {
-    /// The empty text, which takes no memory.
+    /// The empty text, which allocates nothing.
     pub fn empty() -> Text
         ensures { result ≡ [] }
     {
@@ -53,7 +53,7 @@ impl Text {
         }
     }
 
-    /// A copy of these characters; takes memory where they are more than 16 bytes.
+    /// A copy of these characters; allocates if they are more than 16 bytes.
     pub fn new(alloc: Global, text: &str) -> Result<Text, Memory>
         ensures { IfOk result (λ t. t ≡ text.now) }
     {
@@ -74,7 +74,8 @@ impl Text {
         }
     }
 
-    /// Takes these characters in place of its own, in the same memory where it has some. Is empty after a refusal.
+    /// Takes these characters in place of its own, in the same memory if it has some. If an allocation fails, the text
+    /// is empty.
     pub fn assign(&mut self, alloc: Global, text: &str) -> Result<(), Memory>
         ensures ok { OnOk result (self.new ≡ text.now) }
         ensures err { OnErr result (self.new ≡ []) }
@@ -96,7 +97,7 @@ impl Text {
         Ok(())
     }
 
-    /// An equal text; takes memory where it is more than 16 bytes.
+    /// An equal text; allocates if it is more than 16 bytes.
     pub fn copy(&self, alloc: Global) -> Result<Text, Memory>
         ensures { IfOk result (λ t. t ≡ self.now) }
     {

@@ -1,4 +1,4 @@
-// Which places of an array have a value.
+//! Which places of an array have a value.
 ghost use Rattle.std.specs.Prelude.{◌≡◌, ◌<◌, ◌≤◌, ◌/◌, ◌*◌, ◌^◌, ◌+◌, ◌++◌, [], ◌∷◌, ℕ, take, length, if◌then◌else◌, IfOk, OnOk, OnErr, slice_get, slice_set, true, Some};
 ghost use Rattle.std.specs.Bool.{◌==◌};
 ghost use Rattle.fq_column.specs.Lists.{keep as kept};
@@ -14,7 +14,7 @@ const BITS: usize = 64;
 /// A mark for each place: true where a value is there.
 ///
 /// The marks lie in words of 64 bits, the lowest bit of a word first. Places behind the last word have a value, so marks take
-/// memory only up to the last place that has had none. What the words hold behind the last place says nothing.
+/// memory only up to the last place that has had none. Bits behind the last place have no meaning.
 #[derive(Drop)]
 pub struct Validity {
     words: Vec<u64>,
@@ -31,7 +31,7 @@ impl Model for Validity {
 }
 
 impl Validity {
-    /// No place; takes no memory.
+    /// No place; allocates nothing.
     pub fn new(alloc: Global) -> Validity
         ensures { result ≡ [] }
     {
@@ -56,7 +56,7 @@ impl Validity {
         read_mark(&self.words, i)
     }
 
-    /// One more place.
+    /// Appends a place with this mark.
     pub fn push(&mut self, mark: bool) -> Result<(), Memory>
         ensures ok { OnOk result (self.new ≡ self.old ++ mark ∷ []) }
         ensures err { OnErr result (self.new ≡ self.old) }
@@ -96,7 +96,7 @@ impl Validity {
         self.len = compact_marks(&mut self.words, mask);
     }
 
-    /// Copies of another's places, at the end.
+    /// Appends copies of another's places.
     pub fn append(&mut self, other: &Validity) -> Result<(), Memory>
         ensures ok { OnOk result (self.new ≡ self.old ++ other.now) }
         ensures err { OnErr result (self.new ≡ self.old) }
@@ -143,7 +143,7 @@ fn reach(words: &mut Vec<u64>, i: usize) -> Result<(), Memory>
     Ok(())
 }
 
-// Puts the mark of place `i`, which is true where the place lies behind the last word.
+// Puts the mark of place `i`, which is true if the place lies behind the last word.
 fn write_mark(words: &mut Vec<u64>, i: usize, mark: bool)
     requires { length words.old.items ≤ i / 64 → mark ≡ true }
     ensures length { length words.new.items ≡ length words.old.items }

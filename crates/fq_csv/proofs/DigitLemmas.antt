@@ -50,6 +50,6 @@ digits-numeral (c ∷ cs) l e = e
 pub few-numeral : (ds : List ℕ) → is_numeral ds ≡ true → length ds ≤ 18 → digits_value 10 ds < 10 ^ 18
 few-numeral ds e l = few-digits ds (numeral-digits ds e) l
 
--- a byte that is no digit
+-- a byte that is not a digit
 pub other : (ds : List ℕ) (i : ℕ) → i < length ds → is_ascii_digit (slice_index_or ds i 0) ≡ false → is_numeral ds ≡ true → ⊥
 other ds i l n e = range-digit (slice_index_or ds i 0) n (digit_at ds i (own.to ds (numeral-digits ds e)) l)

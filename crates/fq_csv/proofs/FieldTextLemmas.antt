@@ -20,7 +20,7 @@ mask-step true m r h = ap not (ne_eqb (1 + 2 * m) 0 (λ e. absurd (omega (arith,
 mask-step false zero r h = h
 mask-step false (suc m) r h = ap not (ne_eqb (0 + 2 * suc m) 0 (λ e. absurd (omega (arith, e)))) ∙ sym (ap not (ne_eqb (suc m) 0 (λ e. absurd (omega (arith, e))))) ∙ h
 
--- a lane is set where a byte passes the test
+-- some lane is set exactly if some byte passes the test
 pub any-mask : (p : ℕ → Bool) (xs : List ℕ) → not (mask_l (map p xs) == 0) ≡ list_any p xs
 any-mask p [] = refl
 any-mask p (x ∷ xs) = mask-step (p x) (mask_l (map p xs)) (list_any p xs) (any-mask p xs)

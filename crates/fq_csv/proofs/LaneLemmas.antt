@@ -1,4 +1,4 @@
--- Bytes that are looked at sixteen at once.
+-- Bytes that are examined sixteen at a time.
 use Rattle.std.specs.Prelude.{◌==◌, ◌||◌, bit_or, max, slice_index}
 use Rattle.std.proofs.Common.{◌≡◌, ◌<◌, ◌≤◌, ◌⊎◌, ◌∙◌, ◌+◌, ◌-◌, take, drop, cond, Bool, true, false, ℕ, zero, suc, List, [], length, map, get_or, inl, inr, refl, sym, ap, arith}
 use Rattle.std.specs.Int.{bit_at}

@@ -61,7 +61,7 @@ cell-of_column (row ∷ rows) (suc r) i h = cell-of_column rows r i (omega (arit
 
 -- ---- a record that is appended to a text
 
--- a record shows no byte where its fields and what is between them have none
+-- a record shows no byte exactly if its fields and what is between them have none
 blank-body : (cfg : WriterBuilder) (fields : List (List ℕ)) → is_blank cfg fields ≡ (length (row_body cfg fields) == 0)
 unfolding is_blank fields_text
 blank-body cfg [] = refl

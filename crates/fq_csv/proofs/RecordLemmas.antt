@@ -56,7 +56,7 @@ enough cfg (suc n) (suc m) s xs a b =
       ])
     ]
 
--- the records that are left, where there is a next one
+-- the records that are left, if there is a next one
 left-some : (s : State) (xs : List ℕ) (p : Read) → next_record default_config s [] [] xs ≡ Some p → records_left s xs ≡ p.0 ∷ records_left p.1 p.2
 unfolding records_from next_record
 left-some s xs p e = rw (add-one, e) (elim (next-shorter default_config s [] [] xs p e) [

@@ -136,7 +136,7 @@ Added-more nulls columns fs i now d new f cell a h e g n =
     let more = cells-step (zip_with (cell_under nulls) (kinds_in columns) fs) i cells cell a.1.1 (option-at nulls columns fs i now d f a h e ∙ ap Some g) in
     (cells ++ cell ∷ [], (count, more ∙ ap (λ n. take n (zip_with (cell_under nulls) (kinds_in columns) fs)) up), set_is ∙ ap (λ n. columns_after columns n (cells ++ cell ∷ [])) up)
 
--- a field that is no cell
+-- a field that is not a cell
 pub Added-bad : (nulls : List (List ℕ)) (height : ℕ) (columns : List Cells) (fs : Record) (i : ℕ) (now : List Cells) (d new : Cells) (f : List ℕ) → Added nulls columns fs i now → i < length columns → Some f ≡ slice_get fs i
     → cell_under nulls (get_or now i d).kind f ≡ None → new ≡ get_or now i d → All (λ (c : Cells). length c.cells ≡ height) columns
     → (row_by_kinds nulls (kinds_in columns) fs ≡ Err i) × (map (first_cells height) (set now i new) ≡ columns)

@@ -8,7 +8,7 @@ use Rattle.fq_csv.specs.declared.cutting.Place.{Place}
 use Rattle.fq_csv.specs.declared.faults.ScanFault.{ScanFault}
 use Rattle.fq_csv.specs.declared.faults.ScanFault.TheVariants.{Read, Memory}
 
--- the bytes that are left: those of the text, and then those of the reader, where they are known
+-- the bytes that are left: those of the text, and then those of the reader, if they are known
 abbrev pub left_of : {R : Type 0} → (R → Option (List ℕ)) → Buffer R → Option (List ℕ)
 left_of remaining b = prepend_known (drop b.at b.text.items) (remaining b.reader.reader)
 
@@ -32,7 +32,7 @@ pub record ReadsOn {R : Type 0} (remaining : R → Option (List ℕ)) (old new :
   pub added : new.text.items ≡ old.text.items ++ bytes
   pub left : Keeps (left_of remaining old) (left_of remaining new)
 
--- the reader failed, or memory was refused and the reader not asked
+-- the reader failed, or an allocation failed and the reader was not asked
 abbrev pub FailsBy : {R : Type 0} → Buffer R → Buffer R → ScanFault → Type 0
 FailsBy old new fault = ((fault ≡ Read old.file) × (new.has_failed ≡ true)) ⊎ ((fault ≡ Memory) × (new.reader ≡ old.reader))
 
@@ -52,6 +52,6 @@ pub record TakesNone {R : Type 0} (remaining : R → Option (List ℕ)) (old : B
   pub same : after ≡ before
   pub none : (bytes : List ℕ) → unread_of remaining old ≡ Some bytes → records default_config bytes ≡ []
 
--- the next record was taken where there is one, or none is left
+-- the next record was taken if there is one, or none is left
 abbrev pub TakesNext : {R : Type 0} → (R → Option (List ℕ)) → Buffer R → Buffer R → List Place → List Place → Bool → Type 0
 TakesNext remaining old new before after found = MatchBool found (TakesRecord remaining old new before after) (TakesNone remaining old before after)

@@ -15,7 +15,7 @@ use Rattle.fq_csv.specs.declared.stages.Stage.TheVariants as stage
 
 -- ---- one step
 
--- the stream that is left after some rows, where the bytes are known and no read failed
+-- the stream that is left after some rows, if the bytes are known and no read failed
 abbrev pub records_left_at : Fields → ℕ → Stage → Unread → ℕ → Option RecordStream
 records_left_at fields limit stage.Header unread row = option_map (records_under_header unread.file fields limit) unread.upcoming
 records_left_at fields limit stage.Rows unread row = option_map (records_after unread.file (length fields) limit row) unread.upcoming
@@ -46,14 +46,14 @@ pub record GivesRun (span : Span) (layout : Layout) (old new : Unread) (before a
   pub stream : (u : RecordStream) → records_left_at layout.schema span.limit before old span.from ≡ Some u
       → (run.records ≡ take span.size u.records) × (records_left_at layout.schema span.limit after new (span.from + length run.records) ≡ Some (without_records span.size u))
 
--- no record is left, and the text and the stream end so, or the reader failed and has stopped, or memory was refused
+-- no record is left, and the text and the stream end so, or the reader failed and has stopped, or an allocation failed
 abbrev pub GivesNoRun : Span → Fields → Unread → Unread → Stage → Stage → Type 0
 GivesNoRun span fields old new before stage.Header = ⊥
 GivesNoRun span fields old new before stage.Rows = ⊥
 GivesNoRun span fields old new before (stage.Closed fault) = (ending_of before ≡ None → IsOfText fault) × ((u : RecordStream) → records_left_at fields span.limit before old span.from ≡ Some u → u ≡ over fault)
 GivesNoRun span fields old new before (stage.Failed fault) = ending_of before ≡ None → StopsBy old.file new.stopped fault
 
--- a step from one stage to the next gives a run, or none where the records are over
+-- a step from one stage to the next gives a run, or none if the records are over
 abbrev pub IsRunStep : Span → Layout → Unread → Unread → Stage → Stage → Option FieldRun → Type 0
 IsRunStep span layout old new before after None = GivesNoRun span layout.schema old new before after
 IsRunStep span layout old new before after (Some run) = GivesRun span layout old new before after run
@@ -61,8 +61,8 @@ IsRunStep span layout old new before after (Some run) = GivesRun span layout old
 -- ---- a scan of records
 
 -- the file and its layout, the size of a run, how many rows went before, how many may still come, the records still to come,
--- where the reader tells its bytes and has not failed, the end, once it is known, and whether a read was the last, since the reader
--- failed in it or had no memory for its record
+-- if the reader tells its bytes and has not failed, the end, once it is known, and whether a read was the last, since the reader
+-- failed in it or an allocation for its record did
 pub record RecordScanning : Type 0 where
   pub file : ℕ
   pub layout : Layout
@@ -94,8 +94,8 @@ pub record IsNextRun (old : RecordScanning) (run : FieldRun) (new : RecordScanni
   pub in_room : new.room + length run.records ≡ old.room
   pub stopped : new.stopped ≡ old.stopped
 
--- the form of an end, which is known from now on; where it was not yet, it is one of the text's, or the reader failed and has
--- stopped, or memory was refused
+-- the form of an end, which is known from now on; if it was not yet, it is one of the text's, or the reader failed and has
+-- stopped, or an allocation failed
 pub record IsLastRun (old : RecordScanning) (fault : Option ScanFault) (new : RecordScanning) : Type 0 where
   pub known : new.ending ≡ Some fault
   pub cause : old.ending ≡ None → IsOfText fault ⊎ (((fault ≡ Some (Read old.file)) × (new.stopped ≡ true)) ⊎ (fault ≡ Some Memory))

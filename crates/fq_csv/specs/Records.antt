@@ -7,7 +7,7 @@ use Rattle.fq_csv.specs.declared.buffers.Buffer.{Buffer}
 use Rattle.fq_csv.specs.declared.faults.ScanFault.{ScanFault}
 use Rattle.fq_csv.specs.declared.faults.ScanFault.TheVariants.{Header, Width, BadCell, TooLong, Read, Memory}
 
--- the file's number, the fields of the records taken and not yet handed out, the records still to come, where the reader tells its
+-- the file's number, the fields of the records taken and not yet handed out, the records still to come, if the reader tells its
 -- bytes, and whether the reader failed
 pub record Unread : Type 0 where
   pub file : ℕ
@@ -15,7 +15,7 @@ pub record Unread : Type 0 where
   pub upcoming : Option (List Record)
   pub stopped : Bool
 
--- the records that a file has left, where its bytes are known
+-- the records that a file has left, if its bytes are known
 abbrev pub upcoming_of : {R : Type 0} → (R → Option (List ℕ)) → Buffer R → Option (List Record)
 upcoming_of remaining b = option_map (records default_config) (unread_of remaining b)
 
@@ -29,15 +29,15 @@ pub record IsOver (old new : Unread) : Type 0 where
   pub same : new.taken ≡ old.taken
   pub none : (before : List Record) → old.upcoming ≡ Some before → before ≡ []
 
--- the reader failed, or memory was refused
+-- the reader or an allocation failed
 abbrev pub IsFailure : ℕ → ScanFault → Type 0
 IsFailure file fault = (fault ≡ Read file) ⊎ (fault ≡ Memory)
 
--- the same, where a reader that failed has stopped
+-- the same, and a reader that failed has stopped
 abbrev pub StopsBy : ℕ → Bool → ScanFault → Type 0
 StopsBy file stopped fault = ((fault ≡ Read file) × (stopped ≡ true)) ⊎ (fault ≡ Memory)
 
--- the rows end as the text of the file says, and not since the reader failed or memory was refused
+-- the rows end as the text of the file says, and not because the reader or an allocation failed
 abbrev pub IsOfText : Option ScanFault → Type 0
 IsOfText None = ⊤
 IsOfText (Some (Header file)) = ⊤

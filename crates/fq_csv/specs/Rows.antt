@@ -22,7 +22,7 @@ with_cell column cell = record { kind = column.kind; cells = column.cells ++ cel
 abbrev pub with_row : List Cells → Row → List Cells
 with_row columns row = zip_with with_cell columns row
 
--- the row that a record's fields are under columns of these kinds, where these texts are null, or the place of the first field that is no cell
+-- the row that a record's fields are under columns of these kinds, where these texts are null, or the place of the first field that is not a cell
 abbrev pub row_by_kinds : List (List ℕ) → List Kind → Record → Result Row ℕ
 row_by_kinds nulls kinds record_fields = all_or_missing (zip_with (cell_under nulls) kinds record_fields)
 

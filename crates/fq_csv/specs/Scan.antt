@@ -13,8 +13,8 @@ use Rattle.fq_csv.specs.declared.scans.Scan.{Scan}
 use Rattle.fq_csv.specs.declared.scans.Scan.TheVariants.{Batch, End}
 
 -- the file and its layout, the size of a batch, how many batches went before, how many rows may still come,
--- the stream still to come, where the reader tells its bytes and has not failed, the end, once it is known, and whether a read
--- was the last, since the reader failed in it or had no memory for its record
+-- the stream still to come, if the reader tells its bytes and has not failed, the end, once it is known, and whether a read
+-- was the last, since the reader failed in it or an allocation for its record did
 pub record Scanning : Type 0 where
   pub file : ℕ
   pub layout : Layout
@@ -25,7 +25,7 @@ pub record Scanning : Type 0 where
   pub ending : Option (Option ScanFault)
   pub stopped : Bool
 
--- the rows of the records still to come; none but the fault, where that ended the rows before the records
+-- the rows of the records still to come; none but the fault, if that ended the rows before the records
 abbrev pub batches_left : Option ScanFault → RecordScanning → Option (Stream ScanFault)
 batches_left None r = option_map (rows_of_records r.file r.layout (r.taken + r.room) r.taken) r.upcoming
 batches_left (Some fault) r = Some (ended (Some fault))
@@ -55,8 +55,8 @@ pub record IsNextBatch (old : Scanning) (file serial : ℕ) (batch : Frame) (new
   pub in_room : new.room + length batch.rows ≡ old.room
   pub stopped : new.stopped ≡ old.stopped
 
--- the form of an end: it has the number of batches, and is known from now on; where it was not yet, it is one of the text's, or
--- the reader failed and has stopped, or memory was refused
+-- the form of an end: it has the number of batches, and is known from now on; if it was not yet, it is one of the text's, or
+-- the reader failed and has stopped, or an allocation failed
 pub record IsLastWord (old : Scanning) (file batches : ℕ) (fault : Option ScanFault) (new : Scanning) : Type 0 where
   pub number : file ≡ old.file
   pub counted : batches ≡ old.serial
@@ -70,7 +70,7 @@ abbrev pub HasForm : Scanning → Scan → Scanning → Type 0
 HasForm old (Batch file serial batch) new = IsNextBatch old file serial batch new
 HasForm old (End file batches fault) new = IsLastWord old file batches fault new
 
--- the reader failed, or memory was refused
+-- the reader or an allocation failed
 abbrev pub IsFailed : ℕ → Option ScanFault → Type 0
 IsFailed file fault = (fault ≡ Some (Read file)) ⊎ (fault ≡ Some Memory)
 

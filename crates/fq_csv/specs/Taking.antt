@@ -1,4 +1,4 @@
--- The records of a file that may be rows, before their fields are read as cells: up to the first that is past the limit or has another number of fields.
+-- The records of a file that may be rows, before their fields are read as cells: up to the first that is past the limit or has the wrong number of fields.
 use Rattle.std.specs.Prelude.{◌≡◌, ◌<◌, ◌≤◌, ◌+◌, ◌*◌, ◌++◌, ◌==◌, IfSome, ℕ, zero, suc, not, nat_lt, List, [], ◌∷◌, length, take, drop, Option, Some, None, option_map, if◌then◌else◌}
 use Rattle.csv.specs.Reading.{default_config, records, strip_bom}
 use Rattle.fq_column.specs.declared.cells.Kind.{Kind}
@@ -55,7 +55,7 @@ records_under_header file fields limit (r ∷ rs) = if pointwise same_name (name
 abbrev pub record_stream : ℕ → Fields → ℕ → List ℕ → RecordStream
 record_stream file fields limit bytes = records_under_header file fields limit (records default_config (strip_bom bytes))
 
--- the rows that such records are, after n rows: up to the first with a field that is no cell
+-- the rows that such records are, after n rows: up to the first with a field that is not a cell
 abbrev pub rows_of_records : ℕ → Layout → ℕ → ℕ → RecordStream → Stream ScanFault
 rows_of_records file layout limit n u = then_stream (rows_after file layout limit n u.records) (ended u.fault)
 
@@ -96,11 +96,11 @@ pub record ReadsRecords (span : Span) (width : ℕ) (old new : Unread) (stage : 
 abbrev pub record_at : ℕ → ℕ → Record → Record
 record_at n width fs = take width (drop (n * width) fs)
 
--- the fault of a field that is no cell, by its row and column, in a run after some rows
+-- the fault of a field that is not a cell, by its row and column, in a run after some rows
 abbrev pub bad_cell : ℕ → ℕ → ℕ × ℕ → ScanFault
 bad_cell file before place = BadCell file (before + place.0 + 1) place.1
 
--- columns hold the rows that records are, where these texts are null, up to the first with a field that is no cell, at this place
+-- columns hold the rows that records are, where these texts are null, up to the first with a field that is not a cell, at this place
 pub record HoldsRows (nulls : List (List ℕ)) (kinds : List Kind) (rs : List Record) (columns : List Cells) (bad : Option (ℕ × ℕ)) : Type 0 where
   pub rows : List Row
   pub held : Holds kinds columns rows
@@ -109,7 +109,7 @@ pub record HoldsRows (nulls : List (List ℕ)) (kinds : List Kind) (rs : List Re
   pub stream : (file before limit : ℕ) (layout : Layout) → layout.nulls ≡ nulls → kinds_of layout.schema ≡ kinds → before + length rs ≤ limit
       → rows_after file layout limit before rs ≡ record { rows = rows; fault = option_map (bad_cell file before) bad }
 
--- the rows of a batch are those of a run, up to the first record with a field that is no cell, which is this fault
+-- the rows of a batch are those of a run, up to the first record with a field that is not a cell, which is this fault
 pub record ReadsRun (run : FieldRun) (batch : Frame) (fault : Option ScanFault) : Type 0 where
   pub columns : batch.fields ≡ run.layout.schema
   pub in_limit : run.before + length run.records ≤ 2147483647
@@ -118,7 +118,7 @@ pub record ReadsRun (run : FieldRun) (batch : Frame) (fault : Option ScanFault) 
   pub cause : IsOfText fault
   pub stream : (limit : ℕ) → run.before + length run.records ≤ limit → rows_after run.file run.layout limit run.before run.records ≡ record { rows = batch.rows; fault = fault }
 
--- the first record of a run has a field that is no cell, which is this fault
+-- the first record of a run has a field that is not a cell, which is this fault
 pub record HasNoRow (run : FieldRun) (fault : ScanFault) : Type 0 where
   pub cause : IsOfText (Some fault)
   pub stream : (limit : ℕ) → run.before + length run.records ≤ limit → rows_after run.file run.layout limit run.before run.records ≡ ended (Some fault)

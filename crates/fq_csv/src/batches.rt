@@ -1,4 +1,4 @@
-// Batches of a file's columns.
+//! Batches of a file's columns.
 ghost use Rattle.std.specs.Prelude.{◌≡◌, ◌≤◌, ◌<◌, [], length, None, IfOk};
 ghost use Rattle.fq_column.specs.Batch.{batch_fault, frame_of};
 ghost use Rattle.fq_column.specs.Frame.{kinds_of};
@@ -30,7 +30,7 @@ fn batch_of(alloc: Global, schema: &Schema, columns: Vec<Column>) -> Result<Batc
     }
 }
 
-/// How many rows to have room for: all that the batch may have, but few where nothing shows yet that the file is long.
+/// How many rows to have room for: all that the batch may have, but few while nothing shows that the file is long.
 pub(crate) fn room_for(span: Span) -> usize
     ensures { result ≤ 2147483647 }
 {

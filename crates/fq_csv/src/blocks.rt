@@ -1,4 +1,4 @@
-// Blocks of sixteen bytes, which are looked at at once.
+//! Blocks of sixteen bytes, which are examined at once.
 ghost use Rattle.std.specs.Prelude.{◌≡◌, ◌==◌, map};
 ghost use Rattle.std.specs.Simd.Lanes.{mask_l};
 

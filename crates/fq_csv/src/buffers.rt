@@ -1,4 +1,4 @@
-// The bytes of a file, from which records are cut.
+//! The bytes of a file, from which records are cut.
 ghost use Rattle.std.specs.Prelude.{◌≡◌, ◌≤◌, ◌<◌, ◌++◌, ℕ, List, All, false, true, length, IfOk, IfErr, OnErr, OnOk};
 ghost use Rattle.std.specs.Io.KnownBytes.{Keeps};
 ghost use Rattle.fq_csv.specs.Buffer.{FailsBy, IsSound, KeepsFields, ReadsOn, TakesNext, left_of, unread_of};
@@ -18,7 +18,7 @@ const CHUNK: usize = 32_768;
 // The byte order mark, U+FEFF in UTF-8.
 const MARK: [u8; 3] = [0xEF, 0xBB, 0xBF];
 
-/// The bytes of a file that were read and are still wanted.
+/// The bytes of a file that were read and are still needed.
 #[derive(Drop)]
 pub(crate) struct Buffer<R: Read> {
     pub(crate) file: u16,
@@ -98,7 +98,7 @@ impl<R: Read> Buffer<R> {
         Ok(())
     }
 
-    // Passes over a byte order mark where the file begins.
+    // Skips a byte order mark at the start of the file.
     fn begin(&mut self) -> Result<(), ScanFault>
         requires sound { IsSound R.remaining self.old }
         requires fresh { self.old.has_begun ≡ false }

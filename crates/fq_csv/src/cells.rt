@@ -1,4 +1,4 @@
-// The rows that a run's records are.
+//! The rows that a run's records are.
 ghost use Rattle.std.specs.Prelude.{◌≡◌, ◌≤◌, ◌<◌, ◌*◌, ◌+◌, All, [], length, map, Ok, Err, IfOk, IfNone, IfSome};
 ghost use Rattle.fq_column.specs.Column.{Cells};
 ghost use Rattle.fq_column.specs.Frame.{Row};
@@ -14,8 +14,8 @@ use std::alloc::Global;
 /// Adds the rows that `count` records are, whose fields stand one after the other, to empty columns. A field that is one of
 /// `nulls` is null.
 ///
-/// At the first record with a field that is no cell of its column, the rows before it are in the columns, and the record's
-/// number, from 0, and the column's are the answer.
+/// At the first record with a field that is not a cell of its column, the rows before it are in the columns, and the
+/// record's number, from 0, and the column's are the answer.
 pub(crate) fn push_rows(
     alloc: Global,
     columns: &mut [Column],
@@ -39,7 +39,7 @@ pub(crate) fn push_rows(
 
 /// Adds the cells that a record's fields are to columns of as many cells as records went before, one to each.
 ///
-/// At a field that is no cell the columns are as before, and its place is the answer.
+/// At a field that is not a cell the columns are as before, and its place is the answer.
 fn push_row(
     columns: &mut [Column],
     fields: &RawFields,

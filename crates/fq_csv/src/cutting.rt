@@ -1,4 +1,4 @@
-// Fields in a text.
+//! Fields in a text.
 ghost use Rattle.std.specs.Prelude.{◌≡◌, ◌≤◌, ◌<◌, ◌==◌, ℕ, List, [], None, drop, length, true, get_or, IfOk, IfSome, IfNone, OnOk, OnErr};
 ghost use Rattle.csv.specs.declared.parser.State.TheVariants.{AfterQuote, InQuoted, StartField};
 ghost use Rattle.fq_csv.specs.Cutting.{CutsRecord, FieldEnds, IsInside, NoneEnds, NoQuote, Stands, StartsAt, between, ends_field, ends_within, field_at, next_of, quotes_after, unquoted, without_quotes};
@@ -14,7 +14,7 @@ use std::simd::prelude::*;
 pub(crate) struct Place {
     pub(crate) start: usize,
     pub(crate) end: usize,
-    /// Whether its bytes contain quotes that aren't part of the field.
+    /// Whether its bytes contain quotes that are not part of the field.
     pub(crate) is_raw: bool,
 }
 
@@ -80,14 +80,14 @@ fn quote_from(text: &[u8], from: usize) -> usize
 enum Quotes {
     /// The field is quoted from here on.
     Open,
-    /// A quote came, which another one makes a quote of the field, and all else makes the last.
+    /// A quote was read: a second one makes it a quote of the field, anything else makes it the last.
     Closing,
-    /// The last quote came.
+    /// The last quote was read.
     Closed,
 }
 
 impl Quotes {
-    // How far they are after a byte that doesn't end the field.
+    // How far they are after a byte that does not end the field.
     fn after(self, byte: u8) -> Quotes
         ensures { result ≡ quotes_after self byte }
     {
@@ -129,7 +129,7 @@ fn raw_end(text: &[u8], from: usize) -> usize
     text.len()
 }
 
-/// Puts the field that stands after its first quote into a buffer, which is emptied before.
+/// Puts the field that stands after its first quote into a buffer, which is emptied first.
 pub(crate) fn unquote(raw: &[u8], field: &mut Vec<u8>) -> Result<(), AllocError>
     ensures { OnOk result (field.new.items ≡ without_quotes raw.now) }
 {
@@ -146,7 +146,7 @@ pub(crate) fn unquote(raw: &[u8], field: &mut Vec<u8>) -> Result<(), AllocError>
     Ok(())
 }
 
-// A quoted field that starts after its first quote, and where what ends it is.
+// The quoted field that starts here, after its first quote, and the place of what ends it.
 fn quoted_field(text: &[u8], start: usize) -> (Place, usize)
     requires { start ≤ length text.now }
     ensures low { start ≤ result.1 }
@@ -188,7 +188,7 @@ fn quoted_field(text: &[u8], start: usize) -> (Place, usize)
     )
 }
 
-// The field that starts here, and where what ends it is.
+// The field that starts here, and the place of what ends it.
 fn field_in(text: &[u8], start: usize) -> (Place, usize)
     requires { start ≤ length text.now }
     ensures low { start ≤ result.1 }
@@ -238,7 +238,7 @@ fn record_start(text: &[u8], from: usize) -> usize
 
 /// Adds the places of the fields of the text's next record, which ends where the answer says.
 ///
-/// None where there is no record, or, unless the text is the last, no whole one; no place is added then.
+/// `None` if there is no record, or no whole one in a text that is not the last; no place is added then.
 pub(crate) fn cut_record(
     text: &[u8],
     from: usize,

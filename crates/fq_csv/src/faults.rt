@@ -1,4 +1,4 @@
-// Why the rows of a file end before its bytes do.
+//! Why the rows of a file end before its bytes do.
 use fq_column::Memory;
 use std::alloc::AllocError;
 
@@ -7,7 +7,7 @@ use std::alloc::AllocError;
 /// Files and columns count from 0, rows from 1, the header not counted.
 #[derive(Clone, Copy, Debug, PartialEq, Eq)]
 pub enum ScanFault {
-    /// The first record isn't the schema's names in their order, or there is no record.
+    /// The first record is not the schema's names in their order, or there is no record.
     Header {
         /// The file.
         file: u16,
@@ -19,7 +19,7 @@ pub enum ScanFault {
         /// The row.
         row: u32,
     },
-    /// A field isn't a cell of its column's kind.
+    /// A field is not a cell of its column's kind.
     BadCell {
         /// The file.
         file: u16,
@@ -38,7 +38,7 @@ pub enum ScanFault {
         /// The file.
         file: u16,
     },
-    /// A growth was refused.
+    /// An allocation failed.
     Memory,
 }
 

@@ -1,7 +1,7 @@
-// Fields that are appended to CSV text in memory.
-//
-// A number or a short text is appended with what stands behind it in an array, and that is cut off again: a copy of known size
-// takes no call.
+//! Fields that are appended to CSV text in memory.
+//!
+//! A number or a short text is appended together with what stands behind it in an array, which is then cut off again: a copy of
+//! known size needs no call.
 ghost use Rattle.std.specs.Prelude.{◌≡◌, ◌≤◌, ◌-◌, ◌==◌, ◌++◌, length, replicate, false, OnOk};
 ghost use Rattle.std.specs.List.{list_any};
 ghost use Rattle.std.specs.Fmt.{decimal, signed_decimal};
@@ -49,7 +49,7 @@ fn push_digits(text: &mut Vec<u8>, value: u64) -> Result<(), Memory>
     Ok(())
 }
 
-/// Appends a text: as it is, or between quotes where one of its bytes calls for them.
+/// Appends a text: as it is, or between quotes if one of its bytes calls for them.
 #[inline]
 pub(crate) fn push_text(text: &mut Vec<u8>, field: &[u8]) -> Result<(), Memory>
     ensures { OnOk result (text.new.items ≡ text.old.items ++ field_text default_writer field.now) }

@@ -1,4 +1,4 @@
-// The cells that fields are.
+//! The cells that fields are.
 ghost use Rattle.std.specs.Prelude.{◌≡◌, ◌≤◌, ◌++◌, ◌∷◌, [], Some, None, IfOk, MatchBool, length, option_map, true};
 ghost use Rattle.std.specs.Option.{SomeIff};
 ghost use Rattle.std.specs.Str.Parse.{digits_value, starts_with_minus, without_leading_sign};
@@ -40,7 +40,7 @@ fn split_sign(field: &[u8]) -> (bool, &[u8])
     }
 }
 
-/// The number that at most 18 digits write; none where they are none, or other bytes are among them.
+/// The number that at most 18 digits write; `None` if there are no digits, or other bytes are among them.
 fn few_digits(digits: &[u8]) -> Option<u64>
     requires few { length digits.now ≤ 18 }
     ensures { SomeIff result (is_numeral digits.now ≡ true) (digits_value 10 digits.now) }
@@ -92,9 +92,9 @@ fn text(field: &[u8]) -> Option<&str>
     }
 }
 
-/// Appends the cell that a field is, where these texts are null, to a column, and says whether it is one.
+/// Appends the cell that a field is to a column, with these texts as null, and says whether it is one.
 ///
-/// Takes memory for a text, and where the column grows.
+/// Allocates for a text, and if the column grows.
 pub(crate) fn push_field(
     column: &mut Column,
     field: &[u8],

@@ -1,4 +1,4 @@
-// All rows of a file as one batch.
+//! All rows of a file as one batch.
 ghost use Rattle.std.specs.Prelude.{◌≡◌, ◌⊎◌, Some, None, IfOk, IfErr};
 ghost use Rattle.fq_column.specs.Stream.{Stream};
 ghost use Rattle.fq_csv.specs.Records.{IsFailure};

@@ -1,4 +1,4 @@
-// The header of a file.
+//! The header of a file.
 ghost use Rattle.std.specs.Prelude.{◌≡◌, IfErr, IfOk, OnOk};
 ghost use Rattle.std.specs.Cmp.Lexicographic.{pointwise};
 ghost use Rattle.fq_column.specs.Frame.{names_of, same_name};

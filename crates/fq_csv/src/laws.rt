@@ -1,4 +1,4 @@
-// Laws of the definitions, proved for all values.
+//! Laws of the definitions, proved for all values.
 ghost use Rattle.std.specs.Prelude.{◌≡◌, ◌+◌, ◌<◌, ◌∷◌, [], ℕ, List, Option, Some, length, take};
 ghost use Rattle.fq_column.specs.Frame.{Fields};
 ghost use Rattle.fq_column.specs.Stream.{Stream};
@@ -12,8 +12,8 @@ ghost use Rattle.fq_csv.specs.declared.scans.Scan.{Scan as Answer};
 ghost use Rattle.fq_csv.specs.declared.scans.Scan.TheVariants.{Batch, End};
 
 /// What a scanner hands out, call by call, is the pieces of its stream's rows with serials in order, and then their
-/// number and the stream's end; where a read fails or memory is refused, it is the first of these. Where no text is read as
-/// null, each field is read by its column's kind alone.
+/// number and the stream's end; if a read or an allocation fails, it is the first of these. If no text is read as null,
+/// each field is read by its column's kind alone.
 pub fn scan_laws()
     ensures plain { (file limit : ℕ) (fields : Fields) (bytes : List ℕ) → file_stream file (plain fields) limit bytes ≡ stream_by cell_of file fields limit bytes }
     ensures next { (file size serial : ℕ) (fields : Fields) (u : Stream ScanFault) → 0 < size → 0 < length u.rows

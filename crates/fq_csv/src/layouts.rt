@@ -1,4 +1,4 @@
-// How the records of a file are read.
+//! How the records of a file are read.
 ghost use Rattle.std.specs.Prelude.{◌≡◌, IfOk, map, string_bytes};
 ghost use Rattle.fq_csv.specs.Field.{is_one_of};
 
@@ -6,7 +6,7 @@ use fq_column::{Memory, Schema, copy_strings};
 use std::alloc::Global;
 use std::marker::Model;
 
-/// Texts that are read as null: a field that is one of them, byte for byte, is null in a column of whatever kind.
+/// Texts that are read as null: a field that is one of them, byte for byte, is null in a column of any kind.
 ///
 /// Repeats change nothing, and an empty field is null without any. Polars calls them `null_values` of `scan_csv`.
 #[derive(Debug, Drop)]

@@ -1,4 +1,4 @@
-// Batches as CSV text.
+//! Batches as CSV text.
 ghost use Rattle.std.specs.Prelude.{◌≡◌, ◌<◌, ◌^◌, [], slice_index_or, map, length, IfOk, OnOk};
 ghost use Rattle.std.specs.Io.KnownBytes.{Appends, Keeps};
 ghost use Rattle.csv.specs.Writing.{default_writer, fields_written, has_written, tail_text, text_written, writer_setup};
@@ -44,9 +44,9 @@ pub fn print_rows(alloc: Global, batch: &Batch) -> Result<Vec<u8>, Memory>
     Ok(lines)
 }
 
-/// Writes the CSV text of a batch after what a writer holds, and hands the writer back; takes no memory of its own.
+/// Writes the CSV text of a batch after what a writer holds, and hands the writer back; allocates nothing of its own.
 ///
-/// Where the writer fails, it has taken an unknown part of the text.
+/// If the writer fails, it has taken an unknown part of the text.
 pub fn write_frame<W: Write + Drop>(out: W, batch: &Batch) -> Result<W, WriteFault>
     ensures { IfOk result (λ after. Appends (W.contents out) (W.contents after) (printed batch.now)) }
 {
@@ -153,7 +153,6 @@ fn put_field<W: Write + Drop>(writer: &mut Writer<W>, field: &[u8]) -> Result<()
     }
 }
 
-// Ends a record.
 fn end_record<W: Write + Drop>(writer: &mut Writer<W>) -> Result<(), WriteFault>
     requires { writer_setup writer.old ≡ default_writer }
     ensures between { OnOk result (IsBetween writer.new) }

@@ -1,4 +1,4 @@
-// Fields in the text that they were cut from.
+//! Fields in the text that they were cut from.
 ghost use Rattle.std.specs.Prelude.{◌≡◌, ◌<◌, All, Some, IfOk, length, slice_get};
 ghost use Rattle.fq_csv.specs.Cutting.{IsInside, fields_at};
 
@@ -41,7 +41,7 @@ impl RawFields {
         self.places.len()
     }
 
-    /// The bytes of a field, which are put into a buffer where its quotes are to be taken off.
+    /// The bytes of a field, which are put into a buffer if its quotes are to be taken off.
     pub(crate) fn get<'a>(&'a self, i: usize, unquoted: &'a mut Vec<u8>) -> Result<&'a [u8], Memory>
         requires { i < length self.now }
         ensures { IfOk result (λ field. Some field.now ≡ slice_get self.now i) }

@@ -1,4 +1,4 @@
-// Runs of records, and the batches that they are.
+//! Runs of records, and the batches that they are.
 ghost use Rattle.std.specs.Prelude.{◌≡◌, ◌≤◌, ◌<◌, ◌+◌, ◌*◌, length, option_map, IfOk, IfSome};
 ghost use Rattle.fq_column.specs.Frame.{kinds_of};
 ghost use Rattle.fq_csv.specs.Records.{IsOfText};
@@ -50,9 +50,10 @@ impl RecordRun {
     }
 
     /// The rows that the records are, in a batch, and the fault that ends them: `BadCell` at the first record with a field
-    /// that is no cell of its column.
+    /// that is not a cell of its column.
     ///
-    /// Takes the memory of the batch's columns, of texts over 16 bytes, and of one field with doubled quotes. `Memory` where a growth is refused.
+    /// Allocates for the batch's columns, for texts over 16 bytes, and for one field with doubled quotes. `Memory` if an
+    /// allocation fails.
     pub fn into_batch(self, alloc: Global) -> Result<(Batch, Option<ScanFault>), Memory>
         ensures { IfOk result (λ r. ReadsRun self r.0 r.1) }
     {
@@ -72,7 +73,7 @@ impl RecordRun {
     }
 }
 
-// The columns of the rows that `count` records are, up to the first with a field that is no cell, and its place.
+// The columns of the rows that `count` records are, up to the first with a field that is not a cell, and its place.
 fn columns_of(
     alloc: Global,
     layout: &Layout,
@@ -88,7 +89,7 @@ fn columns_of(
     Ok((columns, bad))
 }
 
-// The fault of a field that is no cell, by its place in a run after some rows.
+// The fault of a field that is not a cell, by its place in a run after some rows.
 fn fault_of(file: u16, before: u32, bad: Option<(u32, u16)>) -> Option<ScanFault>
     requires { IfSome bad (λ place. before + place.0 + 1 ≤ 2147483647) }
     ensures fault { result ≡ option_map (bad_cell file before) bad }

@@ -1,4 +1,4 @@
-// Scanners of records: the records of a file, handed out in runs.
+//! Scanners of records: the records of a file, handed out in runs.
 ghost use Rattle.std.specs.Prelude.{◌≡◌, ◌≤◌, Option, Some, None, false, IfOk, option_map};
 ghost use Rattle.fq_csv.specs.RecordScan.{HandsOutRun, HasRunForm, last_run};
 ghost use Rattle.fq_csv.specs.Taking.{RecordStream, record_stream};
@@ -56,8 +56,8 @@ impl<R: Read> RecordScanner<R> {
     /// A scan of the file number `file`, whose bytes a reader gives, in runs of `run_size` records, from 1 to
     /// [`MAX_BATCH_SIZE`].
     ///
-    /// The first record must be the names of the layout's schema. More rows than `limit`, at most [`MAX_ROWS`], are a fault. The reader's
-    /// bytes are buffered here, and nothing is read yet, nor memory taken.
+    /// The first record must be the names of the layout's schema. More rows than `limit`, at most [`MAX_ROWS`], are a
+    /// fault. The reader's bytes are buffered here. Nothing is read yet, and nothing is allocated.
     pub fn new(
         alloc: Global,
         reader: R,
@@ -110,12 +110,12 @@ impl<R: Read> RecordScanner<R> {
         &self.layout
     }
 
-    /// The next records of the file; none at its end.
+    /// The next records of the file; `None` at its end.
     ///
     /// Each run but the last has `run_size` records, and none is empty. Before `Header`, `Width` and `TooLong` the records
-    /// before that place are handed out; at `Read`, where the reader failed, and `Memory`, where a growth was refused, those
+    /// before that place are handed out. At `Read`, if the reader failed, and at `Memory`, if an allocation failed, those
     /// that were read since the last run are dropped. Once the end was answered, each further call answers that same end.
-    /// Memory is taken for a run, none for a record or a field.
+    /// A run allocates; a single record or field does not.
     pub fn next_run(&mut self) -> Result<Option<RecordRun>, ScanFault>
         ensures form { HasRunForm self.old result self.new }
         ensures stream { (u : RecordStream) → self.old.upcoming ≡ Some u → HandsOutRun self.old.file self.old.run_size u result self.new.upcoming }

@@ -1,4 +1,4 @@
-// The next records of a file as a run.
+//! The next records of a file as a run.
 ghost use Rattle.std.specs.Prelude.{◌≡◌, ◌≤◌, Option, Some, IfOk, IfErr, IsNone};
 ghost use Rattle.fq_csv.specs.RecordScan.{IsRunStep};
 ghost use Rattle.fq_csv.specs.Records.{StopsBy};
@@ -17,14 +17,14 @@ use crate::taking::take_records;
 use std::alloc::Global;
 use std::io::Read;
 
-/// A run, where there are records, and how the file goes on.
+/// A run, if there are records, and how the file goes on.
 #[derive(Drop)]
 pub(crate) struct RunStep {
     pub(crate) run: Option<RecordRun>,
     pub(crate) stage: Stage,
 }
 
-/// Reads the header where that wasn't done, and then the next records.
+/// Reads the header if that was not done, and then the next records.
 pub(crate) fn next_records<R: Read>(
     alloc: Global,
     records: &mut Records<R>,
@@ -66,7 +66,7 @@ fn read_run<R: Read>(
     }
 }
 
-// Reads the next records, or answers that the reader failed or memory was refused.
+// Reads the next records, or answers that the reader or an allocation failed.
 fn try_read_run<R: Read>(
     alloc: Global,
     records: &mut Records<R>,

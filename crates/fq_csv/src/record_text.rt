@@ -1,4 +1,4 @@
-// Records that are appended to CSV text in memory.
+//! Records that are appended to CSV text in memory.
 ghost use Rattle.std.specs.Prelude.{◌≡◌, ◌<◌, ◌≤◌, ◌==◌, ◌++◌, [], slice_index_or, map, length, vec_len, OnOk};
 ghost use Rattle.csv.specs.Writing.{default_writer, field_text, next_sep, row_text};
 ghost use Rattle.fq_column.specs.Frame.{IsFrame, value_at};
@@ -7,7 +7,7 @@ ghost use Rattle.fq_csv.specs.Printed.{cell_text, printed_names, printed_rows, r
 use crate::field_text::{push_plain, push_text, push_whole};
 use fq_column::{Batch, Column, Memory, Schema, Values};
 
-/// The bytes to reserve for each field. The text grows where fields are longer.
+/// The bytes to reserve for each field. The text grows if fields are longer.
 const FIELD_ROOM: usize = 8;
 
 /// Appends the names of columns as a record.
@@ -22,7 +22,7 @@ pub(crate) fn push_names(text: &mut Vec<u8>, schema: &Schema) -> Result<(), Memo
     end_record(text, start)
 }
 
-/// Appends the rows of a batch, each as a record; where their fields are short, memory is asked for once.
+/// Appends the rows of a batch, each as a record; allocates only once if their fields are short.
 pub(crate) fn push_rows(text: &mut Vec<u8>, batch: &Batch) -> Result<(), Memory>
     ensures { OnOk result (text.new.items ≡ text.old.items ++ printed_rows batch.now.rows) }
 {

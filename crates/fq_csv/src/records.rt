@@ -1,4 +1,4 @@
-// The records of a file.
+//! The records of a file.
 ghost use Rattle.std.specs.Prelude.{◌≡◌, [], MatchBool, false, IfOk, IfErr, OnErr, OnOk, length, option_map, take};
 ghost use Rattle.csv.specs.Reading.{default_config, records as records_of, strip_bom};
 ghost use Rattle.fq_csv.specs.File.{Record};

@@ -1,4 +1,4 @@
-// Reads that a signal interrupts.
+//! Reads that a signal interrupts.
 ghost use Rattle.std.specs.Prelude.{◌≢◌, IfErr};
 ghost use Rattle.std.specs.Io.{ReadsAtMost};
 ghost use Rattle.std.specs.Io.KnownBytes.{ReadConsumes};
@@ -7,7 +7,7 @@ ghost use Rattle.std.specs.IoError.{error_kind};
 use std::io;
 use std::io::{ErrorKind, Read};
 
-/// A reader whose reads are tried again where a signal interrupts them, as those of `read_to_end` are.
+/// A reader whose reads are tried again if a signal interrupts them, as those of `read_to_end` are.
 #[derive(Drop)]
 pub(crate) struct Retrying<R> {
     pub(crate) reader: R,

@@ -1,4 +1,4 @@
-// Scanners: the rows of a file, handed out in batches.
+//! Scanners: the rows of a file, handed out in batches.
 ghost use Rattle.std.specs.Prelude.{◌≡◌, ◌≤◌, ◌<◌, ◌⊎◌, Option, Some, None, false, length, IfOk, IfErr, option_map};
 ghost use Rattle.fq_column.specs.Stream.{Stream};
 ghost use Rattle.fq_csv.specs.File.{file_stream};
@@ -30,7 +30,7 @@ pub struct Scanner<R: Read> {
     records: RecordScanner<R>,
     serial: u32,
     rows: u32,
-    // why the rows ended before the records did: a field that is no cell, or refused memory
+    // why the rows ended before the records did: a field that is not a cell, or a failed allocation
     fault: Option<ScanFault>,
 }
 
@@ -105,10 +105,10 @@ impl<R: Read> Scanner<R> {
 
     /// The next rows of the file, or its end.
     ///
-    /// Each batch but the last has `batch_size` rows, and none is empty. The rows before a row that can't be read are
-    /// handed out; where the reader fails or memory is refused, the rows that were read since the last batch are
-    /// dropped. Once the end was handed out, each further call hands out that same end. A batch takes the memory of its
-    /// columns and of its records, and a record or a cell that is no text takes none.
+    /// Each batch but the last has `batch_size` rows, and none is empty. The rows before a row that cannot be read are
+    /// handed out; if the reader or an allocation fails, the rows that were read since the last batch are dropped. Once
+    /// the end was handed out, each further call hands out that same end. A batch allocates for its columns and its
+    /// records; a single record, or a cell that is not a text, does not.
     pub fn next_batch(&mut self) -> Scan
         ensures form { HasForm self.old result self.new }
         ensures stream { (u : Stream AnyFault) → self.old.upcoming ≡ Some u → HandsOut self.old.file self.old.batch_size u result self.new.upcoming }
@@ -153,7 +153,8 @@ fn end_of(file: u16, batches: u32, fault: Option<ScanFault>) -> Scan
     }
 }
 
-// The rows of a run, at least one, and the fault that ends them; or that fault, or that memory was refused, where there are none.
+// The rows of a run, at least one, and the fault that ends them. Answers that fault if there are none, and `Memory` if an
+// allocation failed.
 fn rows_of(alloc: Global, run: RecordRun) -> Result<(Batch, Option<ScanFault>), ScanFault>
     requires { 0 < length run.records }
     ensures rows { IfOk result (λ r. ReadsRun run r.0 r.1 × (0 < length r.0.rows)) }

@@ -1,4 +1,4 @@
-// What a scanner hands out.
+//! What a scanner hands out.
 use crate::faults::ScanFault;
 use fq_column::Batch;
 

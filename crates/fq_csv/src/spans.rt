@@ -1,4 +1,4 @@
-// The rows that one batch may take.
+//! The rows that one batch may take.
 ghost use Rattle.std.specs.Prelude.{◌≤◌, ◌<◌};
 
 /// The rows that one batch may take: those after row `from`, up to the limit, at most `size`.

@@ -1,4 +1,4 @@
-// How far a scan of a file has come.
+//! How far a scan of a file has come.
 ghost use Rattle.std.specs.Prelude.{◌≡◌, Some, IsSome};
 ghost use Rattle.fq_csv.specs.Stage.{ending_of};
 
@@ -13,7 +13,7 @@ pub enum Stage {
     Rows,
     /// The rows have ended, by a fault of the file's or at its end.
     Closed(Option<ScanFault>),
-    /// The reader failed, or memory was refused.
+    /// The reader or an allocation failed.
     Failed(ScanFault),
 }
 

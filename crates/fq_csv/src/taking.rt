@@ -1,4 +1,4 @@
-// Records of a file, taken one after the other.
+//! Records of a file, taken one after the other.
 ghost use Rattle.std.specs.Prelude.{◌≡◌, ◌≤◌, [], IfOk, IfErr, OnOk};
 ghost use Rattle.fq_csv.specs.Records.{StopsBy};
 ghost use Rattle.fq_csv.specs.Taking.{ReadsRecords};

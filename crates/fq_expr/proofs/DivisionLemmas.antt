@@ -8,7 +8,7 @@ use Rattle.std.proofs.lemmas.Int.{ints}
 use Rattle.std.proofs.Math.Nat.{div-add-mod, mod-lt}
 use Rattle.fq_expr.specs.Division.{floor_quotient, floor_remainder}
 
--- a value of a result, where it is one
+-- a value of a result, if it is one
 pub SomeIff-from_ok : {T E : Type 0} (r : Result T E) (P : Type 0) (v : T) → OkIff r P v → SomeIff (result_ok r) P v
 SomeIff-from_ok (Ok x) P v h = h
 SomeIff-from_ok (Err e) P v h = h

@@ -19,7 +19,7 @@ use Rattle.std.proofs.lemmas.List.{length-map}
 use Rattle.fq_expr.proofs.DistinctLemmas.{outputs-le}
 use Rattle.fq_expr.proofs.OutputLemmas.{item_fields-all_kinds, length-all_kinds, length-put_all, names-fields_of}
 
--- a refusal that is the judgement's, or want of memory
+-- a refusal that is the judgement's, or `Memory`
 pub refused : {X : Type 0} (expected : Result X StepFault) (fault : StepFault) → (expected ≡ Err fault) ⊎ (fault ≡ Memory) → IsJudgement expected (Err fault)
 refused expected fault (inl e) = inl (sym e)
 refused expected fault (inr e) = inr (ap Err e)
@@ -166,7 +166,7 @@ pub ok-is : {X : Type 0} (r : Result X StepFault) → IsOk r → (x : X) × (r �
 ok-is (Ok x) h = (x, refl)
 ok-is (Err f) h = absurd (cc)
 
--- an answer that is no refusal is the judgement's
+-- an answer that is not a refusal is the judgement's
 pub judgement-ok : {X : Type 0} (expected : Result X StepFault) (x : X) → IsJudgement expected (Ok x) → expected ≡ Ok x
 judgement-ok expected x (inl e) = sym e
 judgement-ok expected x (inr e) = absurd (cc)

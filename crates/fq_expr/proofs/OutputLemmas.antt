@@ -57,7 +57,7 @@ is_none-position p (x ∷ xs) = ap (λ o. is_none o) (position-cons p x xs) ∙ 
 
 -- ---- how many columns there are after outputs are put
 
--- no new column where the name is there, else one more
+-- no new column if the name is there, else one more
 pub length-put_named-by : {X : Type 0} (ps : List (Name × X)) (x : Name × X) → length (put_named ps x) ≡ length ps + cond (has_name (map (λ p. p.0) ps) x.0) 0 1
 length-put_named-by [] x = omega arith
 length-put_named-by (p ∷ ps) x = go (length-put_named-by ps x) (same_name x.0 p.0)

@@ -29,7 +29,7 @@ all_kinds-snoc fields (i ∷ items) x ks k e g = go (kind_of fields i.1) (all_ki
     go (Ok a) (Err f) ks h e = absurd (cc)
     go (Ok a) (Ok js) ks h e = ap (λ r. and_then r (λ ks. Ok (a ∷ ks))) (h js refl) ∙ ap (λ l. Ok (l ++ k ∷ [])) (let g : a ∷ js ≡ ks = cc in g)
 
--- each item has a kind, where all have
+-- each item has a kind, if all have
 pub kind-at : (fields : Fields) (items : List Item) (i : ℕ) (x : Item) → IsOk (all_kinds fields items) → i < length items → x ≡ get_or items i x → IsOk (kind_of fields x.1)
 kind-at fields [] i x h b e = absurd (omega (arith, b))
 kind-at fields (y ∷ items) i x h b e = go (kind_of fields y.1) (all_kinds fields items) refl (λ j c f g. kind-at fields items j x f c g) i h b e

@@ -17,6 +17,6 @@ answer_for test Greater = test.greater
 abbrev pub sameness_of : Bool → Cell → Cell → Option Cell
 sameness_of answer a b = Some (Truth (if answer then same_cell a b else not (same_cell a b)))
 
--- the left value, or the right one where the left is null
+-- the left value, or the right one if the left is null
 abbrev pub filled : Cell → Cell → Option Cell
 filled a b = Some (if is_null a then b else a)

@@ -15,7 +15,7 @@ use Rattle.fq_expr.specs.declared.expressions.Binary.{Binary}
 use Rattle.fq_expr.specs.declared.expressions.Binary.TheVariants.{Add, Sub, Mul, FloorDiv, Mod, Eq, Ne, Lt, Le, Gt, Ge, EqMissing, And, Or, FillNull}
 use Rattle.fq_expr.specs.Expression.{Expression, column, null, whole, text, truth, unary, binary, Item, Step, filter_by, with_columns, select}
 
--- the kind k, where the condition holds
+-- the kind k, if the condition holds
 abbrev pub kind_if : Bool → Kind → Result Kind StepFault
 kind_if condition k = if condition then Ok k else Err WrongKind
 

@@ -18,7 +18,7 @@ abbrev pub all_kinds : Fields → List Item → Result (List Kind) StepFault
 all_kinds fields [] = Ok []
 all_kinds fields (i ∷ items) = and_then (kind_of fields i.1) (λ k. and_then (all_kinds fields items) (λ ks. Ok (k ∷ ks)))
 
--- the item that faults, where one does
+-- the item that faults, if one does
 abbrev pub fault_of : {X : Type 0} → Result X ℕ → Option ℕ
 fault_of (Ok values) = None
 fault_of (Err i) = Some i

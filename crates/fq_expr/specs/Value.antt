@@ -14,16 +14,16 @@ use Rattle.fq_expr.specs.Kleene.{and_table, or_table, not_table}
 use Rattle.fq_expr.specs.Division.{floor_quotient, floor_remainder}
 use Rattle.fq_expr.specs.Expression.{Expression, column, null, whole, text, truth, unary, binary}
 
--- f of two whole numbers, or null where one of them is null
+-- f of two whole numbers, or null if one of them is null
 abbrev pub of_wholes : (ℤ → ℤ → Option Cell) → Cell → Cell → Option Cell
 of_wholes f (Whole a) (Whole b) = f a b
 of_wholes f a b = Some Null
 
--- what the test says of the order of two values, or null where one of them is null
+-- what the test says of the order of two values, or null if one of them is null
 abbrev pub compared : (Ordering → Bool) → Cell → Cell → Option Cell
 compared test a b = Some (if is_null a || is_null b then Null else Truth (test (cell_cmp a b)))
 
--- a value as a truth, where null is not known
+-- a value as a truth; null is not known
 abbrev pub truth_of : Cell → Option Bool
 truth_of (Truth b) = Some b
 truth_of c = None
@@ -32,7 +32,7 @@ abbrev pub truth_cell : Option Bool → Cell
 truth_cell (Some b) = Truth b
 truth_cell None = Null
 
--- null where b is 0, else f of both
+-- null if b is 0, else f of both
 abbrev pub unless_zero : (ℤ → ℤ → Option Cell) → ℤ → ℤ → Option Cell
 unless_zero f a b = if int_eq b (pos 0) then Some Null else f a b
 

@@ -1,4 +1,4 @@
-// One row-wise step on a batch.
+//! One row-wise step on a batch.
 ghost use Rattle.std.specs.Prelude.{◌≡◌, ◌≤◌, ◌<◌, All, map, take, length, zip, IfOk, IsOk, OnOk};
 ghost use Rattle.std.specs.Vec.Iter.{into_iter_items};
 ghost use Rattle.fq_column.specs.declared.cells.Cell.TheVariants as cell;
@@ -97,7 +97,7 @@ fn truth_mask(alloc: Global, rows: usize, operand: &Operand<'_, bool>) -> Result
     Ok(mask)
 }
 
-// Keeps the rows that the mask marks; where it marks all, nothing is touched.
+// Keeps the rows that the mask marks; if it marks all, nothing is touched.
 fn keep_marked(batch: &mut Batch, mask: &[bool])
     requires { length mask.now ≡ length batch.old.rows }
     ensures { batch.new ≡ record batch.old { rows = kept mask.now batch.old.rows } }

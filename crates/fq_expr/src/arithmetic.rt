@@ -1,4 +1,4 @@
-// Arithmetic of whole numbers.
+//! Arithmetic of whole numbers.
 ghost use Rattle.std.specs.Prelude.{◌≡◌, ◌+ℤ◌, ◌-ℤ◌, ◌*ℤ◌, ◌≢◌, ℤ, pos, Option, Some, FitsSigned};
 ghost use Rattle.std.specs.Int.{w64};
 ghost use Rattle.std.specs.Option.{SomeIff};
@@ -22,7 +22,7 @@ pub trait Arithmetic: Drop {
         ensures { computed_cell cells.Whole result ≡ gives self.now a b };
 }
 
-/// An operation on whole numbers that answers null where an operand is null.
+/// An operation on whole numbers that answers null if an operand is null.
 #[derive(Drop)]
 pub struct Arithmetically<F>(pub F);
 
@@ -42,7 +42,7 @@ impl<F: Arithmetic> Operation<i64, i64, i64> for Arithmetically<F> {
     }
 }
 
-// A whole number, or a fault where it doesn't fit 64 bits.
+// A whole number, or a fault if it does not fit 64 bits.
 fn checked(number: Option<i64>) -> Computed<i64>
     ensures { (z : ℤ) → SomeIff number (FitsSigned w64 z) z → computed_cell cells.Whole result ≡ fitted z }
 {
@@ -68,7 +68,7 @@ pub struct Mul;
 #[derive(Drop)]
 pub struct FloorDiv;
 
-/// What that quotient leaves.
+/// The remainder of that quotient.
 #[derive(Drop)]
 pub struct Mod;
 
@@ -118,7 +118,7 @@ impl Arithmetic for Mod {
     }
 }
 
-// The quotient rounded towards minus infinity, where it fits 64 bits.
+// The quotient rounded towards minus infinity, if it fits 64 bits.
 fn quotient(a: i64, b: i64) -> Option<i64>
     requires { b ≢ pos 0 }
     ensures { SomeIff result (FitsSigned w64 (floor_quotient a b)) (floor_quotient a b) }
@@ -129,7 +129,7 @@ fn quotient(a: i64, b: i64) -> Option<i64>
     i64::try_from((-i128::from(a)).div_euclid(-i128::from(b))).ok()
 }
 
-// What the quotient rounded towards minus infinity leaves: 0, or a number with the divisor's sign.
+// The remainder of the quotient rounded towards minus infinity: 0, or a number with the divisor's sign.
 fn remainder(a: i64, b: i64) -> i64
     requires { b ≢ pos 0 }
     ensures { result ≡ floor_remainder a b }

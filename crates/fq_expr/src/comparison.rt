@@ -1,4 +1,4 @@
-// Comparisons of two values of one kind.
+//! Comparisons of two values of one kind.
 ghost use Rattle.std.specs.Prelude.{◌≡◌, Option};
 ghost use Rattle.fq_column.specs.declared.cells.Cell.{Cell};
 ghost use Rattle.fq_expr.specs.Comparison.{answer_for, sameness_of, filled};
@@ -9,14 +9,14 @@ use fq_column::Memory;
 use std::alloc::Global;
 use std::cmp::Ordering;
 
-/// A comparison by the order of two values: its answer for each, and null where a value is null.
+/// A comparison by the order of two values: its answer for each order, and null if a value is null.
 #[derive(Drop)]
 pub struct Comparison {
-    /// Where the left value comes before the right.
+    /// The answer if the left value comes before the right.
     pub less: bool,
-    /// Where they are equal.
+    /// The answer if they are equal.
     pub equal: bool,
-    /// Where the left value comes after the right.
+    /// The answer if the left value comes after the right.
     pub greater: bool,
 }
 
@@ -60,7 +60,7 @@ impl Comparison {
     }
 }
 
-/// Whether two values are the same, or whether they differ, where null is a value as any other.
+/// Whether two values are the same, or whether they differ; null is a value like any other.
 #[derive(Drop)]
 pub struct Sameness {
     /// What it answers for two that are the same.
@@ -85,7 +85,7 @@ impl<T: Datum> Operation<T, T, bool> for Sameness {
     }
 }
 
-/// The left value, or the right one where the left is null.
+/// The left value, or the right one if the left is null.
 #[derive(Drop)]
 pub struct FillNull;
 

@@ -1,4 +1,4 @@
-// The values of an expression over the rows of a batch.
+//! The values of an expression over the rows of a batch.
 ghost use Rattle.std.specs.Prelude.{◌≡◌, ◌≤◌, map, take, length, IfOk, IsOk, Ok};
 ghost use Rattle.fq_column.specs.Frame.{value_named};
 ghost use Rattle.fq_column.specs.Lists.{before_missing, first_missing};

@@ -1,4 +1,4 @@
-// Expressions over the columns of a row, and their kinds.
+//! Expressions over the columns of a row, and their kinds.
 ghost use Rattle.std.specs.Prelude.{◌≡◌, Ok};
 ghost use Rattle.fq_column.specs.Schema.{kind_named};
 ghost use Rattle.fq_expr.specs.Kinds.{kind_of, kind_if, unary_kind, binary_kind};
@@ -9,7 +9,7 @@ use fq_column::{Kind, Schema, StepFault, Text};
 /// An operation on one value.
 #[derive(Clone, Copy, Debug, PartialEq, Eq)]
 pub enum Unary {
-    /// The negative of a whole number; null of null. A fault where it doesn't fit 64 bits.
+    /// The negative of a whole number; null of null. A fault if it does not fit 64 bits.
     Neg,
     /// The other truth value; null of null.
     Not,
@@ -21,18 +21,18 @@ pub enum Unary {
 
 /// An operation on two values, which are both always evaluated.
 ///
-/// Arithmetic and the comparisons but `EqMissing` answer null where an operand is null.
+/// Arithmetic and the comparisons but `EqMissing` answer null if an operand is null.
 #[derive(Clone, Copy, Debug, PartialEq, Eq)]
 pub enum Binary {
-    /// The sum; a fault where it doesn't fit 64 bits.
+    /// The sum; a fault if it does not fit 64 bits.
     Add,
-    /// The difference; a fault where it doesn't fit 64 bits.
+    /// The difference; a fault if it does not fit 64 bits.
     Sub,
-    /// The product; a fault where it doesn't fit 64 bits.
+    /// The product; a fault if it does not fit 64 bits.
     Mul,
-    /// The quotient rounded towards minus infinity; null for divisor 0, a fault where it doesn't fit 64 bits.
+    /// The quotient rounded towards minus infinity; null for divisor 0, a fault if it does not fit 64 bits.
     FloorDiv,
-    /// What `FloorDiv` leaves: 0, or a number with the divisor's sign; null for divisor 0.
+    /// The remainder of `FloorDiv`: 0, or a number with the divisor's sign; null for divisor 0.
     Mod,
     /// Whether the values are equal.
     Eq,
@@ -46,13 +46,13 @@ pub enum Binary {
     Gt,
     /// Whether the left value comes after the right or is equal to it.
     Ge,
-    /// Whether the values are equal, where null is equal to null alone.
+    /// Whether the values are equal; null is equal only to null.
     EqMissing,
-    /// Kleene's conjunction: false where one side is false, else null where one side is null, else true.
+    /// Kleene's conjunction: false if one side is false, else null if one side is null, else true.
     And,
-    /// Kleene's disjunction: true where one side is true, else null where one side is null, else false.
+    /// Kleene's disjunction: true if one side is true, else null if one side is null, else false.
     Or,
-    /// The left value, or the right one where the left is null.
+    /// The left value, or the right one if the left is null.
     FillNull,
 }
 
@@ -76,9 +76,9 @@ pub enum Expr {
 }
 
 impl Expr {
-    /// The kind of the expression over the columns of a schema; takes no memory.
+    /// The kind of the expression over the columns of a schema; allocates nothing.
     ///
-    /// Refused: `NoSuchColumn` where a name isn't a column's, `WrongKind` where an operand is of another kind than its
+    /// Refused: `NoSuchColumn` if a name is not a column's, `WrongKind` if an operand is not of the kind that its
     /// operation takes. Parts are judged from left to right, then the whole, and the first refusal is answered.
     pub fn kind_in(&self, schema: &Schema) -> Result<Kind, StepFault>
         ensures { result ≡ kind_of schema.now (expression_of self.now) }
@@ -114,7 +114,7 @@ fn column_kind(schema: &Schema, name: &str) -> Result<Kind, StepFault>
     Err(StepFault::NoSuchColumn)
 }
 
-// The kind, where the condition holds.
+// The kind, if the condition holds.
 fn kind_where(condition: bool, kind: Kind) -> Result<Kind, StepFault>
     ensures { result ≡ kind_if condition kind }
 {

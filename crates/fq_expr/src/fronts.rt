@@ -1,4 +1,4 @@
-// The row-wise steps of a plan, over one batch at a time.
+//! The row-wise steps of a plan, over one batch at a time.
 ghost use Rattle.std.specs.Prelude.{◌≡◌, ◌+◌, ◌≤◌, ◌==◌, length, map, vec_len, IfOk, IsOk};
 ghost use Rattle.fq_column.specs.Stream.{done};
 ghost use Rattle.fq_expr.specs.Front.{fault_at};
@@ -12,7 +12,7 @@ use fq_column::{Batch, Memory, Schema, StepFault};
 use std::alloc::Global;
 use std::marker::Model;
 
-/// An expression whose value on a row doesn't fit 64 bits: the step's number, and the item's in the step (a filter's is 0).
+/// An expression whose value on a row does not fit 64 bits: the step's number, and the item's in the step (a filter's is 0).
 #[derive(Clone, Copy, Debug, PartialEq, Eq)]
 pub struct RowFault {
     /// The step's number in the plan.
@@ -26,7 +26,7 @@ pub struct RowFault {
 pub struct Piece {
     /// The rows that the steps made of the rows before the first that faults.
     pub batch: Batch,
-    /// The fault of that row, or none where no row faults.
+    /// The fault of that row, or none if no row faults.
     pub fault: Option<RowFault>,
 }
 
@@ -60,7 +60,7 @@ impl Model for Front {
 impl Front {
     /// The front of these steps on batches of a schema; the list may be empty.
     ///
-    /// Its faults number the steps from `first`. `Memory` where a growth is refused.
+    /// Its faults number the steps from `first`. `Memory` if an allocation fails.
     pub fn new(
         _alloc: Global,
         steps: Vec<RowStep>,
@@ -92,7 +92,7 @@ impl Front {
         self.steps.as_slice()
     }
 
-    /// The columns after each step, in order. `Memory` where a growth is refused.
+    /// The columns after each step, in order. `Memory` if an allocation fails.
     pub fn schemas(&self, alloc: Global) -> Result<Vec<Schema>, Memory>
         ensures { IfOk result (λ schemas. schemas.items ≡ fields_after_each self.now.fields self.now.steps) }
     {
@@ -114,8 +114,8 @@ impl Front {
 
     /// The steps on the rows of a batch.
     ///
-    /// Each step sees the rows that the step before it made, so the fault of the earliest row wins whatever the batch;
-    /// within a row the lowest step, then the lowest item. The rows before it stay.
+    /// Each step sees the rows that the step before it made. So the fault of the earliest row takes precedence whatever the
+    /// batch; within a row that of the lowest step, then that of the lowest item. The rows before it stay.
     pub fn apply(&self, alloc: Global, batch: Batch) -> Result<Piece, Memory>
         requires { batch.fields ≡ self.now.fields }
         ensures fields { IfOk result (λ p. p.batch.fields ≡ fields_after_all self.now.fields self.now.steps) }

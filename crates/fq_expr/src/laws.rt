@@ -1,4 +1,4 @@
-// Laws of the definitions, proved for all values.
+//! Laws of the definitions, proved for all values.
 ghost use Rattle.std.specs.Prelude.{◌≡◌, ℕ, List};
 ghost use Rattle.fq_column.specs.Frame.{Fields};
 ghost use Rattle.fq_column.specs.Stream.{Stream, then_stream};

@@ -1,6 +1,6 @@
 //! Expressions over the columns of a batch, and the row-wise steps `filter`, `with_columns` and `select`.
 //!
-//! What they mean is defined row by row: the value of an expression on a row, or a fault where it doesn't fit 64 bits
+//! What they mean is defined row by row: the value of an expression on a row, or a fault if it does not fit 64 bits
 //! (specs/Value.antt), the kind of an expression in a schema (specs/Kinds.antt), and the rows of a step before the first
 //! that faults (specs/Steps.antt). They are evaluated column by column, which gives the same:
 //!

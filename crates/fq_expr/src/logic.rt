@@ -1,4 +1,4 @@
-// Kleene's strong three-valued logic, in which null is a truth that is not known.
+//! Kleene's strong three-valued logic, in which null is a truth that is not known.
 ghost use Rattle.std.specs.Prelude.{◌≡◌, Option, Some};
 ghost use Rattle.fq_column.specs.declared.cells.Cell.{Cell};
 ghost use Rattle.fq_expr.specs.Kleene.{and_table, or_table};
@@ -8,7 +8,7 @@ use crate::operations::{Computed, Operation};
 use fq_column::Memory;
 use std::alloc::Global;
 
-/// False where one side is false, else null where one side is null, else true.
+/// False if one side is false, else null if one side is null, else true.
 #[derive(Drop)]
 pub struct And;
 
@@ -29,7 +29,7 @@ impl Operation<bool, bool, bool> for And {
     }
 }
 
-/// True where one side is true, else null where one side is null, else false.
+/// True if one side is true, else null if one side is null, else false.
 #[derive(Drop)]
 pub struct Or;
 

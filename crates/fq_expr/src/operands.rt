@@ -1,4 +1,4 @@
-// What an operation reads in each row.
+//! What an operation reads in each row.
 ghost use Rattle.std.specs.Prelude.{◌≡◌, ◌+◌, ℕ, IfOk, length, option_copied, replicate};
 ghost use Rattle.fq_column.specs.declared.cells.Cell.TheVariants as cell;
 ghost use Rattle.fq_column.specs.Column.{cells_of};
@@ -33,14 +33,14 @@ pub enum AnyOperand<'a> {
 /// What an expression was evaluated to: its values in the rows before the first that faults.
 #[derive(Drop)]
 pub struct Outcome<'a> {
-    /// The values; it may have more rows than count.
+    /// The values; there may be more of them than `rows`.
     pub operand: AnyOperand<'a>,
     /// How many rows stand before the first that faults.
     pub rows: usize,
 }
 
 impl<T: Element> Operand<'_, T> {
-    /// The value in row `i`, or none where it is null.
+    /// The value in row `i`, or none if it is null.
     pub fn get(&self, i: usize) -> Option<&T>
         requires { HasRows (i + 1) self.now }
         ensures { IsInRow i self.now (option_copied result) }

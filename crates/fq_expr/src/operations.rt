@@ -1,4 +1,4 @@
-// Operations on two values, and the loop that runs one over the rows of a batch.
+//! Operations on two values, and the loop that runs one over the rows of a batch.
 ghost use Rattle.std.specs.Prelude.{◌≡◌, false, map, Option, IfOk, option_copied};
 ghost use Rattle.fq_column.specs.declared.cells.Cell.{Cell};
 ghost use Rattle.fq_column.specs.Cell.{cell_cmp, is_null, same_cell};
@@ -18,7 +18,7 @@ pub enum Computed<T> {
     Value(T),
     /// Null.
     Null,
-    /// A whole number that doesn't fit 64 bits.
+    /// A whole number that does not fit 64 bits.
     Fault,
 }
 
@@ -34,7 +34,7 @@ pub trait Datum: Element + Ord {
     /// Cells are ordered as their values are.
     ghost ordered: { (x y : Self) → cell_cmp (cell x) (cell y) ≡ Self.cmp x y };
 
-    /// Cells are the same where their values are equal.
+    /// Cells are the same exactly when their values are equal.
     ghost same: { (x y : Self) → same_cell (cell x) (cell y) ≡ Self.eq x y };
 
     /// The cell of a value is not null.
@@ -97,7 +97,7 @@ pub trait Operation<A: Datum, B: Datum, C: Datum> {
     /// What it gives for two cells, or a fault.
     ghost gives: { Self → Cell → Cell → Option Cell };
 
-    /// What it makes of the values of a row; takes memory for a text.
+    /// What it makes of the values of a row; allocates for a text.
     fn at(&self, alloc: Global, left: Option<&A>, right: Option<&B>) -> Result<Computed<C>, Memory>
         ensures { IfOk result (λ made. computed_cell C.cell made
             ≡ gives self.now (nullable A.cell (option_copied left.entry)) (nullable B.cell (option_copied right.entry))) };

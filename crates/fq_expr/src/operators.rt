@@ -1,4 +1,4 @@
-// The operators of expressions, on operands of any kind.
+//! The operators of expressions, on operands of any kind.
 ghost use Rattle.std.specs.Prelude.{◌≡◌, map, IfOk, IsOk, Ok};
 ghost use Rattle.fq_column.specs.Column.{cells_of};
 ghost use Rattle.fq_column.specs.Lists.{before_missing, zip_with};
@@ -202,7 +202,7 @@ fn logic<O: Operation<bool, bool, bool>>(
     }
 }
 
-// The values of the left operand, or those of the right one where the left is null.
+// The values of the left operand, or those of the right one if the left is null.
 fn fill_null(
     alloc: Global,
     rows: usize,

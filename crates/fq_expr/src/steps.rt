@@ -1,4 +1,4 @@
-// Row-wise steps, and the schema after one.
+//! Row-wise steps, and the schema after one.
 ghost use Rattle.std.specs.Prelude.{◌≡◌, ◌≤◌, length, map, not, Ok, Err, ◌⊎◌, IfOk, IfErr, string_bytes};
 ghost use Rattle.fq_column.specs.Frame.{same_name, has_name as named, put_all};
 ghost use Rattle.fq_column.specs.Lists.{is_distinct};
@@ -26,13 +26,12 @@ pub enum RowStep {
 }
 
 impl RowStep {
-    /// The schema after the step; takes memory for its names.
+    /// The schema after the step; allocates for its names.
     ///
-    /// Refused, in this order. `Filter`: `NoSuchColumn` or `WrongKind` of the predicate, `NotBool` where it isn't a truth
-    /// value. `WithColumns`: output by output `NoSuchColumn` or `WrongKind`; `TooMany` where the columns and the outputs
-    /// whose name isn't among them are more than 64; `DoubleName` where two outputs have one name. `Select`: `NoColumn`
-    /// where there is no output; then as `WithColumns`, with `TooMany` for more than 64 outputs. `Memory` where a growth
-    /// is refused.
+    /// Refused, in this order. `Filter`: `NoSuchColumn` or `WrongKind` of the predicate, `NotBool` if it is not a truth
+    /// value. `WithColumns`: output by output `NoSuchColumn` or `WrongKind`; `TooMany` if the columns and the outputs whose
+    /// name is not among them are more than 64; `DoubleName` if two outputs have one name. `Select`: `NoColumn` if there is
+    /// no output; then as `WithColumns`, with `TooMany` for more than 64 outputs. `Memory` if an allocation fails.
     pub fn schema(&self, alloc: Global, schema: &Schema) -> Result<Schema, StepFault>
         ensures { IsJudgement (step_schema schema.now (step_of self.now)) result }
     {
@@ -113,7 +112,7 @@ fn copy_names(alloc: Global, items: &[(String, Expr)]) -> Result<Vec<String>, Me
     Ok(names)
 }
 
-// How many items have a name that isn't a column's.
+// How many items have a name that is not a column's.
 fn new_columns(items: &[(String, Expr)], schema: &Schema) -> usize
     ensures exact { result ≡ count_new schema.now (item_names (items_of items.now)) }
     ensures bound { result ≤ length items.now }

@@ -76,7 +76,7 @@ module _ {O : Type 0} where
   end_step f s None rest e = refl
   end_step f s (Some x) rest e = let bad : ⊥ = cc in absurd bad
 
-  -- a ready with every serial from s to s + n, and none there, has n items
+  -- if the n serials from s on are offered, and the next is not, n items are ready from s on
   pub full_ready : (es : List (Event O)) (f s n most : ℕ) → n ≤ most → ((r : ℕ) → s ≤ r → r < s + n → (y : O) × (offer_at es f r ≡ Some y)) → offer_at es f (s + n) ≡ None → length (ready_from es f s most) ≡ n
   full_ready es f s zero zero le h e = refl
   full_ready es f s zero (suc most) le h e =

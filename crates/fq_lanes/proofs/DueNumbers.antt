@@ -34,7 +34,7 @@ module _ {T : Type 0} where
       (next_files Q (is_complete es f) (due_from es (suc f) files) (due_holds Q es (suc f) files h))
 
 module _ {T X : Type 0} where
-  -- a ready has the numbers from s on
+  -- what is ready has the numbers from s on
   pub ready_numbers_step : (f s : ℕ) (found : Option T) (rest : List (ℕ × ℕ × T)) (xs : List X)
       → ((ys : List X) → length rest ≡ length ys → numbers rest ≡ numbers (numbered_file f (suc s) ys))
       → length (ready_step found f s rest) ≡ length xs → numbers (ready_step found f s rest) ≡ numbers (numbered_file f s xs)
@@ -50,7 +50,7 @@ module _ {T X : Type 0} where
   ready_numbers es f s (suc most) xs e =
       ready_numbers_step f s (offer_at es f s) (ready_from es f (suc s) most) xs (ready_numbers es f (suc s) most) e
 
-  -- where each file is complete with as many items as its ready, due has the items' numbers
+  -- if each file is complete and as many of its items are ready as it has, due has the items' numbers
   pub due_numbers : (es : List (Event T)) (f : ℕ) (items : List (List X))
       → ((i : ℕ) (xs : List X) → slice_get items i ≡ Some xs → (is_complete es (f + i) ≡ true) × (length (ready es (f + i)) ≡ length xs))
       → numbers (due_from es f (length items)) ≡ numbers (numbered f items)
@@ -101,7 +101,7 @@ module _ {T X : Type 0} where
       (subst (λ l. IsPrefix (numbers (ready es f)) l) (sym (map-append (λ q. (q.0, q.1)) (numbered_file f zero xs) (numbered (suc f) items)))
       (prefix_longer (numbers (ready es f)) (numbers (numbered_file f zero xs)) (numbers (numbered (suc f) items)) begins))
 
-  -- what is due begins the items, where each offer has a place in its ready, and a complete file has its whole ready
+  -- what is due begins the items, if each offer is of one of its file's items, and all items of a complete file are ready
   pub due_begins : (es : List (Event T)) (f : ℕ) (items : List (List X))
       → ((i : ℕ) (xs : List X) → slice_get items i ≡ Some xs → ((r : ℕ) (y : T) → offer_at es (f + i) r ≡ Some y → r < length xs) × (is_complete es (f + i) ≡ true → length (ready es (f + i)) ≡ length xs))
       → IsPrefix (numbers (due_from es f (length items))) (numbers (numbered f items))

@@ -62,7 +62,7 @@ module _ {T : Type 0} where
       ap (λ b. cond b (Some x) o) (ne_eqb r s ne) ∙ h
   none_step false n r s x o e le h = h
 
-  -- where no offer has a serial from n on, none is found
+  -- if no offer has a serial from n on, none is found
   pub none_from : (es : List (Event T)) (f n s : ℕ) → offers_from es f n ≡ false → n ≤ s → offer_at es f s ≡ None
   none_from [] f n s e le = refl
   none_from (Offer g r x ∷ es) f n s e le =

@@ -1,4 +1,4 @@
--- The fault that goes first names a feed that may fail.
+-- The fault that takes precedence names a feed that may fail.
 use Rattle.std.proofs.Common.{◌≡◌, ℕ, List, refl, sym, subst, arith, Option, Some, None, IfSome, min, inl, inr}
 use Rattle.std.specs.List.{slice_get}
 use Rattle.std.proofs.lemmas.Bool.{cases_lt}
@@ -16,7 +16,7 @@ module _ {F : Type 0} where
   fault_blames may_fail feeds f feed feed_fault.Read at fails = (feed, at, fails refl)
   fault_blames may_fail feeds f feed feed_fault.Memory at fails = tt
 
-  -- of two faults the first is one of them, or want of memory
+  -- of two faults, the one that takes precedence is one of them, or `Memory`
   pub first_blames : (may_fail : F → Type 0) (feeds : List F) (first : RunFault) (other : Option FeedFault) (f : ℕ) (feed : F) (P Q : Type 0) → slice_get feeds f ≡ Some feed
       → (P → Q → may_fail feed) → IfSome other (λ e. P × (e ≡ feed_fault.Read → Q)) → BlamesFeed may_fail feeds first → BlamesFeed may_fail feeds (first_of first other f)
   first_blames may_fail feeds first None f feed P Q at fails h b = b

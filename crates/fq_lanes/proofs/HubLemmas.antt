@@ -58,7 +58,7 @@ module _ {S O : Type 0} where
     traced = trace ∙ h.traced;
   }
 
-  -- the hub stops where all that is due was handed on
+  -- the hub may stop once all that is due was handed on
   pub stops_all : (takes : S → ℕ → ℕ → O → S → Type 0) (refuses : S → S → Type 0) (first : S) (events : List (Event O)) (hub : Hub S O)
       → HandedOn takes first events hub → HasStopped takes refuses first events (file_count hub.sink) hub.tail
   stops_all takes refuses first events hub h = (due events (file_count hub.sink), prefix_same (due events (file_count hub.sink)), inl h.took)

@@ -48,7 +48,7 @@ module _ {F X : Type 0} where
   gave_sizes gives is_open may_fail most (f ∷ fs) (xs ∷ items) (m ∷ ns) h =
       let rest = gave_sizes gives is_open may_fail most fs items ns h.1 in (omega (arith, rest.0), omega (arith, rest.1))
 
-  -- where each feed has ended, the items are all that the feeds gave
+  -- if each feed has ended, the items are all that the feeds gave
   pub gave_all : (gives : F → List X → Type 0) (is_open may_fail : F → Type 0) (most : F → ℕ) (fs : List F) (items : List (List X)) (ns : List (Inlet F))
       → Gave gives is_open may_fail most fs items ns → ((i : ℕ) (n : Inlet F) → slice_get ns i ≡ Some n → n.ended ≡ true) → Each gives fs items
   gave_all gives is_open may_fail most [] [] [] h e = tt

@@ -68,7 +68,7 @@ module _ {X : Type 0} where
   only_end (x ∷ xs) e d zero h = let bad : ⊥ = cc in absurd bad
   only_end (x ∷ xs) e d (suc i) h = only_end xs e d i h
 
-  -- the list goes on from the items told, and is the same where the end was told without a fault
+  -- the list goes on from the items told, and is the same if the end was told without a fault
   abbrev pub GoesTo : List (FromFeed X) → List X → Type 0
   GoesTo told all = IsPrefix (items_of told) all × (end_told told ≡ Some None → all ≡ items_of told)
 

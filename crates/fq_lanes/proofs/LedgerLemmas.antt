@@ -163,7 +163,7 @@ module _ {O : Type 0} where
       found_first (a == g) (b == r) x (offer_at es g r) (offer_at (es ++ Offer f s o ∷ []) g r) y ((f ≡ g) × (s ≡ r) × (o ≡ y)) e (offer_found es f s o g r y)
   offer_found (Close a n ∷ es) f s o g r y e = offer_found es f s o g r y e
 
-  -- where no item from serial n on was offered, a close at n is not short
+  -- if no item from serial n on was offered, a close at n is not short
   no_offers_from : (f n : ℕ) (es : List (Event O)) → ((s : ℕ) → n ≤ s → offered f s es ≡ 0) → offers_from es f n ≡ false
   no_offers_from f n [] h = refl
   no_offers_from f n (Offer g r x ∷ es) h =
@@ -252,7 +252,7 @@ module _ {X O : Type 0} where
         )
       ]
 
-  -- where nothing waits, all items of a file are ready
+  -- if nothing waits, all items of a file are ready
   pub books_ready : (items : List (List X)) (events : List (Event O)) (i : ℕ) (xs : List X) → Books items none_waits events → slice_get items i ≡ Some xs → length (ready events i) ≡ length xs
   books_ready items events i xs b at =
       let each : (s : ℕ) → s < length xs → 1 ≤ offered i s events = λ s lt.
@@ -274,7 +274,7 @@ module _ {X O : Type 0} where
   books_complete items events i xs b at close =
       ap (λ c. is_closed_at c (length (ready events i))) close ∙ eq-eqb (length xs) (length (ready events i)) (sym (books_ready items events i xs b at))
 
-  -- where nothing waits and each file is closed, everything is due
+  -- if nothing waits and each file is closed, everything is due
   pub books_settle : (items : List (List X)) (events : List (Event O)) → Books items none_waits events
       → ((i : ℕ) (xs : List X) → slice_get items i ≡ Some xs → close_at events i ≡ Some (length xs))
       → numbers (due events (length items)) ≡ numbers (numbered zero items)

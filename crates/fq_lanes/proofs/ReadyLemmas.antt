@@ -1,4 +1,4 @@
--- A file's ready, by what was taken of it.
+-- What is ready of a file, by what was taken of it.
 use Rattle.std.proofs.Common.{◌≡◌, ◌==◌, ◌≤◌, ◌<◌, ℕ, zero, suc, ◌+◌, List, [], ◌∷◌, ◌++◌, length, refl, sym, subst, ap, ◌∙◌, arith, Option, Some, None, true, cond}
 use Rattle.std.specs.Option.{is_some}
 use Rattle.std.specs.List.{slice_get}
@@ -27,7 +27,7 @@ module _ {T : Type 0} where
   step_longer f s k None rest e le = let bad : ⊥ = cc in absurd bad
   step_longer f s k (Some x) rest e le = omega arith
 
-  -- where each serial from s on is offered, item k of the ready is that of serial s + k
+  -- if each serial from s on is offered, item k of what is ready is that of serial s + k
   pub ready_item : (es : List (Event T)) (f s k most r : ℕ) (y : T) → r ≡ s + k → k < most
       → ((q : ℕ) → s ≤ q → q < r → is_some (offer_at es f q) ≡ true) → offer_at es f r ≡ Some y → slice_get (ready_from es f s most) k ≡ Some (f, r, y)
   ready_item es f s k zero r y at lt h e = absurd (omega arith)
@@ -47,14 +47,14 @@ module _ {T : Type 0} where
       step_longer f s k (offer_at es f s) (ready_from es f (suc s) most) (h s (omega arith) (omega arith))
       (ready_reaches es f (suc s) k most (omega arith) (λ q a b. h q (omega arith) (omega arith)))
 
-  -- the ready is at least as long as what was taken
+  -- at least as many items are ready as were taken
   pub taken_within : (found : ℕ → Option T) (count taken top : ℕ) (closed : Option ℕ) (es : List (Event T)) (f : ℕ)
       → FileFacts found count taken top closed es f → taken ≤ length (ready es f)
   taken_within found count taken top closed es f k =
       let within = offer_count_within es f in
       ready_reaches es f zero taken (length es) (omega (arith, within, k.number)) (λ q a b. k.gone q (omega arith))
 
-  -- and as long where the next one was not offered
+  -- and just as many if the next one was not offered
   pub taken_all : (found : ℕ → Option T) (count taken top : ℕ) (closed : Option ℕ) (es : List (Event T)) (f : ℕ)
       → FileFacts found count taken top closed es f → offer_at es f taken ≡ None → length (ready es f) ≡ taken
   taken_all found count taken top closed es f k none =
@@ -77,14 +77,14 @@ module _ {T : Type 0} where
       let none = none_past_top found count taken top closed es f taken k (omega (arith, short, at.2)) in
       (complete_is found count taken top closed es f k none ∙ e, taken_all found count taken top closed es f k none)
 
-  -- the next item of a ready
+  -- the next of the ready items
   pub next_item : (found : ℕ → Option T) (count taken top : ℕ) (closed : Option ℕ) (es : List (Event T)) (f : ℕ) (y : T)
       → FileFacts found count taken top closed es f → offer_at es f taken ≡ Some y → taken < offer_count es f → slice_get (ready es f) taken ≡ Some (f, taken, y)
   next_item found count taken top closed es f y k e lt =
       let within = offer_count_within es f in
       ready_item es f zero taken (length es) taken y (omega arith) (omega (arith, within, lt)) (λ q a b. k.gone q b) e
 
-  -- a ready has items of its own file alone
+  -- what is ready of a file has items of this file only
   handed_step : (f s t : ℕ) (found : Option T) (rest : List (ℕ × ℕ × T)) → ((u : ℕ) → u ≤ length rest → handed_count f u rest ≡ u) → t ≤ length (ready_step found f s rest) → handed_count f t (ready_step found f s rest) ≡ t
   handed_step f s zero found rest h le = refl
   handed_step f s (suc t) None rest h le = absurd (omega arith)

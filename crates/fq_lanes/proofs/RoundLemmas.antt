@@ -218,7 +218,7 @@ module _ {F X S O : Type 0} where
         reads_close items events f n'.items,
       )
 
-  -- where nothing waits and each lower feed has ended, all that a feed gave is due
+  -- if nothing waits and each lower feed has ended, all that a feed gave is due
   pub lowest_due : (gives : F → List X → Type 0) (is_open may_fail : F → Type 0) (most : F → ℕ) (takes : S → ℕ → ℕ → O → S → Type 0)
       (feeds : List F) (first : S) (items : List (List X)) (events : List (Event O)) (ns : List (Inlet F)) (hub : Hub S O) (jobs : List (Job X)) (f : ℕ) (n : Inlet F)
       → InRound gives is_open may_fail most takes feeds first items events ns hub jobs → length jobs ≡ 0 → slice_get ns f ≡ Some n

@@ -66,7 +66,7 @@ module _ {T : Type 0} where
   staged_on zero (x ∷ xs) es es' f k lt o h = (o f x (λ e. omega (arith, e, lt)) h.0, fresh_on xs es es' (suc f) k (omega arith) o h.1)
   staged_on (suc at) (x ∷ xs) es es' f k lt o h = (o f x (λ e. omega (arith, e, lt)) h.0, h.1, staged_on at xs es es' (suc f) k (omega arith) o h.2)
 
-  -- one file is refused_one of an event
+  -- one file is told of an event
   pub staged_set : (at : ℕ) (xs : List (FileState T)) (es es' : List (Event T)) (f g k : ℕ) (x x' : FileState T) → Staged at xs es f → slice_get xs g ≡ Some x → k ≡ f + g
       → FileFollows x' es' k → x'.taken ≡ x.taken → ((n : ℕ) → x.closed ≡ Some n → x'.closed ≡ Some n)
       → ((h : ℕ) (y : FileState T) → (h ≡ k → ⊥) → FileFollows y es h → FileFollows y es' h) → Staged at (set xs g x') es' f
@@ -135,7 +135,7 @@ module _ {T : Type 0} where
       ∙ get_behind (ready es f) (due_from es (suc f) (length xs)) (taken_by xs) (z.taken + taken_by xs) z.taken d.1 refl
       ∙ due_next at xs es (suc f) k x y h.2 e (omega arith) o lt
 
-  -- nothing more is due where the next file is stuck
+  -- nothing more is due if the next file is stuck
   pub due_stuck : (at : ℕ) (xs : List (FileState T)) (es : List (Event T)) (f k : ℕ) (x : FileState T) → Staged at xs es f → slice_get xs at ≡ Some x → k ≡ f + at
       → offer_at es k x.taken ≡ None → is_closed_at x.closed x.taken ≡ false → taken_by xs ≡ length (due_from es f (length xs))
   due_stuck at [] es f k x h e is o c = let bad : ⊥ = cc in absurd bad
@@ -157,7 +157,7 @@ module _ {T : Type 0} where
       ap length (whole_rest (is_complete es f) (ready es f) (due_from es (suc f) (length xs)) d.0) ∙ length-append (ready es f) (due_from es (suc f) (length xs)) in
       omega (arith, d.1, rest, sizes)
 
-  -- nor where each file was handed out whole
+  -- nor if each file was handed out whole
   pub due_ended : (at : ℕ) (xs : List (FileState T)) (es : List (Event T)) (f : ℕ) → Staged at xs es f → length xs ≤ at → taken_by xs ≡ length (due_from es f (length xs))
   due_ended at [] es f h le = refl
   due_ended zero (z ∷ xs) es f h le = absurd (omega arith)

@@ -58,7 +58,7 @@ module _ {X O : Type 0} where
   worker_at : (ds : List (WorkerLanes X O)) (w : ℕ) (d : WorkerLanes X O) → slice_get ds w ≡ Some d → slice_get (worker_views ds) w ≡ Some (worker_view d)
   worker_at ds w d at = get_map worker_view ds w d at
 
-  -- the worker of a worker that has no more jobs than before, and maybe an answer more
+  -- one worker's lists of jobs and answers grow
   pub worker_grows : (ds : List (WorkerLanes X O)) (w : ℕ) (d d' : WorkerLanes X O) → slice_get ds w ≡ Some d → WorkerGrows (worker_view d) (worker_view d') → Grows WorkerGrows (worker_views ds) (worker_views (set ds w d'))
   worker_grows ds w d d' at g = subst (λ l. Grows WorkerGrows (worker_views ds) l) (sym (workers_put ds w d')) (workers_set (worker_views ds) w (worker_view d) (worker_view d') (worker_at ds w d at) g)
 
@@ -161,7 +161,7 @@ module _ {X S O : Type 0} where
         subst (λ l. OutstandingNear events (length vs) l) (sym (workers_put ds w d')) (near_set (length vs) (worker_views ds) events w (worker_view d') t.near near.1),
       )
 
-  -- an answer was no work
+  -- an answer was a refusal
   pub step_fails : (takes : S → ℕ → ℕ → O → S → Type 0) (refuses : S → S → Type 0) (first : S) (vs : List (FeedView X)) (ds ds' : List (WorkerView X O)) (hub : Hub S O) (events : List (Event O))
       → InTurn takes first vs ds hub events → Grows WorkerGrows ds ds' → Halt takes refuses first (told_in vs) ds' hub.tail events
   step_fails takes refuses first vs ds ds' hub events t grow =
@@ -184,7 +184,7 @@ module _ {X : Type 0} where
   blames_on tolds tolds' run_fault.Memory g b = tt
   blames_on tolds tolds' (run_fault.Read f) g (told, at, tells) = let now = g f told at in (now.0, now.1, tells_grows told now.0 (End (Some feed_fault.Read)) now.2 tells)
 
-  -- of two faults the first is one of them, or want of memory
+  -- of two faults, the one that takes precedence is one of them, or `Memory`
   first_told : (tolds : List (List (FromFeed X))) (first : RunFault) (other : Option FeedFault) (f : ℕ) (told : List (FromFeed X)) → slice_get tolds f ≡ Some told
       → IfSome other (λ e. Tells told (End (Some e))) → BlamesTold tolds first → BlamesTold tolds (first_of first other f)
   first_told tolds first None f told at tells b = b

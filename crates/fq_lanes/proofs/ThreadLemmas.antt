@@ -35,7 +35,7 @@ module _ {A : Type 0} where
       (ap (λ z. z ∷ xs) (ap (head_of x) e) ∙ ap (λ zs. b ∷ zs) rest.0, rest.1)
 
 module _ {A B : Type 0} where
-  -- where the lists that f makes are the same, and the last ones are taken off
+  -- if the lists that f makes are the same, and the last ones are taken off
   pub names_split : (f : A → B) (all before popped now : List A) (last first : A)
       → map f all ≡ map f before → all ≡ popped ++ last ∷ [] → before ≡ now ++ first ∷ [] → (map f popped ≡ map f now) × (f last ≡ f first)
   names_split f all before popped now last first e p q =

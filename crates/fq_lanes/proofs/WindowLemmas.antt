@@ -46,7 +46,7 @@ module _ {T : Type 0} where
   near_push files es [] p h lt = (lt, tt)
   near_push files es (q ∷ ps) p h lt = (h.0, near_push files es ps p h.1 lt)
 
-  -- where the files before it are complete, all that is ready of a file is due
+  -- if the files before it are complete, all that is ready of a file is due
   pub due_ready : (es : List (Event T)) (g files k f : ℕ) → f ≡ g + k → k < files → ((i : ℕ) → i < k → is_complete es (g + i) ≡ true)
       → handed_count f (length (due_from es g files)) (due_from es g files) ≡ length (ready es f)
   due_ready es g zero k f at lt h = absurd (omega arith)
@@ -65,7 +65,7 @@ module _ {T : Type 0} where
       let rest = due_ready es (suc g) files k f (omega arith) (omega arith) (λ i lt. let e : g + suc i ≡ suc g + i = omega arith in subst (λ n. is_complete es n ≡ true) e (h (suc i) (omega arith))) in
       ap (λ b. let l = ready es g ++ cond b (due_from es (suc g) files) [] in handed_count f (length l) l) whole ∙ omega (arith, all, none, rest)
 
-  -- where no other rule refuses, and each offer is within its file's window, nothing is refused
+  -- if no other rule refuses, and each offer is within its file's window, nothing is refused
   pub none_refused : (files number : ℕ) (before es : List (Event T)) → AcceptedAfter files before es → InWindow files before es → refused_of files number before es ≡ []
   none_refused files number before [] a w = refl
   none_refused files number before (Offer f s x ∷ es) a w =

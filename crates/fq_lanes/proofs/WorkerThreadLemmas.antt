@@ -59,7 +59,7 @@ module _ {X O : Type 0} where
   waits_less (Do first ∷ os) (a ∷ xs) p ps (Err e) h =
       let rest = waits_less os xs p ps (Err e) h in (rest.0, (rest.1.0, rest.1.1, rest.1.2, tt))
 
-  -- a stop is no job
+  -- a stop is not a job
   pub replied_unstopped : (gives : ℕ → X → O → Type 0) (os : List (ToWorker X)) (rs : List (Result O Memory)) → Replied gives (os ++ Stop ∷ []) rs → Replied gives os rs
   replied_unstopped gives [] [] h = tt
   replied_unstopped gives [] (r ∷ rs) h = absurd h

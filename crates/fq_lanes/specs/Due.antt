@@ -1,5 +1,5 @@
 -- Which items a sink may hand out, by the events that it accepted: of each file in turn the items from serial 0 on, as far as
--- they were offered, and the next file's only where this file is closed and complete. It does not hang on the order of the events.
+-- they were offered, and the next file's only if this file is closed and complete. It does not depend on the order of the events.
 use Rattle.std.specs.Prelude.{◌≡◌, ◌==◌, ◌&&◌, ℕ, zero, suc, ◌+◌, ◌≤◌, List, [], ◌∷◌, ◌++◌, length, Option, Some, None, if◌then◌else◌, Bool, true, false}
 use Rattle.fq_lanes.specs.declared.events.Event.{Event}
 use Rattle.fq_lanes.specs.declared.events.Event.TheVariants.{Offer, Close}

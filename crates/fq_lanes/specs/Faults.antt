@@ -1,4 +1,4 @@
--- Which fault a run answers: want of memory before a failed read, and of these the lowest file's.
+-- Which fault a run answers: `Memory` takes precedence over a failed read, and of failed reads that of the lowest file does.
 use Rattle.std.specs.Prelude.{ℕ, min, Option, Some, None}
 use Rattle.fq_lanes.specs.declared.faults.FeedFault.{FeedFault}
 use Rattle.fq_lanes.specs.declared.faults.FeedFault.TheVariants as feed

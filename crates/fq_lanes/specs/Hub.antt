@@ -21,7 +21,7 @@ module _ {S O : Type 0} where
   abbrev pub HandedOn : (S → ℕ → ℕ → O → S → Type 0) → S → List (Event O) → Hub S O → Type 0
   HandedOn takes first events hub = HandsOn takes first events (due events (file_count hub.sink)) hub
 
-  -- it stopped for want of memory: its tail took a prefix of what is due, and refused at most one call
+  -- it stopped out of memory: its tail took a prefix of what is due, and refused at most one call
   abbrev pub HasStopped : (S → ℕ → ℕ → O → S → Type 0) → (S → S → Type 0) → S → List (Event O) → ℕ → S → Type 0
   HasStopped takes refuses first events files tail =
       (log : List (ℕ × ℕ × O)) × IsPrefix log (due events files) × TookUntilRefused takes refuses first log tail

@@ -7,7 +7,7 @@ use Rattle.fq_lanes.specs.Numbering.{item_at}
 use Rattle.fq_lanes.specs.declared.events.Event.{Event}
 use Rattle.fq_lanes.specs.declared.events.Event.TheVariants.{Offer, Close}
 
--- 1 where the pair of a and b is that of f and s
+-- 1 if the pair of a and b is that of f and s
 abbrev pub one_if : ℕ → ℕ → ℕ → ℕ → ℕ
 one_if f s a b = if (a == f) && (b == s) then 1 else 0
 
@@ -24,7 +24,7 @@ module _ {O : Type 0} where
   offered f s (Close a n ∷ es) = offered f s es
 
 module _ {X : Type 0} where
-  -- 1 where file f has an item with serial s
+  -- 1 if file f has an item with serial s
   abbrev pub given : List (List X) → ℕ → ℕ → ℕ
   given items f s = if is_some (item_at items f s) then 1 else 0
 

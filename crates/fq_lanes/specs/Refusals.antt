@@ -28,7 +28,7 @@ module _ {T : Type 0} where
   abbrev pub close_refusal : List (Event T) → ℕ → ℕ → Option Why
   close_refusal es f n = if is_some (close_at es f) then Some Closed else (if offers_from es f n then Some Short else None)
 
-  -- the first refusal of an offer, where so many of its file's items were handed out
+  -- the first refusal of an offer, after so many of its file's items were handed out
   abbrev pub offer_refusal_at : List (Event T) → ℕ → ℕ → ℕ → Option Why
   offer_refusal_at es f s taken =
       if is_past (close_at es f) s then Some Closed else (if is_some (offer_at es f s) then Some Double else (if nat_le (taken + SLOTS) s then Some Far else None))
@@ -43,20 +43,20 @@ module _ {T : Type 0} where
   file_of (Offer f s x) = f
   file_of (Close f n) = f
 
-  -- the first refusal but Far of an event, where there are so many files and these events were accepted
+  -- the first refusal but Far of an event, if there are so many files and these events were accepted
   abbrev pub refusal : ℕ → List (Event T) → Event T → Option Why
   refusal files es e = if nat_lt (file_of e) files then event_refusal es e else Some Stranger
 
-  -- the first refusal of either event, where so many items were handed out
+  -- the first refusal of either event, after so many items were handed out
   abbrev pub event_refusal_at : ℕ → List (Event T) → ℕ → Event T → Option Why
   event_refusal_at files es t (Offer f s x) = offer_refusal_at es f s (handed_count f t (due es files))
   event_refusal_at files es t (Close f n) = close_refusal es f n
 
-  -- the first refusal of an event, where there are so many files, these events were accepted and so many items handed out
+  -- the first refusal of an event, if there are so many files, these events were accepted and so many items handed out
   abbrev pub refusal_at : ℕ → List (Event T) → ℕ → Event T → Option Why
   refusal_at files es t e = if nat_lt (file_of e) files then event_refusal_at files es t e else Some Stranger
 
-  -- so where all that is due was handed out
+  -- the same once all that is due was handed out
   abbrev pub refusal_now : ℕ → List (Event T) → Event T → Option Why
   refusal_now files es e = refusal_at files es (length (due es files)) e
 
@@ -74,7 +74,7 @@ module _ {T : Type 0} where
   after None es e = es ++ e ∷ []
   after (Some why) es e = es
 
-  -- the events accepted of a list, after those before it, where each time all that is due was handed out
+  -- the events accepted of a list, after those before it, if each time all that is due was handed out
   abbrev pub accepted_of : ℕ → List (Event T) → List (Event T) → List (Event T)
   accepted_of files before [] = before
   accepted_of files before (e ∷ es) = accepted_of files (after (refusal_now files before e) before e) es
@@ -84,7 +84,7 @@ module _ {T : Type 0} where
   item_of (Offer f s x) = Some x
   item_of (Close f n) = None
 
-  -- an event with its number and reason, where it was refused
+  -- an event with its number and reason, if it was refused
   abbrev pub refused_one : Option Why → ℕ → Event T → List (Refused T)
   refused_one None number e = []
   refused_one (Some rule) number e = record { event = number; why = rule; item = item_of e } ∷ []

@@ -34,11 +34,11 @@ module _ {O : Type 0} where
   answer_numbers answers = map (λ a. (a.file, a.serial)) answers
 
 module _ {X O : Type 0} where
-  -- the answer has the job's numbers and, if it is no refusal, it is the work on its item
+  -- the answer has the job's numbers and, if it is not a refusal, it is the work on its item
   abbrev pub Answers : (ℕ → X → O → Type 0) → Job X → Answer O → Type 0
   Answers works job answer = (answer.file ≡ job.file) × (answer.serial ≡ job.serial) × IfOk answer.outcome (λ o. works job.file job.item o)
 
-  -- each answer, if it is no refusal, is the work on the item under its numbers
+  -- each answer, if it is not a refusal, is the work on the item under its numbers
   abbrev pub AreWorked : (ℕ → X → O → Type 0) → List (List X) → List (Answer O) → Type 0
   AreWorked works items [] = Unit {0}
   AreWorked works items (a ∷ answers) =
@@ -63,7 +63,7 @@ module _ {F X S O : Type 0} where
       × ((log : List (ℕ × ℕ × O)) × TookUntilRefused takes refuses first log tail × IsPrefix (numbers log) (numbers (numbered zero all)) × AllNumbered (λ f s o. offer_at events f s ≡ Some o) log)
 
 module _ {F : Type 0} where
-  -- the feeds may be drained, and the fault is one of theirs, or want of memory
+  -- the feeds may be drained, and a read fault names one that may fail
   abbrev pub Faulted : (F → Type 0) → (F → Type 0) → List F → List (Inlet F) → RunFault → Type 0
   Faulted is_open may_fail feeds inlets fault = Each (DrainsOne is_open may_fail) feeds inlets × BlamesFeed may_fail feeds fault
 

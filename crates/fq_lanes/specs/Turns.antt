@@ -92,7 +92,7 @@ module _ {X S O : Type 0} where
     pub sourced : OffersSourced (items_in tolds) ds events
     pub stopped : HasStopped takes refuses first events (length tolds) tail
 
-  -- so, and the fault is one of the feeds that told it, or want of memory
+  -- so, and a read fault was told by the feed that it names
   abbrev pub Halts : (S → ℕ → ℕ → O → S → Type 0) → (S → S → Type 0) → S → List (List (FromFeed X)) → List (WorkerView X O) → S → RunFault → Type 0
   Halts takes refuses first tolds ds tail fault = ((events : List (Event O)) × Halt takes refuses first tolds ds tail events) × BlamesTold tolds fault
 

@@ -6,7 +6,7 @@ use Rattle.fq_lanes.specs.declared.messages.ToWorker.{ToWorker}
 use Rattle.fq_lanes.specs.declared.messages.ToWorker.TheVariants.{Do, Stop}
 
 module _ {X O : Type 0} where
-  -- each answer, if it is no refusal, is the work on the job at its place
+  -- each answer, if it is not a refusal, is the work on the job at its place
   abbrev pub Replied : (ℕ → X → O → Type 0) → List (ToWorker X) → List (Result O Memory) → Type 0
   Replied works [] [] = Unit {0}
   Replied works (j ∷ js) [] = Unit {0}

@@ -12,7 +12,7 @@ use crate::feed_lane::FeedLane;
 use crate::worker_lanes::WorkerLanes;
 use std::sync::Wait;
 
-/// Takes and drops until every feed has ended. Answers the fault that goes first, of this one and theirs.
+/// Takes and drops until every feed has ended. Of this fault and theirs, answers the one that takes precedence.
 pub(crate) fn drain_lanes<R: Wait, X: Drop>(
     rt: &R,
     lanes: &mut Vec<FeedLane<'_, X>>,
@@ -32,8 +32,8 @@ pub(crate) fn drain_lanes<R: Wait, X: Drop>(
     first
 }
 
-/// Takes and drops until no job is outstanding. Answers `Memory` where the work on one of them was refused, and else the
-/// fault that was known.
+/// Takes and drops until no job is outstanding. Answers `Memory` if the work on one of them did, and otherwise the fault
+/// that was known.
 pub(crate) fn drain_workers<R: Wait, X, O: Drop>(
     rt: &R,
     workers: &mut Vec<WorkerLanes<'_, X, O>>,

@@ -12,7 +12,7 @@ use crate::faults::Memory;
 use crate::sinks::Sink;
 use std::alloc::Global;
 
-/// Tells the sink of an event, and answers the event where it was refused.
+/// Tells the sink of an event, and answers the event if it was refused.
 fn tell<T: Drop>(sink: &mut Sink<T>, number: usize, event: Event<T>) -> Option<Refused<T>>
     ensures files { file_count sink.new ≡ file_count sink.old }
     ensures holds { (es : List (Event T)) (t : ℕ) → HasAccepted sink.old es t →
@@ -53,7 +53,7 @@ fn drain<T: Drop>(sink: &mut Sink<T>, taken: &mut Vec<(u16, u32, T)>) -> Result<
     Ok(())
 }
 
-/// One more event that was refused, if it was.
+/// Notes an event that was refused, if there is one.
 fn note<T: Drop>(refused: &mut Vec<Refused<T>>, refusal: Option<Refused<T>>) -> Result<(), Memory>
     ensures { IfOk result (λ _. refused.new.items ≡ refused.old.items ++ option_to_list refusal) }
 {
@@ -67,7 +67,7 @@ fn note<T: Drop>(refused: &mut Vec<Refused<T>>, refusal: Option<Refused<T>>) -> 
 
 /// Runs a list of events on a fresh sink of so many files, and takes what is due after each event.
 /// Answers the items taken, in order, and the events refused, in order.
-/// `Memory` where the sink could not be made or one of these two lists could not grow, so never without a file or an event;
+/// `Memory` if the sink could not be made or one of these two lists could not grow, so never without a file or an event;
 /// no event is refused for it. Both lists are then dropped.
 pub fn drive<T: Drop>(
     alloc: Global,

@@ -9,7 +9,7 @@ pub enum Event<T> {
     Close(u16, u32),
 }
 
-/// Why an event is refused. Where several reasons hold, the answer is the first in the order that `Sink::offer` and
+/// Why an event is refused. If several reasons hold, the answer is the first in the order that `Sink::offer` and
 /// `Sink::close` give.
 #[derive(Clone, Copy, PartialEq, Eq, Debug, Drop)]
 pub enum Why {
@@ -32,6 +32,6 @@ pub struct Refused<T> {
     pub event: usize,
     /// The first reason that holds.
     pub why: Why,
-    /// The item, where the event was an offer.
+    /// The item, if the event was an offer.
     pub item: Option<T>,
 }

@@ -1,8 +1,8 @@
-//! What goes wrong: want of memory, and a source that fails.
+//! What goes wrong: an allocation that fails, and a source that fails.
 ghost use Rattle.std.specs.Prelude.{◌≡◌};
 ghost use Rattle.fq_lanes.specs.Faults.{fault_at, first_of};
 
-/// A growth was refused, or the runtime refused a thread.
+/// An allocation failed, or the runtime refused a thread.
 #[derive(Clone, Copy, PartialEq, Eq, Debug, Drop)]
 pub struct Memory;
 
@@ -11,14 +11,14 @@ pub struct Memory;
 pub enum FeedFault {
     /// Its source failed.
     Read,
-    /// A growth was refused.
+    /// An allocation failed.
     Memory,
 }
 
-/// Why a run stopped. `Memory` goes before `Read`.
+/// Why a run stopped. `Memory` takes precedence over `Read`.
 #[derive(Clone, Copy, PartialEq, Eq, Debug, Drop)]
 pub enum RunFault {
-    /// A growth was refused, or the runtime refused a thread.
+    /// An allocation failed, or the runtime refused a thread.
     Memory,
     /// The source of a feed failed: the lowest file whose feed did.
     Read { file: u16 },

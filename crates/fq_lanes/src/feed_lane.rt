@@ -89,7 +89,8 @@ impl<'s, X> FeedLane<'s, X> {
         }
     }
 
-    /// Takes and drops until the feed has ended. Answers the fault that ended it, if one did.
+    /// Takes and drops until the feed has ended. Answers the fault that it then ends with, if any; `None` if it had ended
+    /// before.
     pub(crate) fn drain<R: Wait>(&mut self, rt: &R) -> Option<FeedFault>
     where
         X: Drop,

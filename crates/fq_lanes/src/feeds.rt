@@ -5,7 +5,7 @@ ghost use Rattle.fq_lanes.specs.declared.faults.FeedFault.TheVariants.{Read};
 
 use crate::faults::FeedFault;
 
-/// A source of one file's items. It means, where its source tells it, the list of items that still come.
+/// A source of one file's items. If its source tells it, it means the list of items that still come.
 pub trait Feed {
     /// What it gives.
     type Item;
@@ -22,7 +22,7 @@ pub trait Feed {
     /// The source may fail.
     ghost may_fail: { Self → Type 0 };
 
-    /// The next item; `None` where no more comes. Not called again after `None` or a fault.
+    /// The next item; `None` if there are no more. Not called again after `None` or a fault.
     fn next(&mut self) -> Result<Option<Self::Item>, FeedFault>
         requires { is_open self.old }
         ensures gives { IfOk result (λ o. MatchOption o (gives self.old []) (λ x. (xs : List Self.Item) → gives self.new xs → gives self.old (x ∷ xs))) }

@@ -8,7 +8,7 @@ use crate::faults::Memory;
 use std::alloc::Global;
 
 /// How many items of one file a sink has room for: its window. Serial s waits in slot s mod `SLOTS`, so an item is too far
-/// where its serial is at least `SLOTS` past the number of its file's items that were handed out.
+/// if its serial is at least `SLOTS` past the number of its file's items that were handed out.
 pub const SLOTS: u32 = 8;
 
 /// What a sink keeps of one file.
@@ -52,7 +52,7 @@ impl<T: Drop> FileState<T> {
         })
     }
 
-    /// Refuses Closed, Double and Far, in this order. Takes no memory.
+    /// Refuses Closed, Double and Far, in this order. Allocates nothing.
     pub(crate) fn offer(&mut self, serial: u32, item: T) -> Result<(), (Why, T)>
         ensures taken { self.new.taken ≡ self.old.taken }
         ensures closed { self.new.closed ≡ self.old.closed }
@@ -107,7 +107,7 @@ impl<T: Drop> FileState<T> {
         Ok(())
     }
 
-    /// The item with the next serial, where it waits.
+    /// The item with the next serial, if it waits.
     pub(crate) fn next(&mut self) -> Option<(u32, T)>
         ensures closed { self.new.closed ≡ self.old.closed }
         ensures left { IfSome result (λ _. held_in self.new.slots.items + 1 ≡ held_in self.old.slots.items) }

@@ -147,9 +147,10 @@ where
 ///
 /// `feeds[f]` is file f. With no fault the tail has taken the work on each feed's items, each once, by file, then serial.
 /// After a fault the tail has taken a prefix of that. Once a fault is known nothing more is offered; what still comes from
-/// the feeds is taken and dropped until they have ended. `RunFault::Memory` goes before `RunFault::Read`, which names the
-/// lowest file whose feed failed. Where a thread is refused, the feeds whose threads had started are drained, and the
-/// answer is `RunFault::Memory`.
+/// the feeds is taken and dropped until they have ended. `RunFault::Memory` takes precedence over `RunFault::Read`, which
+/// names the lowest file whose feed failed. If a lane or a thread cannot be made, the feeds whose threads had started are
+/// drained, and the answer is `RunFault::Memory`. If the sink or the parkers cannot be made, no feed is called, and the
+/// answer is the same.
 pub fn run_lanes<
     'e,
     R: Threads + Wait + Sync,

@@ -1,6 +1,6 @@
 //! What stands between a worker and its lane of answers.
 
-/// Sees each answer before it leaves its worker.
+/// Sees each answer that is not a refusal, before it leaves its worker.
 pub trait Gate<O> {
     /// A worker's answer to the job of a file and serial.
     fn pass(&self, worker: u16, file: u16, serial: u32, out: &O);

@@ -16,7 +16,7 @@ pub(crate) struct Inlet<F> {
 impl<F: Feed> Inlet<F> {
     ghost use Rattle.fq_lanes.specs.Inlet.{GaveOne};
 
-    /// The feed's next item, with its serial; `None` where it has ended.
+    /// The feed's next item, with its serial; `None` if it has ended.
     pub(crate) fn next(&mut self) -> Result<Option<(u32, F::Item)>, FeedFault>
         requires open { (self.old.ended ≡ false) × F.is_open self.old.feed }
         requires room { self.old.items + F.most self.old.feed ≤ 2147483648 }
@@ -44,7 +44,8 @@ impl<F: Feed> Inlet<F> {
         }
     }
 
-    /// Calls the feed until it has ended, and drops its items. Answers the fault that ended it, if one did.
+    /// Calls the feed until it has ended, and drops its items. Answers the fault that it then ends with, if any; `None` if
+    /// it had ended before.
     pub(crate) fn drain(&mut self) -> Option<FeedFault>
     where
         F::Item: Drop,

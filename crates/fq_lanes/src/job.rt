@@ -1,4 +1,4 @@
-//! The jobs of a round.
+//! Jobs, their answers, and the work on those of a round.
 ghost use Rattle.std.specs.Prelude.{IfOk};
 ghost use Rattle.fq_lanes.specs.Lists.{Each};
 ghost use Rattle.fq_lanes.specs.Round.{Answers};
@@ -24,7 +24,7 @@ pub(crate) struct Answer<O> {
     pub(crate) outcome: Result<O, Memory>,
 }
 
-/// The work on each job, in order, in as many threads as there are jobs, where they can be made.
+/// The work on each job, in order, in as many threads as there are jobs, if they can be made.
 pub(crate) fn work_round<R: Threads + Sync, W: Work + Sync>(
     rt: &R,
     work: &W,

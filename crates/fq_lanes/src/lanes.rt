@@ -16,7 +16,7 @@ pub struct Take<T> {
     consumer: Consumer<T>,
 }
 
-/// Both ends of a lane, come together.
+/// Both ends of a lane, brought together.
 #[derive(Drop)]
 pub struct Left<T> {
     put: Producer<T>,

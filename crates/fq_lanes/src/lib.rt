@@ -1,12 +1,12 @@
 //! Puts the items of several files back in order, and runs the work on them in threads.
 //!
-//! A [`Sink`] takes items under their file and serial in any order, each less than [`SLOTS`] past those of its file that it
-//! handed out, and hands them out by file, then serial. What it did is told by the list of events that it accepted: what may be
-//! handed out is a function of that list, and [`drive`] runs such a list. [`run_rounds`] reads the items of [`Feed`]s, one
-//! for each file, has [`Work`] done on them by several threads, and hands the answers through a sink to a [`Tail`]:
-//! whatever order the threads are done in, the tail takes the work on each item once, by file, then serial. [`run_lanes`]
-//! keeps the same contract with a thread for each feed and for each worker, which run freely and are linked with the
-//! caller's by lanes: [`Put`] and [`Take`] are a lane's ends.
+//! A [`Sink`] takes items under their file and serial in any order, each less than [`SLOTS`] past the number of its file's
+//! items that it handed out, and hands them out by file, then serial. What it did is told by the list of events that it
+//! accepted: what may be handed out is a function of that list, and [`drive`] runs such a list. [`run_rounds`] reads the
+//! items of [`Feed`]s, one for each file, has [`Work`] done on them by several threads, and hands the answers through a sink
+//! to a [`Tail`]: whatever order the threads are done in, the tail takes the work on each item once, by file, then serial.
+//! [`run_lanes`] keeps the same contract with a thread for each feed and for each worker, which run freely and are linked
+//! with the caller's by lanes: [`Put`] and [`Take`] are a lane's ends.
 #![tactic(auto)]
 
 mod drains;

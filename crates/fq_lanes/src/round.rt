@@ -21,8 +21,8 @@ use crate::workers::Work;
 use std::alloc::Global;
 use std::thread::Threads;
 
-/// One feed's turn in a round: its next item is one job more, or its file is closed. It is passed over where the sink
-/// has no slot for its next item yet.
+/// One feed's turn in a round: its next item is one job more, or its file is closed. It is passed over if the sink has
+/// no slot for its next item yet.
 fn take_turn<F: Feed, S: Tail>(
     inlets: &mut Vec<Inlet<F>>,
     hub: &mut Hub<S, S::Out>,
@@ -105,8 +105,9 @@ where
     Ok(())
 }
 
-/// The jobs of the next round: round and round the feeds, one item from each that hasn't ended and that the sink has a
-/// slot for, until there are as many as workers or no feed may give one. The lowest feed that hasn't ended always may.
+/// The jobs of the next round: round and round the feeds, one item from each that has not ended and that the sink has a
+/// slot for, until there are as many as workers or no feed may give one. While the round has no job, the lowest feed that
+/// has not ended may.
 pub(crate) fn collect_round<F: Feed, S: Tail>(
     alloc: Global,
     inlets: &mut Vec<Inlet<F>>,

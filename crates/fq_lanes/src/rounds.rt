@@ -21,7 +21,7 @@ use std::alloc::Global;
 use std::sync::Wait;
 use std::thread::Threads;
 
-/// The feeds, of which nothing was read. Where there is no memory they come back.
+/// The feeds, of which nothing was read. If an allocation fails, they are handed back.
 fn open_inlets<F: Feed + Drop>(alloc: Global, feeds: Vec<F>) -> Result<Vec<Inlet<F>>, Vec<F>>
     ensures { MatchResult result (λ inlets. inlets.items ≡ map opened feeds.items) (λ back. back.items ≡ feeds.items) }
 {
@@ -51,7 +51,7 @@ where
     }
 }
 
-/// Drains the feeds that have not ended. Answers the fault that goes first, of this one and theirs.
+/// Drains the feeds that have not ended. Of this fault and theirs, answers the one that takes precedence.
 fn drain_inlets<F: Feed>(inlets: &mut Vec<Inlet<F>>, fault: RunFault) -> RunFault
 where
     F::Item: Drop,
@@ -106,15 +106,16 @@ where
 /// Runs the work on the items of the feeds in rounds of workers, hands the answers to the tail by file, then serial,
 /// and hands the tail back.
 ///
-/// In a round the hub goes round the feeds in file order, one item from each that hasn't ended, until it has as many
-/// items as workers or no feed may give one. A feed may not where its next serial is at least [`SLOTS`](crate::SLOTS) past the number of its
-/// items that the tail was handed. The items are worked by as many threads as can be made. So a round is as slow as its
-/// slowest item, and memory holds a round's items and at most `SLOTS` answers of each file that wait for an earlier one.
+/// In a round the hub goes round the feeds in file order, one item from each that has not ended, until it has as many
+/// items as workers or no feed may give one. A feed may not if its next serial is at least [`SLOTS`](crate::SLOTS) past
+/// the number of its items that the tail was handed. The items are worked by as many threads as can be made. So a round
+/// is as slow as its slowest item, and memory holds a round's items and at most `SLOTS` answers of each file that wait
+/// for an earlier one.
 ///
 /// `feeds[f]` is file f. With no fault the tail has taken the work on each feed's items, each once, by file, then serial.
-/// After a fault the tail has taken a prefix of that. Once a fault is known nothing more is offered; the feeds that have not ended
-/// are called until they have, and their items dropped. `RunFault::Memory` goes before `RunFault::Read`, which
-/// names the lowest file whose feed failed.
+/// After a fault the tail has taken a prefix of that. Once a fault is known nothing more is offered; the feeds that have
+/// not ended are called until they have, and their items dropped. `RunFault::Memory` takes precedence over
+/// `RunFault::Read`, which names the lowest file whose feed failed.
 pub fn run_rounds<
     R: Threads + Wait + Sync,
     F: Feed + Drop,

@@ -8,8 +8,9 @@ use crate::faults::Memory;
 use crate::file_state::{FileState, SLOTS};
 use std::alloc::Global;
 
-/// Takes the items of several files in any order, each less than [`SLOTS`] past those of its file that were handed out, and
-/// hands them out by file, then serial: file 0's serials from 0 on, then file 1's once file 0 is closed and complete, and so on.
+/// Takes the items of several files in any order, each less than [`SLOTS`] past the number of its file's items that were
+/// handed out, and hands them out by file, then serial: file 0's serials from 0 on, then file 1's once file 0 is closed and
+/// complete, and so on.
 ///
 /// What it did so far is told by the list of events that it accepted and by how many items it handed out: `new`
 /// starts with none, and each call says how it goes on.
@@ -29,8 +30,8 @@ impl<T: Drop> Sink<T> {
     ghost use Rattle.fq_lanes.specs.declared.file_state.FileState.{FileState};
     ghost use Rattle.fq_lanes.specs.declared.events.Event.TheVariants.{Offer, Close};
 
-    /// A sink of files 0 to `files` - 1, of which nothing was accepted, with `SLOTS` slots for each. The other calls take no
-    /// memory. `Memory` where the slots could not be made; a sink of no file takes none.
+    /// A sink of files 0 to `files` - 1, of which nothing was accepted, with `SLOTS` slots for each. The other calls allocate
+    /// nothing. `Memory` if the slots could not be made; a sink of no file allocates nothing.
     pub fn new(alloc: Global, files: u16) -> Result<Self, Memory>
         ensures made { IfOk result (λ s. (file_count s ≡ files) × HasAccepted s [] 0) }
         ensures memory { OnErr result (0 < files) }
@@ -48,7 +49,7 @@ impl<T: Drop> Sink<T> {
     /// Accepts an item, or hands it back with the first that holds: `Stranger` (no such file), `Closed` (the serial
     /// is at or past the file's close), `Double` (an item of this file and serial was accepted), `Far` (the serial is at
     /// least `SLOTS` past the number of that file's items that were handed out).
-    /// A refused offer changes nothing. Takes no memory.
+    /// A refused offer changes nothing. Allocates nothing.
     pub fn offer(&mut self, file: u16, serial: u32, item: T) -> Result<(), (Why, T)>
         ensures files { file_count self.new ≡ file_count self.old }
         ensures accepts { (events : List (Event T)) (taken : ℕ) → HasAccepted self.old events taken →
@@ -65,7 +66,7 @@ impl<T: Drop> Sink<T> {
     }
 
     /// Whether an offer of this file and serial is too early, since the serial is at least `SLOTS` past the number of that
-    /// file's items that were handed out. Takes no memory.
+    /// file's items that were handed out. Allocates nothing.
     pub(crate) fn is_far(&self, file: u16, serial: u32) -> bool
         requires { file < file_count self.now }
         ensures { (events : List (Event T)) (taken : ℕ) → HasAccepted self.now events taken →
@@ -76,7 +77,7 @@ impl<T: Drop> Sink<T> {
 
     /// Says that a file has `items` items, or answers the first that holds: `Stranger` (no such file), `Closed`
     /// (closed before), `Short` (an item of this file with a serial of `items` or more was accepted).
-    /// A refused close changes nothing. Takes no memory.
+    /// A refused close changes nothing. Allocates nothing.
     pub fn close(&mut self, file: u16, items: u32) -> Result<(), Why>
         ensures files { file_count self.new ≡ file_count self.old }
         ensures accepts { (events : List (Event T)) (taken : ℕ) → HasAccepted self.old events taken →
@@ -103,8 +104,8 @@ impl<T: Drop> Sink<T> {
         }
     }
 
-    /// The next item by file, then serial, with its file and serial; `None` where nothing more is due yet.
-    /// Takes no memory.
+    /// The next item by file, then serial, with its file and serial; `None` if nothing more is due yet.
+    /// Allocates nothing.
     pub fn next(&mut self) -> Option<(u16, u32, T)>
         ensures fewer { IfSome result (λ _. waiting_in self.new + 1 ≡ waiting_in self.old) }
         ensures files { file_count self.new ≡ file_count self.old }
@@ -126,7 +127,7 @@ impl<T: Drop> Sink<T> {
     }
 
     /// Whether each file is closed and has as many accepted items as its close says, handed out or not.
-    /// Takes no memory, one pass over the files.
+    /// Allocates nothing; one pass over the files.
     pub fn finished(&self) -> bool
         ensures { (events : List (Event T)) (taken : ℕ) → HasAccepted self.now events taken →
             result ≡ all_finished events 0 (file_count self.now) }
@@ -140,7 +141,7 @@ impl<T: Drop> Sink<T> {
         self.files.iter().all(|file| file.is_finished())
     }
 
-    /// How many items of this file were accepted and not handed out: at most `SLOTS`. Takes no memory.
+    /// How many items of this file were accepted and not handed out: at most `SLOTS`. Allocates nothing.
     pub fn held(&self, file: u16) -> u64
         requires { file < file_count self.now }
         ensures few { result ≤ SLOTS }

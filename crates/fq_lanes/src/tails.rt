@@ -14,7 +14,7 @@ pub trait Tail {
     /// So may a call that is refused.
     ghost refuses: { Self → Self → Type 0 };
 
-    /// Takes a worked item, or answers `Memory` where a growth was refused. Not called again after a refusal.
+    /// Takes a worked item, or answers `Memory` if an allocation failed. Not called again after a refusal.
     fn take(&mut self, file: u16, serial: u32, out: Self::Out) -> Result<(), Memory>
         ensures ok { OnOk result (takes self.old file serial out self.new) }
         ensures err { OnErr result (refuses self.old self.new) };

@@ -29,7 +29,7 @@ use std::sync::Wait;
 use std::thread::{Promise, PromisedHandle, Scope, Threads};
 use std::vec::IntoIter;
 
-/// How many items a feed's thread may be ahead of the hub, beside the one in its hand.
+/// How many items a feed's thread may be ahead of the hub, besides the one in its hand.
 const ITEMS_AHEAD: usize = 2;
 
 /// What runs once all threads have started.
@@ -108,8 +108,8 @@ fn open_worker<'s, X: Drop, O: Drop>(
     }
 }
 
-/// Opens the lanes of a worker and starts its thread: the hub's ends come last among `workers`. `Memory` where a growth or the thread
-/// is refused; the workers are as before then.
+/// Opens the lanes of a worker and starts its thread: the hub's ends come last among `workers`. `Memory` if an allocation
+/// fails or the runtime refuses the thread; the workers are then as before.
 fn start_worker<'s, E, R: Threads + Wait + Sync, W: Work + Sync, G: Gate<W::Out> + Sync>(
     scope: &Scope<'s, E>,
     rt: &'s R,
@@ -147,7 +147,7 @@ where
     }
 }
 
-/// Takes off the last worker, stops it and joins its thread.
+/// Removes the last worker, stops it and joins its thread.
 fn close_worker<R: Threads + Wait, W: Work>(
     rt: &R,
     workers: &mut Vec<WorkerLanes<'_, W::Item, W::Out>>,
@@ -292,7 +292,7 @@ fn open_feed<'s, X: Drop>(
     }
 }
 
-/// Takes off the last lane, whose thread has ended, and drops what was not taken from it.
+/// Removes the last lane, whose thread has ended, and drops what was not taken from it.
 fn close_feed<X: Drop>(lanes: &mut Vec<FeedLane<'_, X>>, put: Put<FromFeed<X>>)
     requires { (names : List Name) × (feed_names lanes.old.items ≡ names ++ put_name put ∷ []) }
     ensures names { (names : List Name) → feed_names lanes.old.items ≡ names ++ put_name put ∷ [] → feed_names lanes.new.items ≡ names }
@@ -310,8 +310,8 @@ fn close_feed<X: Drop>(lanes: &mut Vec<FeedLane<'_, X>>, put: Put<FromFeed<X>>)
     drop(rejoin(put, take));
 }
 
-/// Opens the lane of a feed and starts its thread: the hub's end comes last among `lanes`. `Memory` where a growth or the thread is
-/// refused; the lanes are as before then.
+/// Opens the lane of a feed and starts its thread: the hub's end comes last among `lanes`. `Memory` if an allocation fails
+/// or the runtime refuses the thread; the lanes are then as before.
 fn start_feed<'s, E, R: Threads + Wait + Sync, F: Feed + Drop + Send + 's>(
     scope: &Scope<'s, E>,
     rt: &'s R,

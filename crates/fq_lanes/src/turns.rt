@@ -18,7 +18,7 @@ use std::sync::Wait;
 use std::thread::Parker;
 
 /// Takes what a feed told next, if something is there: a worker gets its item, or its file is closed. A feed is passed over
-/// where the sink has no slot for its next item yet.
+/// if the sink has no slot for its next item yet.
 fn hear_feed<R: Wait, X: Drop, S: Tail>(
     rt: &R,
     lanes: &mut Vec<FeedLane<'_, X>>,

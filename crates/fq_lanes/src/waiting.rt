@@ -8,8 +8,8 @@ use std::thread::{Parker, yield_now};
 
 /// The two threads at a lane, as one of them has it: it sleeps until it is woken, and wakes the other.
 ///
-/// A thread that was woken before it sleeps does not sleep. So no wake-up is lost where each thread puts or takes first and
-/// wakes then, and where it looks once more after it has slept.
+/// A thread that was woken before it sleeps does not sleep. So no wake-up is lost if each thread first puts or takes and
+/// then wakes the other, and looks once more after it has slept.
 #[derive(Clone, Copy)]
 pub(crate) struct Waiter<'s> {
     own: &'s Parker,
@@ -38,8 +38,8 @@ impl<'s> Waiter<'s> {
 
 /// Sleeps until this thread is woken.
 ///
-/// It gives the core away once before it sleeps: where threads share a core, the others then go on to where they wait themselves,
-/// and what they put meanwhile wakes nobody, so a batch costs fewer switches between threads.
+/// It yields once before it sleeps: if threads share a core, the others then run until they wait themselves, and
+/// what they put meanwhile wakes nobody, so a batch costs fewer switches between threads.
 pub(crate) fn sleep<R: Wait>(rt: &R, parker: &Parker) {
     yield_now();
     parker.park(rt);

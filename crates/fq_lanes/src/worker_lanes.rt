@@ -13,7 +13,7 @@ use std::alloc::Global;
 use std::collections::VecDeque;
 use std::sync::Wait;
 
-/// The most jobs that a worker has outstanding. Its two lanes have room for as many, so neither is ever full.
+/// The most jobs that a worker has outstanding. Its two lanes have room for as many, so no put meets a full one.
 pub(crate) const MOST_OUTSTANDING: usize = 4;
 
 /// The hub's ends of a worker's lanes, and the numbers of the jobs that have no answer yet.
@@ -82,7 +82,7 @@ impl<'s, X, O> WorkerLanes<'s, X, O> {
         }
     }
 
-    /// Takes and drops until no job is outstanding. Answers whether the work on one of them was refused.
+    /// Takes and drops until no job is outstanding. Answers whether the work on one of them answered `Memory`.
     pub(crate) fn drain<R: Wait>(&mut self, rt: &R) -> bool
     where
         O: Drop,
@@ -102,6 +102,7 @@ impl<'s, X, O> WorkerLanes<'s, X, O> {
         }
         unreachable!()
     }
+
     /// Tells the worker to stop, and hands out its lanes.
     pub(crate) fn stop<R: Wait>(self, rt: &R) -> (Put<ToWorker<X>>, Take<Result<O, Memory>>)
         ensures jobs { SamePut self.entry.jobs result.0 }

@@ -14,7 +14,7 @@ pub trait Work {
     /// This may be the work on an item of a file.
     ghost gives: { Self → ℕ → Self.Item → Self.Out → Type 0 };
 
-    /// The work on an item of a file, or `Memory` where a growth was refused.
+    /// The work on an item of a file, or `Memory` if an allocation failed.
     fn work(&self, file: u16, item: Self::Item) -> Result<Self::Out, Memory>
         ensures { IfOk result (λ o. gives self.now file item o) };
 }

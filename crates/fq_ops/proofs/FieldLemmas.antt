@@ -111,7 +111,7 @@ kind-absent (f ∷ fs) n e = by (same_name n f.0) refl (kind-absent fs n)
         ap (λ b. if b then Ok f.1 else kind_named fs n) s
         ∙ rest (none-shifted _ (sym (position-past (same_name n) f.0 (names_of fs) s) ∙ e))
 
--- a name is there exactly where it has a kind
+-- a name is there exactly when it has a kind
 abbrev pub TellsName : Fields → Name → Result Kind StepFault → Type 0
 TellsName fs n (Ok k) = has_name (names_of fs) n ≡ true
 TellsName fs n (Err f) = (has_name (names_of fs) n ≡ false) × (f ≡ NoSuchColumn)

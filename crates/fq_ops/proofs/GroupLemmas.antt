@@ -34,7 +34,7 @@ module _ {K : Type 0} (eq : K → K → Bool) where
   insert_key-here : (x a : K) (rest : List K) → eq x a ≡ true → insert_key eq (a ∷ rest) x ≡ a ∷ rest
   insert_key-here x a rest e = ap (λ c. if (c || list_any (eq x) rest) then a ∷ rest else (a ∷ rest) ++ x ∷ []) e
 
-  -- whether some item is equal to x, where the filter drops no such item
+  -- whether some item is equal to x, if the filter drops no such item
   any-filter : (x : K) (p : K → Bool) → ((y : K) → eq x y ≡ true → p y ≡ true) → (ks : List K) → list_any (eq x) (filter p ks) ≡ list_any (eq x) ks
   any-filter x p keeps [] = refl
   any-filter x p keeps (a ∷ rest) = by (p a) refl (eq x a) refl (any-filter x p keeps rest)
@@ -78,7 +78,7 @@ module _ {K : Type 0} (eq : K → K → Bool) where
   Distinct-first_seen (a ∷ rest) = (any-dropped a (first_seen eq rest), Distinct-filter (λ y. not (eq a y)) (first_seen eq rest) (Distinct-first_seen rest))
 
 module _ {K : Type 0} (eq : K → K → Bool) (laws : IsEquivalence eq) where
-  -- what is equal to x is kept, where x differs from a
+  -- what is equal to x is kept, if x differs from a
   kept : (x a : K) → eq x a ≡ false → (y : K) → eq x y ≡ true → not (eq a y) ≡ true
   kept x a e y h = ap not (laws.symm a y ∙ sym (laws.congr x y a h) ∙ e)
 
@@ -103,7 +103,7 @@ module _ {K : Type 0} (eq : K → K → Bool) (laws : IsEquivalence eq) where
   first_seen-push [] x = refl
   first_seen-push (a ∷ rest) x = ap (λ l. a ∷ filter (differs a) l) (first_seen-push rest x) ∙ filter-insert_key x a (first_seen eq rest)
 
-  -- a key is among those seen exactly where it is among all
+  -- a key is among those seen exactly when it is among all
   pub any-first_seen : (x : K) (ks : List K) → list_any (eq x) (first_seen eq ks) ≡ list_any (eq x) ks
   any-first_seen x [] = refl
   any-first_seen x (a ∷ rest) = by (eq x a) refl (any-first_seen x rest)
@@ -162,7 +162,7 @@ module _ {K R : Type 0} (eq : K → K → Bool) (laws : IsEquivalence eq) (key :
         (λ h. state-push rows r (key r) ∙ ap (λ b. fold step (state_of eq key step init rows (key r)) (cond b (r ∷ []) [])) (laws.refl (key r))
         ∙ ap (λ l. step (fold step init l) r) (none_with (key r) rows (sym (any-first_seen eq laws (key r) (map key rows)) ∙ h)))
 
--- gs is xs, or xs with one item d more where i is its end
+-- gs is xs, or xs with one item d more if i is its end
 abbrev pub Grown : {X : Type 0} → List X → List X → ℕ → X → Type 0
 Grown xs gs i d = ((i ≡ length xs) × (gs ≡ xs ++ d ∷ [])) ⊎ ((i < length xs) × (gs ≡ xs))
 

@@ -35,7 +35,7 @@ same_null (Text s) (Text t) e = refl
 same_null (Truth x) (Truth y) e = refl
 same_null a b e = search rules
 
--- keys match where they are the same and the right one has no null
+-- keys match if they are the same and the right one has no null
 match-without_nulls : (a b : List Cell) → (not (list_any is_null b) && same_key a b) ≡ keys_match false a b
 match-without_nulls [] [] = refl
 match-without_nulls [] (y ∷ ys) = by (not (list_any is_null (y ∷ ys)))
@@ -64,7 +64,7 @@ match-without_nulls (x ∷ xs) (y ∷ ys) = by (same_cell x y) refl (is_null x) 
         (not (is_null y || list_any is_null ys) && (same_cell x y && same_key xs ys)) ≡ ((not (is_null x) && same_cell x y) && keys_match false xs ys)
     by c e n f tail = nulls c n e f ∙ mid c n tail ∙ sym (ap (λ b. (not b && same_cell x y) && keys_match false xs ys) f ∙ ap (λ b. (not n && b) && keys_match false xs ys) e)
 
--- keys match where they are the same and the right one can match any
+-- keys match if they are the same and the right one can match any
 match-split : (nulls_equal : Bool) (a b : List Cell) → (can_match nulls_equal b && same_key a b) ≡ keys_match nulls_equal a b
 match-split true a b = refl
 match-split false a b = match-without_nulls a b
@@ -90,7 +90,7 @@ module _ {R : Type 0} (key : R → List Cell) (seen : List (List Cell)) (groups 
 pub index-matches : (nulls_equal : Bool) (key : ℕ → List Cell) (count : ℕ) (k : List Cell) → rows_with same_key key (places_with_key nulls_equal key count) k ≡ matches_of nulls_equal key count k
 index-matches nulls_equal key count k = filter-filter (λ n. same_key k (key n)) (λ n. can_match nulls_equal (key n)) (numbers count) ∙ (λ j. filter (λ n. match-split nulls_equal k (key n) j) (numbers count))
 
--- one more row in an index: its place goes to its key's, where the key can match
+-- one more row in an index: its place goes to its key's, if the key can match
 pub index-more : (nulls_equal : Bool) (key : ℕ → List Cell) (i : ℕ) (k : List Cell) (seen seen' : List (List Cell)) (groups groups' : List (List ℕ)) → k ≡ key i → IsIndex nulls_equal key i seen groups →
     ((can_match nulls_equal k ≡ true) × (seen' ≡ insert_key same_key seen k) × (groups' ≡ replaced (position_or_len (same_key k) seen) (with_row (get_or groups (position_or_len (same_key k) seen) []) i) groups))
     ⊎ ((can_match nulls_equal k ≡ false) × (seen' ≡ seen) × (groups' ≡ groups)) → IsIndex nulls_equal key (i + 1) seen' groups'

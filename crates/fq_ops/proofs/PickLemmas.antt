@@ -113,7 +113,7 @@ module _ {X : Type 0} (wanted : Name → Bool) (value : ℕ → X → Cell) wher
       by false e rest = ap (λ b. kinds (if b then (f.1, value i) ∷ picks_from wanted value (suc i) fields else picks_from wanted value (suc i) fields)) e ∙ rest
           ∙ sym (ap (λ b. map (λ (f : Field). f.1) (cond b (f ∷ filter (λ (f : Field). wanted f.0) fields) (filter (λ (f : Field). wanted f.0) fields))) e)
 
-  -- what an item has in the picked columns, where the value at each place is that of a row
+  -- what an item has in the picked columns, if the value at each place is that of a row
   pub row-picked : (x : X) (row : Row) → ((i : ℕ) → value i x ≡ value_at i row) → (i : ℕ) (fields : Fields) (rest : Row) → drop i row ≡ rest → length rest ≡ length fields →
       row_of (picks_from wanted value i fields) x ≡ map (λ (p : Name × Cell). p.1) (filter (λ (p : Name × Cell). wanted p.0) (zip (names_of fields) rest))
   row-picked x row at i [] rest d e = refl

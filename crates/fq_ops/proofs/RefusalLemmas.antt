@@ -37,7 +37,7 @@ unless-refused checks x f e = ap (chosen x) e
 pub unless-past : {X : Type 0} (checks more : List (Option StepFault)) (x : X) → first_refusal checks ≡ None → unless_refused (checks ++ more) x ≡ unless_refused more x
 unless-past checks more x e = ap (chosen x) (first_refusal-past checks more e)
 
--- a first check that doesn't refuse
+-- a first check that does not refuse
 pub unless-next : {X : Type 0} (b : Bool) (f : StepFault) (more : List (Option StepFault)) (x : X) → b ≡ false → unless_refused (refuse_if b f ∷ more) x ≡ unless_refused more x
 unless-next b f more x e = ap (λ c. chosen x (first_refusal (refuse_if c f ∷ more))) e
 
@@ -48,14 +48,14 @@ pub map-map : {X Y Z : Type 0} (g : Y → Z) (f : X → Y) (xs : List X) → map
 map-map g f [] = refl
 map-map g f (x ∷ xs) = ap (λ ys. g (f x) ∷ ys) (map-map g f xs)
 
--- the refusals of a list of columns, where there is one
+-- the refusals of a list of columns, if there is one
 pub schema-checked : (fs : Fields) (names : List Name) → names_of fs ≡ names → (length names == 0) ≡ false →
     unless_refused (schema_checks (names_of fs)) fs ≡ unless_refused (refuse_if (nat_lt 64 (length names)) TooMany ∷ refuse_if (not (is_distinct same_name names)) DoubleName ∷ []) fs
 schema-checked fs names e some =
     ap (λ (ns : List Name). unless_refused (schema_checks ns) fs) e
     ∙ unless-next (length names == 0) NoColumn (refuse_if (nat_lt 64 (length names)) TooMany ∷ refuse_if (not (is_distinct same_name names)) DoubleName ∷ []) fs some
 
--- a refusal that a judgement gives, or Memory
+-- a refusal that a judgement gives, or `Memory`
 pub refusal-judged : {X : Type 0} (expected answer : Result X StepFault) (f g : StepFault) → answer ≡ Err g → g ≡ f → (expected ≡ Err f) ⊎ (f ≡ Memory) → IsJudgement expected answer
 refusal-judged expected answer f g a e (inl h) = inl (a ∙ ap Err e ∙ sym h)
 refusal-judged expected answer f g a e (inr h) = inr (a ∙ ap Err (e ∙ h))
@@ -268,7 +268,7 @@ distinct-push (m ∷ ns) n e d =
     or-false true = refl
     or-false false = refl
 
--- the names of fields with one under a name, which differ where the fields' do
+-- the names of fields with one under a name, which differ if the fields' do
 pub distinct-put : (fs : Fields) (n : Name) (k : Kind) (o : Option ℕ) → position_of n (names_of fs) ≡ o → is_distinct same_name (names_of fs) ≡ true → is_distinct same_name (names_of (put_named fs (n, k))) ≡ true
 distinct-put fs n k (Some i) e d = ap (λ gs. is_distinct same_name (names_of gs)) (put_named-at fs n i k e) ∙ ap (is_distinct same_name) (names-with_kind i k fs) ∙ d
 distinct-put fs n k None e d =
@@ -305,7 +305,7 @@ roll-judged fs column name k window min_samples e w in_window in_samples d =
     ended true fs = refl
     ended false fs = refl
 
--- ---- what holds where nothing is refused
+-- ---- what holds if nothing is refused
 
 pub accepted : {X : Type 0} (checks : List (Option StepFault)) (x : X) → IsOk (unless_refused checks x) → first_refusal checks ≡ None
 accepted checks x ok = by (first_refusal checks) refl
@@ -335,7 +335,7 @@ pub kept-true : (b : Bool) → not b ≡ false → b ≡ true
 kept-true true e = refl
 kept-true false e = absurd (cc)
 
--- what is judged is not refused where the answer is a value
+-- what is judged is not refused if the answer is a value
 pub judged-ok : {X : Type 0} (expected : Result X StepFault) (x : X) → IsJudgement expected (Ok x) → IsOk expected
 judged-ok expected x (inl h) = sym (ap is_ok h)
 judged-ok expected x (inr h) = absurd (cc)

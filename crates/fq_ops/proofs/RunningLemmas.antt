@@ -13,7 +13,7 @@ use Rattle.fq_ops.specs.Aggregate.{wholes, int_sum, values, least, greatest, cou
 use Rattle.fq_ops.specs.Running.{Sum, Min, Max, Count, Len, First, Last, NUnique, addend, lesser, greater, stepped, finished}
 use Rattle.fq_ops.proofs.GroupLemmas.{first_seen-push, same_cell_laws}
 
--- ---- what a cell that is no whole number adds
+-- ---- what a cell that is not a whole number adds
 
 pub addend-other : {X : Type 0} (make : X → Cell) → ((x : X) → addend (make x) ≡ pos 0) → (array : List (Option X)) (row : ℕ) → addend (value_at row (map (nullable make) array)) ≡ pos 0
 addend-other make none [] row = refl
@@ -58,7 +58,7 @@ count-finished cells = ap finished (count-along 0 cells) ∙ ap (λ n. Some (Who
 -- ---- the least and the greatest
 
 module _ (wins : Cell → Cell → Bool) where
-  -- the better of two cells, where null is no value
+  -- the better of two cells, where null is not a value
   abbrev pub better : Cell → Cell → Cell
   better best cell = if is_null cell then best else if is_null best then cell else if wins cell best then cell else best
 

@@ -73,7 +73,7 @@ pub record IsAccumulator (width groups n : ℕ) (a : Accumulated) : Type 0 where
   pub beside : length a.states ≡ groups
   pub bounded : All (IsBoundedBy n) a.states
 
--- the aggregate of a group, or none where a sum does not fit 64 bits
+-- the aggregate of a group, or none if a sum does not fit 64 bits
 abbrev pub value_in : ℕ → Accumulated → Option Cell
 value_in group a = finished (slice_index_or a.states group (Len 0))
 

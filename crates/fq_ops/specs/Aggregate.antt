@@ -40,7 +40,7 @@ abbrev pub first_seen : {X : Type 0} → (X → X → Bool) → List X → List 
 first_seen same [] = []
 first_seen same (x ∷ xs) = x ∷ filter (λ y. not (same x y)) (first_seen same xs)
 
--- the least of the values, the greatest, or null where there is none
+-- the least of the values, the greatest, or null if there is none
 abbrev pub least : List Cell → Cell
 least cells = unwrap_or (reduce (λ a b. if is_lt (cell_cmp b a) then b else a) (values cells)) Null
 
@@ -50,7 +50,7 @@ greatest cells = unwrap_or (reduce (λ a b. if is_gt (cell_cmp b a) then b else 
 abbrev pub count : {X : Type 0} → List X → Cell
 count xs = Whole (pos (length xs))
 
--- the aggregate of the rows of a group, or none where a sum does not fit 64 bits
+-- the aggregate of the rows of a group, or none if a sum does not fit 64 bits
 abbrev pub aggregated : Fields → Aggregate → List Row → Option Cell
 aggregated fields (sum_of n) rows = fitted (int_sum (wholes (map (value_named fields n) rows)))
 aggregated fields (min_of n) rows = Some (least (map (value_named fields n) rows))

@@ -21,7 +21,7 @@ Judged = Name × Result Kind StepFault
 abbrev pub refusals : List Judged → List (Option StepFault)
 refusals ps = map (λ p. refusal_of p.1) ps
 
--- the fields of judged names, where none is refused
+-- the fields of judged names, if none is refused
 abbrev pub settled : List Judged → Fields
 settled ps = map (λ p. (p.0, result_unwrap_or p.1 Whole)) ps
 

@@ -39,7 +39,7 @@ function_of (unique_of n) = function.NUnique
 abbrev pub place_named : Fields → Name → ℕ
 place_named fields name = unwrap_or (position_of name (names_of fields)) 0
 
--- the place of the column of an aggregate, or 0 where it reads none
+-- the place of the column of an aggregate, or 0 if it reads none
 abbrev pub place_of : Fields → Aggregate → ℕ
 place_of fields (sum_of n) = place_named fields n
 place_of fields (min_of n) = place_named fields n
@@ -84,7 +84,7 @@ pub record IsReady (g : Gathered) : Type 0 where
   pub width : length g.output ≡ length g.places + length g.accumulators
   pub accumulators : g.failed ≡ false → All (IsAccumulator (length g.fields) (length g.seen) g.taken) g.accumulators
 
--- the fault is that of a grouping, or memory was refused
+-- the fault is that of a grouping, or an allocation failed
 abbrev pub IsFaultOf : Result (List Row) ℕ → GroupFault → Type 0
 IsFaultOf expected (SumRange item) = expected ≡ Err item
 IsFaultOf expected Memory = Unit {0}

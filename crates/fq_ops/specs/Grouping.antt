@@ -5,7 +5,7 @@ use Rattle.fq_column.specs.declared.cells.Cell.{Cell}
 use Rattle.fq_ops.specs.Group.{same_key}
 use Rattle.fq_ops.specs.Aggregate.{first_seen}
 
--- xs with x at place i, or last where i is its length
+-- xs with x at place i, or last if i is its length
 abbrev pub replaced : {X : Type 0} → ℕ → X → List X → List X
 replaced i x xs = take i xs ++ x ∷ drop (suc i) xs
 

@@ -66,7 +66,7 @@ pub record AreKeys (fields : Fields) (on : List Name) : Type 0 where
   pub columns : AllPass (has_name (names_of fields)) on
   pub distinct : IsTrue (is_distinct same_name on)
 
--- whether two lists of key values match: all are equal, and none is null where nulls are not equal
+-- whether two lists of key values match: all are equal, and none is null if nulls are not equal
 abbrev pub keys_match : Bool → List Cell → List Cell → Bool
 keys_match nulls_equal = pointwise (λ a b. (nulls_equal || not (is_null a)) && same_cell a b)
 

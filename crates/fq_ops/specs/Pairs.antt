@@ -13,7 +13,7 @@ use Rattle.fq_ops.specs.declared.joins.How.{How}
 use Rattle.fq_ops.specs.declared.joins.How.TheVariants.{Inner, Left, Semi, Anti}
 use Rattle.fq_ops.specs.Grouping.{IsGrouping}
 
--- a left place, and a right one where there is a match
+-- a left place, and a right one if there is a match
 abbrev pub Pair : Type 0
 Pair = ℕ × Option ℕ
 

@@ -31,7 +31,7 @@ roll_schema fields column window min_samples name = and_then (kind_named fields 
 abbrev pub window_at : ℕ → List Cell → ℕ → List ℤ
 window_at n cells i = wholes (drop (suc i - n) (take (suc i) cells))
 
--- their sum where there are at least m, else null; or none where a given sum does not fit 64 bits
+-- their sum if there are at least m, else null; or none if a given sum does not fit 64 bits
 abbrev pub rolled_at : ℕ → ℕ → List Cell → ℕ → Option Cell
 rolled_at n m cells i = if nat_le m (length (window_at n cells i)) then fitted (int_sum (window_at n cells i)) else Some Null
 

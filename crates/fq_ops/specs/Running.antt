@@ -30,7 +30,7 @@ addend (Whole n) = n
 addend (Text t) = pos 0
 addend (Truth b) = pos 0
 
--- the lesser of two cells, null where both are, and the greater
+-- the lesser of two cells, null if both are, and the greater
 abbrev pub lesser : Cell → Cell → Cell
 lesser best cell = if is_null cell then best else if is_null best then cell else if is_lt (cell_cmp cell best) then cell else best
 
@@ -60,7 +60,7 @@ start_of function.First = First None
 start_of function.Last = Last Null
 start_of function.NUnique = NUnique []
 
--- the aggregate, or none where a sum does not fit 64 bits
+-- the aggregate, or none if a sum does not fit 64 bits
 abbrev pub finished : Running → Option Cell
 finished (Sum total) = fitted total
 finished (Min best) = Some best
@@ -75,7 +75,7 @@ finished (NUnique cells) = Some (count cells)
 abbrev pub outcome : Running → Cell
 outcome r = unwrap_or (finished r) Null
 
--- the cell, or null where it is of another kind
+-- the cell, or null if it is of another kind
 abbrev pub of_kind : Kind → Cell → Cell
 of_kind k c = if has_kind k c then c else Null
 

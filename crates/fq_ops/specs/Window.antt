@@ -20,7 +20,7 @@ pub record IsRunning (places : List (Option ℤ)) (window : ℕ) (sum : ℤ) (co
   pub some : 1 ≤ window
   pub few : window ≤ 65536
 
--- the sum of a window's cells where at least m values stand in it, else null; or none where a given sum does not fit 64 bits
+-- the sum of a window's cells if at least m values stand in it, else null; or none if a given sum does not fit 64 bits
 abbrev pub sum_of_window : ℕ → List Cell → Option Cell
 sum_of_window m cells = if nat_le m (length (wholes cells)) then fitted (int_sum (wholes cells)) else Some Null
 

@@ -1,4 +1,4 @@
-// The running values of an aggregate, one for each group.
+//! The running values of an aggregate, one for each group.
 ghost use Rattle.std.specs.Prelude.{◌≡◌, ◌+◌, ◌-◌, ◌<◌, ◌≤◌, ◌^◌, ℕ, [], All, is_some, length, map, IfOk, OnOk};
 ghost use Rattle.fq_column.specs.Lists.{numbers};
 ghost use Rattle.fq_ops.specs.Accumulated.{IsAccumulator, accumulated, function_in, grown_and_stepped, padded, running_in, running_pick, stepped_along, value_in, value_pick};
@@ -40,7 +40,7 @@ pub enum States {
 }
 
 impl Accumulator {
-    /// No group yet; takes no memory.
+    /// No group yet; allocates nothing.
     pub fn new(alloc: Global, function: Function, column: usize) -> Accumulator
         ensures { result ≡ record { function = function; column = column; states = [] } }
     {
@@ -102,7 +102,7 @@ impl Accumulator {
 }
 
 impl States {
-    // No group yet; takes no memory.
+    // No group yet; allocates nothing.
     fn new(alloc: Global, function: Function) -> States
         ensures function { function_in result ≡ function }
         ensures states { running_in result ≡ [] }

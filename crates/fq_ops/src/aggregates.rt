@@ -1,13 +1,13 @@
-// Aggregates of a group.
+//! Aggregates of a group.
 
 /// An aggregate of a named column's cells in a group, or the number of the group's rows.
 #[derive(Debug, Drop)]
 pub enum What {
-    /// The sum of the whole numbers; nulls are skipped, and it is 0 where no value is there.
+    /// The sum of the whole numbers; nulls are skipped, and it is 0 if there is no value.
     Sum(String),
-    /// The least value; nulls are skipped, and it is null where no value is there.
+    /// The least value; nulls are skipped, and it is null if there is no value.
     Min(String),
-    /// The greatest value; nulls are skipped, and it is null where no value is there.
+    /// The greatest value; nulls are skipped, and it is null if there is no value.
     Max(String),
     /// The number of values that are not null.
     Count(String),

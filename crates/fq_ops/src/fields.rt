@@ -1,4 +1,4 @@
-// The fields of a schema to be.
+//! The fields of a schema to be.
 ghost use Rattle.std.specs.Prelude.{◌≡◌, ◌<◌, ◌++◌, [], ◌∷◌, Some, All, map, length, string_bytes, IfOk, IfErr, OnOk, slice_get};
 ghost use Rattle.fq_column.specs.Frame.{IsSchema, has_name, names_of};
 ghost use Rattle.fq_column.specs.Refusal.{unless_refused};
@@ -30,7 +30,7 @@ impl Model for FieldList {
 }
 
 impl FieldList {
-    /// No field; takes no memory.
+    /// No field; allocates nothing.
     pub fn new(alloc: Global) -> FieldList
         ensures { result ≡ [] }
     {
@@ -53,7 +53,7 @@ impl FieldList {
         Ok(fields)
     }
 
-    /// One more field; may grow.
+    /// Appends a field; may grow.
     pub fn push(&mut self, name: String, kind: Kind) -> Result<(), StepFault>
         ensures ok { OnOk result (self.new ≡ self.old ++ (string_bytes name, kind) ∷ []) }
         ensures err { IfErr result (λ fault. fault ≡ StepFault.Memory) }
@@ -68,7 +68,7 @@ impl FieldList {
         Ok(())
     }
 
-    /// Field `i` with another kind.
+    /// Gives field `i` this kind.
     pub fn set_kind(&mut self, i: usize, kind: Kind)
         requires { i < length self.old }
         ensures { self.new ≡ with_kind i kind self.old }

@@ -1,4 +1,4 @@
-// Groups of rows over batches that come one after another.
+//! Groups of rows over batches that come one after another.
 ghost use Rattle.std.specs.Prelude.{◌≡◌, ◌+◌, ◌-◌, ◌<◌, ◌≤◌, ◌^◌, ◌++◌, ℕ, List, [], All, true, false, length, map, string_bytes, Ok, Err, IfOk, IfErr, IfSome, IsOk, OnOk, OnErr};
 ghost use Rattle.indexmap.specs.IndexSet.{insert_all};
 ghost use Rattle.fq_column.specs.Frame.{IsFrame, Name, Row, kinds_of};
@@ -32,7 +32,7 @@ pub enum GroupFault {
         /// The aggregate, counted from 0.
         item: u16,
     },
-    /// A growth was refused.
+    /// An allocation failed.
     Memory,
 }
 
@@ -106,8 +106,8 @@ impl Grouper {
         })
     }
 
-    /// Takes the rows of a batch of the grouper's columns: one lookup for each row, then one pass for each aggregate. A
-    /// refusal for memory is for good: the grouper has failed, and its number of rows stays.
+    /// Takes the rows of a batch of the grouper's columns: one lookup for each row, then one pass for each aggregate. If an
+    /// allocation fails, the grouper has failed for good, and its number of rows stays.
     pub fn take(&mut self, alloc: Global, batch: &Batch) -> Result<(), Memory>
         requires fields { batch.now.fields ≡ self.old.fields }
         requires room { self.old.taken + length batch.now.rows ≤ 2 ^ 40 }
@@ -138,7 +138,7 @@ impl Grouper {
         Ok(())
     }
 
-    /// How many rows it has taken, without those of a batch that was refused.
+    /// How many rows it has taken, without those of a batch on which it failed.
     pub fn rows_taken(&self) -> u64
         ensures { result ≡ self.now.taken }
     {
@@ -148,8 +148,8 @@ impl Grouper {
     /// The rows of the groups, in the order of their first rows: the keys, then the aggregates.
     ///
     /// A grouping in which a sum does not fit 64 bits gives no row: `SumRange` names the first such group's lowest such
-    /// aggregate. Sums are judged here alone, so that no order of the rows makes a fault. `Memory` where a growth was
-    /// refused, now or in an earlier `take`.
+    /// aggregate. Sums are judged only here, so that no order of the rows makes a fault. `Memory` if an allocation failed,
+    /// now or in an earlier `take`.
     pub fn finish(self, alloc: Global) -> Result<Batch, GroupFault>
         ensures for_good { self.failed ≡ true → result ≡ Err GroupFault.Memory }
         ensures fields { IfOk result (λ b. b.fields ≡ self.output) }
@@ -200,7 +200,7 @@ fn accumulators_of(alloc: Global, schema: &Schema, aggs: &[Agg]) -> Result<Vec<A
     Ok(accumulators)
 }
 
-// The function of an aggregate and the place of its column, or 0 where it reads none.
+// The function of an aggregate and the place of its column, or 0 if it reads none.
 fn resolve(schema: &Schema, what: &What) -> (Function, usize)
     requires { 1 ≤ length schema.now }
     ensures function { result.0 ≡ function_of (aggregate_of what.now) }

@@ -1,4 +1,4 @@
-// Rows numbered by their keys.
+//! Rows numbered by their keys.
 ghost use Rattle.std.specs.Prelude.{◌≡◌, ◌<◌, length, IfOk, OnOk};
 ghost use Rattle.std.specs.List.{position_or_len};
 ghost use Rattle.indexmap.specs.IndexSet.{insert_key};
@@ -9,7 +9,7 @@ use fq_column::Memory;
 use indexmap::IndexSet;
 use std::alloc::Global;
 
-/// The number of a key in the order of first appearance: one lookup, and a copy of the key only where it is new.
+/// The number of a key in the order of first appearance: one lookup, and a copy of the key only if it is new.
 pub fn number_of(alloc: Global, seen: &mut IndexSet<Key>, key: &Key) -> Result<usize, Memory>
     ensures keys { OnOk result (seen.new.keys ≡ insert_key same_key seen.old.keys key.now) }
     ensures index { IfOk result (λ i. i ≡ position_or_len (same_key key.now) seen.old.keys) }

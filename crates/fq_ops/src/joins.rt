@@ -1,4 +1,4 @@
-// Joins of left batches with one right batch.
+//! Joins of left batches with one right batch.
 ghost use Rattle.std.specs.Prelude.{◌≡◌, ◌≤◌, ◌<◌, ◌+◌, ◌-◌, ◌++◌, ℕ, Bool, true, false, not, List, [], ◌∷◌, All, map, length, get_or, string_bytes, slice_index_or, Some, None, IfOk, IsOk, OnOk};
 ghost use Rattle.std.specs.List.{position_or_len};
 ghost use Rattle.indexmap.specs.IndexSet.{insert_key};
@@ -26,7 +26,7 @@ use std::marker::Model;
 
 /// Laws of joins, for all schemas, names and rows.
 ///
-/// Where a join is not refused, its keys are what [`JoinTable::build`] asks, and its columns those of the definition.
+/// If a join is not refused, its keys are as [`JoinTable::build`] requires, and its columns those of the definition.
 /// A join of left rows that come in two parts is the join of the first part and then, if no fault ends it, that of the
 /// second with the room that is left. An inner or a left join whose nulls are not equal is the plain one.
 pub fn join_laws()
@@ -47,9 +47,9 @@ pub enum How {
     Inner,
     /// A row with each match, and without one a row with nulls on the right.
     Left,
-    /// Itself, once, where there is a match.
+    /// Itself, once, if there is a match.
     Semi,
-    /// Itself, where there is no match.
+    /// Itself, if there is no match.
     Anti,
 }
 
@@ -58,11 +58,11 @@ pub enum How {
 pub struct Probed {
     /// The output rows, up to the left row whose output would pass the room.
     pub batch: Batch,
-    /// That left row, where there is one.
+    /// That left row, if there is one.
     pub fault: Option<usize>,
 }
 
-// The places of the rows of a key; up to two take no memory.
+// The places of the rows of a key; up to two need no allocation.
 #[derive(Drop)]
 struct Places {
     places: SmallVec<usize, 2>,
@@ -124,8 +124,8 @@ impl Model for JoinTable {
 
 impl JoinTable {
     /// The table of a right batch, whose rows are found by their values in the columns of these names, which are distinct
-    /// columns of the batch, at least one. A null matches a null where `nulls_equal` is true (Polars, `nulls_equal`), and
-    /// else nothing. Copies the batch and the names; see [`JoinTable::build_from`].
+    /// columns of the batch, at least one. A null matches a null if `nulls_equal` is true (Polars, `nulls_equal`), and
+    /// otherwise nothing. Copies the batch and the names; see [`JoinTable::build_from`].
     pub fn build(
         alloc: Global,
         right: &Batch,
@@ -140,8 +140,8 @@ impl JoinTable {
         JoinTable::build_from(alloc, right, on, nulls_equal)
     }
 
-    /// The table of a right batch, which it keeps with no copy: one lookup for each row, and a copy of each key where it
-    /// is new. A refusal hands nothing back.
+    /// The table of a right batch, which it keeps with no copy: one lookup for each row, and a copy of each key if it is
+    /// new. If an allocation fails, nothing is handed back.
     pub fn build_from(
         alloc: Global,
         right: Batch,
@@ -247,7 +247,7 @@ fn gather_right(
     Ok(columns)
 }
 
-// Notes the places of the rows of a batch by their keys, where these can match.
+// Notes the places of the rows of a batch by their keys, if these can match.
 fn index_rows(
     alloc: Global,
     seen: &mut IndexSet<Key>,
@@ -273,14 +273,14 @@ fn index_rows(
     Ok(())
 }
 
-// Whether a key can match any.
+// Whether a key can match any key.
 fn may_match(key: &Key, nulls_equal: bool) -> bool
     ensures { result ≡ can_match nulls_equal key.now }
 {
     nulls_equal || !key.has_null()
 }
 
-// Puts a place to those of its key.
+// Adds a place to those of its key.
 fn add_place(
     alloc: Global,
     seen: &mut IndexSet<Key>,
@@ -332,7 +332,7 @@ fn count_pairs(how: How, left: usize, matches: &[usize]) -> usize
     }
 }
 
-// Puts the pairs of a left row at the end.
+// Appends the pairs of a left row.
 fn push_pairs(pairs: &mut Pairs, how: How, left: usize, matches: &[usize]) -> Result<(), Memory>
     ensures { OnOk result (pairs.new ≡ pairs.old ++ pairs_of how left matches.now) }
 {
@@ -349,7 +349,7 @@ fn push_pairs(pairs: &mut Pairs, how: How, left: usize, matches: &[usize]) -> Re
     }
 }
 
-// Puts a left row with each of its matches at the end.
+// Appends a left row with each of its matches.
 fn push_matches(pairs: &mut Pairs, left: usize, matches: &[usize]) -> Result<(), Memory>
     ensures { OnOk result (pairs.new ≡ pairs.old ++ map (λ r. (left, Some r)) matches.now) }
 {

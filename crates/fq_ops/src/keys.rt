@@ -1,4 +1,4 @@
-// Keys of joins and groups: the values of a row in the key columns.
+//! Keys of joins and groups: the values of a row in the key columns.
 ghost use Rattle.std.specs.Prelude.{◌≡◌, ◌<◌, ◌≤◌, List, [], ◌∷◌, length, replicate, All, IfOk, OnOk, slice_get, slice_index_or, option_copied};
 ghost use Rattle.std.specs.Cmp.Lexicographic.{pointwise, lists_per, lists_equiv};
 ghost use Rattle.std.specs.List.{list_any};
@@ -18,7 +18,7 @@ use std::marker::Model;
 
 /// The values of a row in the key columns, at least one.
 ///
-/// The first stands in place, so that a key of one whole number or truth value takes no memory.
+/// The first stands in place, so that a key of one whole number or truth value needs no allocation.
 #[derive(Drop)]
 pub struct Key {
     first: Cell,
@@ -50,7 +50,7 @@ impl Key {
         })
     }
 
-    /// Takes the values of a row, in the key's own memory where it is enough.
+    /// Takes the values of a row, in the key's own memory if it is large enough.
     pub fn read(
         &mut self,
         alloc: Global,
@@ -131,7 +131,7 @@ impl Hash for Key {
     }
 }
 
-/// Keys are equal by the table's equality exactly where they are by the definitions.
+/// Keys are equal by the table's equality exactly when they are by the definitions.
 pub fn key_law()
     ensures { (a b : List Value) → ⟦<Key as PartialEq>⟧.eq a b ≡ same_key a b }
 {}

@@ -1,4 +1,4 @@
-// Pairs of places that a join puts together.
+//! Pairs of places that a join puts together.
 ghost use Rattle.std.specs.Prelude.{◌≡◌, ◌++◌, [], ◌∷◌, map, length, IfOk, OnOk};
 
 use fq_column::Memory;
@@ -33,7 +33,7 @@ impl Pairs {
         Ok(Pairs { left, right })
     }
 
-    /// One more pair.
+    /// Appends a pair.
     pub fn push(&mut self, left: usize, right: Option<usize>) -> Result<(), Memory>
         ensures { OnOk result (self.new ≡ self.old ++ (left, right) ∷ []) }
     {

@@ -1,4 +1,4 @@
-// Rolling sums over columns that come one after another.
+//! Rolling sums over columns that come one after another.
 ghost use Rattle.std.specs.Prelude.{◌≡◌, ◌≤◌, ◌++◌, ◌∷◌, None, Some, List, [], drop, length, false, IfOk, MatchResult, OnOk, OnErr};
 ghost use Rattle.circular_buffer.specs.Buffer.{keep_last};
 ghost use Rattle.fq_column.specs.Column.{nullable};
@@ -48,7 +48,7 @@ struct OutOfRange;
 
 impl Rolling {
     /// A rolling sum that has taken no cell: over a window of 1 to 65,536 rows, given where at least `min_samples`
-    /// values stand in it, which is from 1 to the window. Takes memory for the window.
+    /// values stand in it, which is from 1 to the window. Allocates for the window.
     pub fn new(alloc: Global, window: u32, min_samples: u32) -> Result<Rolling, Memory>
         requires window { (1 ≤ window) × (window ≤ 65536) }
         requires samples { (1 ≤ min_samples) × (min_samples ≤ window) }
@@ -120,7 +120,7 @@ impl Rolling {
         self.total.add(place);
     }
 
-    // The sum of the window, or none where too few values stand in it.
+    // The sum of the window, or none if too few values stand in it.
     fn sum(&self) -> Result<Option<i64>, OutOfRange>
         ensures { MatchResult result
             (λ sum. sum_of_window self.now.min_samples self.now.last ≡ Some (nullable cell.Whole sum))

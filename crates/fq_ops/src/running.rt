@@ -1,4 +1,4 @@
-// What a running value of an aggregate does.
+//! What a running value of an aggregate does.
 ghost use Rattle.std.specs.Prelude.{◌≡◌, ◌+◌, ◌<◌, ◌^◌, ℕ, [], ◌∷◌, ◌++◌, length, OnOk};
 ghost use Rattle.fq_column.specs.Frame.{value_at};
 ghost use Rattle.fq_ops.specs.Running.{Running, IsBoundedBy, of_kind, outcome, start_of, stepped};
@@ -27,11 +27,11 @@ pub trait State: Drop {
     // What it says of the rows so far.
     ghost running: { Self → Running };
 
-    /// The value over no row; takes no memory.
+    /// The value over no row; allocates nothing.
     fn start(alloc: Global) -> Self
         ensures { running result ≡ start_of function };
 
-    /// Takes one row more, whose cell stands in a column; reads the cell into `scratch` where it must be compared.
+    /// Takes one more row, whose cell stands in a column; reads the cell into `scratch` if it must be compared.
     fn step(
         &mut self,
         alloc: Global,
@@ -44,13 +44,13 @@ pub trait State: Drop {
         ensures stepped { OnOk result (running self.new ≡ stepped (running self.old) (value_at row column.now.cells)) }
         ensures bounded { OnOk result ((n : ℕ) → IsBoundedBy n (running self.old) → IsBoundedBy (n + 1) (running self.new)) };
 
-    /// Puts the aggregate at the end of a column, or null where it does not fit 64 bits or is of another kind.
+    /// Appends the aggregate to a column, or null if it does not fit 64 bits or is of another kind.
     fn push_to(&self, column: &mut Column) -> Result<(), Memory>
         requires { IsBoundedBy (2 ^ 40) (running self.now) }
         ensures { OnOk result (column.new ≡ record column.old { cells = column.old.cells ++ of_kind column.old.kind (outcome (running self.now)) ∷ [] }) };
 }
 
-/// Puts a copy of a cell at the end of a column, or null where the cell is of another kind.
+/// Appends a copy of a cell to a column, or null if the cell is of another kind.
 pub fn push_cell(column: &mut Column, cell: &Cell) -> Result<(), Memory>
     ensures { OnOk result (column.new ≡ record column.old { cells = column.old.cells ++ of_kind column.old.kind cell.now ∷ [] }) }
 {

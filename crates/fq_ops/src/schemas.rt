@@ -1,4 +1,4 @@
-// Schemas after joins, groupings and rolling sums.
+//! Schemas after joins, groupings and rolling sums.
 ghost use Rattle.std.specs.Prelude.{◌≡◌, ◌⊎◌, ◌++◌, None, Some, map, not, string_bytes, IfOk, IfErr, OnOk};
 ghost use Rattle.fq_column.specs.Frame.{same_name, has_name};
 ghost use Rattle.fq_column.specs.Lists.{is_distinct};
@@ -19,10 +19,10 @@ use std::alloc::Global;
 /// The schema after a join on these names: the left columns, then, of an inner or a left join, the right ones without the
 /// keys.
 ///
-/// A right column whose name is among the left names gets the suffix `_right`. Refused, in this order: `NoColumn` where
-/// no key is named; for each key `NoSuchColumn` where it is not on the left or not on the right, `WrongKind` where its
-/// kinds differ; `TooMany` where there would be more than 64 columns; `DoubleName` where a key is named twice or two
-/// names of the output are equal. `Memory` where a growth was refused.
+/// A right column whose name is among the left names gets the suffix `_right`. Refused, in this order: `NoColumn` if no
+/// key is named; for each key `NoSuchColumn` if it is not on the left or not on the right, `WrongKind` if its kinds
+/// differ; `TooMany` if there would be more than 64 columns; `DoubleName` if a key is named twice or two names of the
+/// output are equal. `Memory` if an allocation failed.
 pub fn join_schema(
     alloc: Global,
     left: &Schema,
@@ -49,9 +49,9 @@ pub fn join_schema(
 
 /// The schema after a grouping: the keys' columns, then one for each aggregate.
 ///
-/// Refused, in this order: `NoColumn` where no key is named; for each key `NoSuchColumn`; for each aggregate
-/// `NoSuchColumn`, and `WrongKind` for a sum of a column that is not of whole numbers; `TooMany` where there would be
-/// more than 64 columns; `DoubleName` where two names of the output are equal. `Memory` where a growth was refused.
+/// Refused, in this order: `NoColumn` if no key is named; for each key `NoSuchColumn`; for each aggregate
+/// `NoSuchColumn`, and `WrongKind` for a sum of a column that is not of whole numbers; `TooMany` if there would be more
+/// than 64 columns; `DoubleName` if two names of the output are equal. `Memory` if an allocation failed.
 pub fn group_schema(
     alloc: Global,
     schema: &Schema,
@@ -71,9 +71,9 @@ pub fn group_schema(
 
 /// The schema after a rolling sum of a column under a name: in the place of that name, or else last.
 ///
-/// Refused, in this order: `NoSuchColumn`; `WrongKind` where the column is not of whole numbers; `Window` where the
-/// window is not from 1 to 65,536; `Samples` where `min_samples` is not from 1 to the window; `TooMany` where a new name
-/// would make more than 64 columns. `Memory` where a growth was refused.
+/// Refused, in this order: `NoSuchColumn`; `WrongKind` if the column is not of whole numbers; `Window` if the window is
+/// not from 1 to 65,536; `Samples` if `min_samples` is not from 1 to the window; `TooMany` if a new name would make more
+/// than 64 columns. `Memory` if an allocation failed.
 pub fn roll_schema(
     alloc: Global,
     schema: &Schema,

@@ -1,4 +1,4 @@
-// Running values of aggregates.
+//! Running values of aggregates.
 ghost use Rattle.std.specs.Prelude.{◌≡◌, ◌<◌, length, not, ◌&&◌, ◌||◌, is_some, IfOk, OnOk};
 ghost use Rattle.std.specs.Ordering.{is_lt, is_gt};
 ghost use Rattle.indexmap.specs.IndexSet.{insert_key};
@@ -272,7 +272,7 @@ impl State for Distinct {
     }
 }
 
-// One cell more, which is copied only where it is new.
+// Inserts a cell, which is copied only if it is new.
 fn insert_new(alloc: Global, cells: &mut IndexSet<Cell>, cell: &Cell) -> Result<(), Memory>
     ensures { OnOk result (cells.new.keys ≡ insert_key same_cell cells.old.keys cell.now) }
 {
@@ -285,7 +285,7 @@ fn insert_new(alloc: Global, cells: &mut IndexSet<Cell>, cell: &Cell) -> Result<
     Ok(())
 }
 
-// Cells are equal by the derived test exactly where they are by the definitions.
+// Cells are equal by the derived test exactly when they are by the definitions.
 fn cell_law()
     ensures { (a b : Value) → ⟦<Cell as PartialEq>⟧.eq a b ≡ same_cell a b }
 {}
@@ -312,7 +312,7 @@ fn is_greater(cell: &Cell, best: &Cell) -> bool
     }
 }
 
-// What a cell of a column adds to a sum: 0 where it is no whole number.
+// What a cell of a column adds to a sum: 0 if it is not a whole number.
 fn whole_or_zero(column: &Column, row: usize) -> i64
     requires { row < length column.now.cells }
     ensures { result ≡ addend (value_at row column.now.cells) }

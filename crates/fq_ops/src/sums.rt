@@ -1,4 +1,4 @@
-// Sums in 128 bits.
+//! Sums in 128 bits.
 ghost use Rattle.std.specs.Prelude.{◌≡◌, ◌^◌, ◌+◌, ◌<◌, ◌≤◌, length, ◌+ℤ◌, ◌-ℤ◌, option_to_list};
 ghost use Rattle.fq_ops.specs.Aggregate.{int_sum};
 ghost use Rattle.fq_ops.specs.Sums.{AllFit, IsWithin};
@@ -13,7 +13,7 @@ pub struct Total {
 }
 
 impl Total {
-    /// One value more, where it is there.
+    /// Adds a value, if there is one.
     pub fn add(&mut self, value: Option<i64>)
         requires within { IsWithin (2 ^ 40) self.old.sum }
         requires few { self.old.count < 2 ^ 40 }
@@ -27,7 +27,7 @@ impl Total {
         }
     }
 
-    /// One of the values less, where it is there.
+    /// Removes one of the values, if there is one.
     pub fn remove(&mut self, value: Option<i64>)
         requires within { IsWithin (2 ^ 40) self.old.sum }
         requires one_of_them { length (option_to_list value) ≤ self.old.count }

@@ -58,7 +58,7 @@ source_checks s = first_refusal (schema_checks (names_of s.fields))
 abbrev pub or_later : ℕ → Option StepFault → Option CheckFault → Option CheckFault
 or_later n o later = elim o [ Some code ↦ Some (refused_at (place.Source n) code) | None ↦ later ]
 
--- where no source of the first ones is refused, the next ones are judged
+-- if no source of the first ones is refused, the next ones are judged
 pub source_refusal-append : (n : ℕ) (xs ys : List Source) → source_refusal n xs ≡ None → source_refusal n (xs ++ ys) ≡ source_refusal (n + length xs) ys
 source_refusal-append n [] ys e = ap (λ m. source_refusal m ys) (let q : n ≡ n + 0 = omega arith in q)
 source_refusal-append n (x ∷ xs) ys e = go (source_checks x) (source_refusal-append (n + 1) xs ys) e
@@ -94,7 +94,7 @@ stage_steps-snoc [] s = append-nil (operator_steps s.operator)
 stage_steps-snoc (x ∷ stages) s =
     ap (λ ss. operator_steps x.operator ++ ss) (stage_steps-snoc stages s) ∙ sym (append_assoc (operator_steps x.operator) (stage_steps stages) (operator_steps s.operator))
 
--- the refusal, where there is one
+-- the refusal, if there is one
 abbrev pub refusal_in : {X E : Type 0} → Result X E → Option E
 refusal_in (Ok x) = None
 refusal_in (Err e) = Some e

@@ -1,4 +1,4 @@
--- How rows are cut into files is no part of a plan's meaning.
+-- How rows are cut into files is not part of a plan's meaning.
 use Rattle.std.proofs.Common.{◌≡◌, ◌+◌, ◌<◌, List, [], ◌∷◌, ◌++◌, map, take, drop, length, sum_by, Some, None, Result, Err, refl, ap, sym, ◌∙◌, arith}
 use Rattle.std.proofs.Math.Seq.{drop-drop}
 use Rattle.std.proofs.lemmas.List.{take-map, drop-map, take_all, length-drop, length-map, map-append}

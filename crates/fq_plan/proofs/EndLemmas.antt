@@ -1,4 +1,4 @@
--- A plan means a frame only where no file ends in a fault.
+-- A plan means a frame only if no file ends in a fault.
 use Rattle.std.proofs.Common.{◌≡◌, ℕ, ◌+◌, true, is_some, List, [], ◌∷◌, ◌++◌, map, take, drop, sum_by, Option, Some, None, option_map, Result, Ok, Err, IsOk, refl, ap, sym, subst, ◌∙◌, cond}
 use Rattle.std.proofs.lemmas.List.{take-append-drop}
 use Rattle.std.proofs.Math.Seq.{drop-drop}

@@ -84,7 +84,7 @@ module _ (front : NumberedSteps) (joins : ℕ) where
   abbrev pub RunsFit : List Head → ℕ → Layout → Type 0
   RunsFit hs k layout = (run : FieldRun) → run.layout ≡ layout → Fits (work_on front joins k (Run run)) (fields_at k hs)
 
-  -- the items of a file fit, where its runs do
+  -- the items of a file fit, if its runs do
   fits-file : (hs : List Head) (layout : Layout) (k s n : ℕ) (rss : List (List Record)) (end : Option ScanFault) → RunsFit hs k layout
       → AllFit hs (answers_to (numbered_file k s (runs_from k layout n rss ++ end_item end)))
   fits-file hs layout k s n [] None h = tt

@@ -24,7 +24,7 @@ scanned_items-next file layout size n u run hs hu is =
 scanned_items-over : (file : ℕ) (layout : Layout) (size n : ℕ) (fault : Option ScanFault) → scanned_items file layout size n (over fault) ≡ end_item fault
 scanned_items-over file layout size n fault = ap (λ rss. runs_from file layout n rss ++ end_item fault) (pieces-none {X = Record} size)
 
--- what comes of a scan whose fault was not given, where its records are known
+-- what comes of a scan whose fault was not given, if its records are known
 comes : (s : RecordScanning) (over : Bool) (f : Feeding) (known : List Scanned) → f ≡ feeding_of s over → over ≡ false → f.items ≡ Some known
     → (u : RecordStream) × (s.upcoming ≡ Some u) × (scanned_items s.file s.layout s.run_size s.taken u ≡ known)
 comes s over f known v n e = go s.upcoming refl

@@ -48,7 +48,7 @@ over-batches joins batches n before after stages e leads =
     subst (λ fs. Leads fs n before stages after) (sym (ap (map (λ (f : Frame). f.fields)) e ∙ map-map (λ (f : Frame). f.fields) (λ (g : Gathered). g.batch) joins)) leads
 
 module _ (joins : List Gathered) (main : Gathered) (n : ℕ) (stages : List Stage) (after : Fields) where
-  -- what the steps make of the last, where no source before it ends in a fault
+  -- what the steps make of the last, if no source before it ends in a fault
   pub none-before : first_fault (map gathered_stream joins) ≡ None → Leads (map (λ g. g.batch.fields) joins) n main.batch.fields stages after →
       outcome_of_stages n stages joins main ≡ frame_or_fault after (meant (later_steps n stages joins main.batch.fields after) (gathered_stream main))
   none-before none leads =

@@ -70,7 +70,7 @@ rows-and-end : (rows : List Row) (end : Option Fault) → then_stream (done rows
 rows-and-end rows end = ap (λ rs. let u : Stream Fault = record { rows = rs; fault = end } in u) (append-nil rows)
 
 module _ (p : Query) (file : ℕ) where
-  -- the work on a run gives its rows, after the leading steps where its file is of the main source
+  -- the work on a run gives its rows, after the leading steps if its file is of the main source
   run-worked : (run : FieldRun) → (nat_lt file (join_files p) ≡ false → run.layout.schema ≡ main_fields p) →
       worked_stream (work_on (leading_steps p) (join_files p) file (Run run)) ≡ worked p file (item_rows (Run run))
   run-worked run h = until-stream u.fault (piece_of (leading_steps p) (join_files p) file (framed run.layout.schema u.rows)) ∙ go (nat_lt file (join_files p)) h
@@ -142,7 +142,7 @@ module _ (file : ℕ) (layout : Layout) where
       items-rows 0 (pieces b w.records) w.fault
       ∙ ap (λ rs. rename_fault scan_fault (then_stream (rows_after file layout row_limit 0 rs) (ended w.fault))) (flat_map-pieces b w.records h)
 
--- what the workers make of a file's items joins to its rows, after the leading steps where it is of the main source
+-- what the workers make of a file's items joins to its rows, after the leading steps if it is of the main source
 pub file-worked : (p : Query) (b file : ℕ) (layout : Layout) (w : RecordStream) → 0 < b → (nat_lt file (join_files p) ≡ false → layout.schema ≡ main_fields p) →
     concat_streams (map (work_stream p file) (scanned_items file layout b 0 w)) ≡ worked p file (rename_fault scan_fault (rows_of_records file layout row_limit 0 w))
 file-worked p b file layout w some h =
@@ -163,7 +163,7 @@ module _ (file : ℕ) (layout : Layout) (limit : ℕ) where
       go false false (Ok row) e = let same : row ∷ [] ≡ rows = cc e in sym (ap length same)
       go false false (Err i) e = absurd (cc e)
 
-  -- where no record faults, each is a row
+  -- if no record faults, each is a row
   all-rows : (n : ℕ) (rs : List Record) → (rows_after file layout limit n rs).fault ≡ None → length (rows_after file layout limit n rs).rows ≡ length rs
   all-rows n [] e = refl
   all-rows n (r ∷ rs) e = go (row_of file layout limit (n + 1) r) refl (all-rows (n + 1) rs)

@@ -52,7 +52,7 @@ no_more_leading (join source on how nulls_equal ∷ steps) = refl
 no_more_leading (group_by keys aggs ∷ steps) = refl
 no_more_leading (rolling_sum column window m name ∷ steps) = refl
 
--- one more step, where all before it are leading
+-- one more step, if all before it are leading
 pub leading-further : (steps : List PlanStep) (s : Step) → rest_of steps ≡ [] → (front_of (steps ++ row_wise s ∷ []) ≡ front_of steps ++ (s ∷ [])) × (rest_of (steps ++ row_wise s ∷ []) ≡ [])
 leading-further [] s e = (refl, refl)
 leading-further (row_wise t ∷ steps) s e = let ih = leading-further steps s e in (ap (λ ss. t ∷ ss) ih.0, ih.1)
@@ -60,7 +60,7 @@ leading-further (join source on how nulls_equal ∷ steps) s e = absurd (cc)
 leading-further (group_by keys aggs ∷ steps) s e = absurd (cc)
 leading-further (rolling_sum column window m name ∷ steps) s e = absurd (cc)
 
--- one more step, where one before it is not leading
+-- one more step, if one before it is not leading
 pub rest-further : (steps : List PlanStep) (s : PlanStep) (t : PlanStep) (ts : List PlanStep) → rest_of steps ≡ t ∷ ts →
     (front_of (steps ++ s ∷ []) ≡ front_of steps) × (rest_of (steps ++ s ∷ []) ≡ rest_of steps ++ (s ∷ []))
 rest-further [] s t ts e = absurd (cc)

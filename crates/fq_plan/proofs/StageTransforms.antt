@@ -43,7 +43,7 @@ use Rattle.fq_plan.specs.declared.stages.Stage.{Stage}
 use Rattle.fq_plan.proofs.TransformLemmas.{group-causal, group-whole, join-causal, join-whole, roll-causal, roll-whole, steps-whole}
 use Rattle.fq_plan.proofs.StageLemmas.{apply_steps-none, fields-after-all, join-turn, rows-turn, stages-lead, step-turn}
 
--- what is given where nothing is refused
+-- what is given if nothing is refused
 module _ {X : Type 0} (x y : X) where
   by-none : (o : Option StepFault) → (let r : Result X StepFault = elim o [ Some f ↦ Err f | None ↦ Ok x ] in r) ≡ Ok y → x ≡ y
   by-none None e = cc

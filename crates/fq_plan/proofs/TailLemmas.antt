@@ -34,7 +34,7 @@ items_from-one a n k (u ∷ us) b e =
 abbrev pub flat : List (List (Stream Fault)) → List (Stream Fault)
 flat xss = flat_map (λ xs. xs) xss
 
--- where the first file is looked for, or is past what is looked for
+-- if the first file is looked for, or is past what is looked for
 items_from-here : (a n k : ℕ) (xss : List (List (Stream Fault))) → a ≤ k → items_from a n (tagged k xss) ≡ flat (take (a + n - k) xss)
 items_from-here a n k [] h = ap flat (sym (take-nil (a + n - k)))
 items_from-here a n k (xs ∷ xss) h =

@@ -107,7 +107,7 @@ module _ {V : Type 0} (view : V → Data) where
       go (a ∷ b ∷ c ∷ []) n = absurd (n refl)
       go (a ∷ b ∷ c ∷ d ∷ vs) n = refl
 
-  -- an array of neither two items nor three is no expression
+  -- an array of neither two items nor three is not an expression
   pub expression-other : (vs : List V) → (length vs ≡ 2 → ⊥) → (length vs ≡ 3 → ⊥) → expression (array (items_of (map view vs))) ≡ None
   expression-other [] n m = refl
   expression-other (a ∷ []) n m = refl

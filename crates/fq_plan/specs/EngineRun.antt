@@ -65,7 +65,7 @@ opened remaining run_size file (layout ∷ layouts) (reader ∷ readers) =
     record { most = 2147483648; items = option_map (scanned_items file layout run_size 0) (option_map (record_stream file layout.schema row_limit) (remaining reader)) }
     ∷ opened remaining run_size (file + 1) layouts readers
 
--- what the steps after the leading ones make of what was gathered, where no source before the last ends in a fault
+-- what the steps after the leading ones make of what was gathered, if no source before the last ends in a fault
 abbrev pub outcome_of_gathered : Query → List Gathered → Gathered → Result Frame Fault
 outcome_of_gathered p joins main = elim (first_fault (map gathered_stream joins)) [
   | Some f ↦ Err f
@@ -83,7 +83,7 @@ pub record RanOver (p : Query) (batch_size : ℕ) (ws : List RecordStream) (fron
   pub nothing : first ≡ nothing_taken p
   pub finished : Finishes MayCome (λ file item out. out ≡ work_on front joins file item) Takes feeds first trace last
 
--- then what was gathered has the plan's meaning as its outcome, and the trace lists each file's batches where that is a frame
+-- then what was gathered has the plan's meaning as its outcome, and the trace lists each file's batches if that is a frame
 pub record Gives (p : Query) (batch_size : ℕ) (us : List (Stream ScanFault)) (last : List Gathered) (numbers : List (ℕ × ℕ)) : Type 0 where
   pub outcome : (joins : List Gathered) (main : Gathered) → last ≡ joins ++ main ∷ [] → outcome_of_gathered p joins main ≡ meaning p us
   pub trace : IsOk (meaning p us) → numbers ≡ trace_of batch_size us

@@ -76,7 +76,7 @@ abbrev pub LogicWithNulls : Type 0
 LogicWithNulls = answer (one_file (codes "['x','int']") (codes "{'select':[['a',['and',{'null':'bool'},false]],['b',['or',{'null':'bool'},true]],['c',['not',{'null':'bool'}]],['d',['and',{'null':'bool'},true]],['e',['eq',{'null':'int'},{'null':'int'}]],['f',['eq_missing',{'null':'int'},{'null':'int'}]],['g',['fill_null',{'null':'int'},7]]]}"))
     (codes "x\n1\n" ∷ []) ≡ prints (codes "a,b,c,d,e,f,g\nfalse,true,,,,true,7\n")
 
--- the fault of the earliest row wins
+-- the fault of the earliest row takes precedence
 abbrev pub two_sums : List ℕ
 two_sums = one_file a_b (codes "{'with_columns':[['p',['add',{'col':'a'},1]]]},{'with_columns':[['q',['add',{'col':'b'},1]]]}")
 

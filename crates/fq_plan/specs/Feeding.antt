@@ -24,7 +24,7 @@ runs_from file layout before (rs ∷ more) = Run (record { file = file; layout =
 abbrev pub scanned_items : ℕ → Layout → ℕ → ℕ → RecordStream → List Scanned
 scanned_items file layout run_size before u = runs_from file layout before (pieces run_size u.records) ++ end_item u.fault
 
--- how many items may come at most, and which do, where the reader tells its bytes and has not failed
+-- how many items may come at most, and which do, if the reader tells its bytes and has not failed
 pub record Feeding : Type 0 where
   pub most : ℕ
   pub items : Option (List Scanned)
@@ -34,7 +34,7 @@ abbrev pub feeding_of : RecordScanning → Bool → Feeding
 feeding_of s true = record { most = 0; items = Some [] }
 feeding_of s false = record { most = s.room + 1; items = option_map (scanned_items s.file s.layout s.run_size s.taken) s.upcoming }
 
--- these may be the items that come: where they are known, they are those
+-- these may be the items that come: if they are known, they are those
 abbrev pub MayCome : Feeding → List Scanned → Type 0
 MayCome f xs = (known : List Scanned) → f.items ≡ Some known → xs ≡ known
 

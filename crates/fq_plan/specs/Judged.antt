@@ -47,6 +47,6 @@ module _ (joins : List Fields) where
 abbrev pub judged : Query → Result (List Fields) CheckFault
 judged p = elim (source_refusal 0 p.sources) [ Some refusal ↦ Err refusal | None ↦ judged_steps (join_fields p) 0 (main_fields p) p.steps ]
 
--- the plan, where it is not refused
+-- the plan, if it is not refused
 abbrev pub checked : Query → Result Query CheckFault
 checked p = result_map_both (λ schemas. p) (λ refusal. refusal) (judged p)

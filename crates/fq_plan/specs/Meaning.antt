@@ -49,7 +49,7 @@ outcome joins n fields steps u = let after = apply_plan_steps joins n fields ste
 abbrev pub frames_of : List Source → List (Stream Fault) → List Frame
 frames_of sources us = zip_with (λ s u. record { fields = s.fields; rows = u.rows }) sources us
 
--- the meaning over the streams of the sources before the last, and of the last: the first fault of the former, also where no
+-- the meaning over the streams of the sources before the last, and of the last: the first fault of the former, even if no
 -- step uses that source, or else what the steps make of the latter
 abbrev pub meaning_of_sources : Query → List (Stream Fault) → Stream Fault → Result Frame Fault
 meaning_of_sources p joins main = elim (first_fault joins)
@@ -59,6 +59,6 @@ meaning_of_sources p joins main = elim (first_fault joins)
 abbrev pub meaning_of_files : Query → List (Stream Fault) → Result Frame Fault
 meaning_of_files p us = meaning_of_sources p (source_streams (but_last p.sources) us) (concat_streams (drop (join_files p) us))
 
--- the same, where the streams end in faults of the files
+-- the same, for streams that end in faults of the files
 abbrev pub meaning : Query → List (Stream ScanFault) → Result Frame Fault
 meaning p us = meaning_of_files p (map (rename_fault scan_fault) us)

@@ -1,6 +1,6 @@
 -- What can be read out of a JSON value (RFC 8259).
 --     given o f                 f of what is there
---     only_if b o               what is there, where b holds
+--     only_if b o               what is there, if b holds
 --     word table d              what a string stands for
 --     each_of f d               f of each item of an array
 --     pair_of f g d             f and g of the two items of an array
@@ -42,7 +42,7 @@ whole_from_to low high d = given (whole d) (λ z. only_if (is_from_to (pos low) 
 
 -- ---- arrays
 
--- f of each item, where each gives a value
+-- f of each item, if each gives a value
 abbrev pub items_as : {X : Type 0} → (Data → Option X) → Items → Option (List X)
 items_as f no_items = Some []
 items_as f (item d ds) = given (f d) (λ x. option_map (λ xs. x ∷ xs) (items_as f ds))
@@ -79,7 +79,7 @@ has_members n _ = false
 abbrev pub member : {X : Type 0} → Name → (Data → Option X) → Data → Option X
 member name f d = given (get name d) f
 
--- the value of an object's only member, where that has this name
+-- the value of an object's only member, if that has this name
 abbrev pub only_member : Name → Data → Option Data
 only_member name (object (member_then n d no_members)) = if same_name name n then Some d else None
 only_member name _ = None

@@ -30,7 +30,7 @@ pub record HasRun (operators : List Running) (w : PlanPart) (rows out : List Row
   pub given : given_all transforms (done rows) ≡ done out
   pub whole : (u : Stream Fault) → whole_all transforms u ≡ meant w u
 
--- one more piece came, and this was passed on: the operators have taken it, or, where a fault was passed on, what was passed
+-- one more piece came, and this was passed on: the operators have taken it, or, if a fault was passed on, what was passed
 -- on is what the steps make of all streams that begin so
 pub record HasPushed (operators : List Running) (w : PlanPart) (rows out : List Row) (came p : Passed) : Type 0 where
   pub columns : IsUnder w.after p.batch

@@ -9,7 +9,7 @@ use Rattle.fq_plan.specs.declared.printed_text.PrintedText.{PrintedText}
 abbrev pub text_of : PrintedText → List ℕ
 text_of t = flat_map (λ piece. piece.items) t.pieces.items
 
--- what comes of an outcome: its frame's text, its fault, or that memory was refused
+-- what an outcome comes to: its frame's text, its fault, or `Memory`
 abbrev pub Prints : Result Frame Fault → Result PrintedText Fault → Type 0
 Prints outcome (Ok text) = (frame : Frame) × (outcome ≡ Ok frame) × (text_of text ≡ printed frame)
 Prints outcome (Err f) = (f ≡ Memory) ⊎ (outcome ≡ Err f)

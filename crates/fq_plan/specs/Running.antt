@@ -26,7 +26,7 @@ rows_in (Some b) = b.rows
 abbrev pub passed_stream : Passed → Stream Fault
 passed_stream p = record { rows = rows_in p.batch; fault = p.fault }
 
--- its rows, where there are any, have these columns
+-- its rows, if there are any, have these columns
 abbrev pub IsUnder : Fields → Option Frame → Type 0
 IsUnder fields None = Unit {0}
 IsUnder fields (Some b) = b.fields ≡ fields

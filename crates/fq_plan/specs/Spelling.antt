@@ -160,7 +160,7 @@ plan_of d = only_if (has_members 3 d)
     given (with_length 0 64 (member (codes "steps") (each_of (step_of version)) d)) (λ steps.
     only_if (nat_le (sum_by (λ s. s.files) sources) 16) (Some (record { sources = sources; steps = steps }))))))
 
--- the value that bytes are, where they are JSON
+-- the value that bytes are, if they are JSON
 abbrev pub json_of : List ℕ → Option Data
 json_of bytes = only_if (is_utf8 bytes) (read bytes)
 

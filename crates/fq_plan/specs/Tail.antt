@@ -15,7 +15,7 @@ use Rattle.fq_plan.specs.declared.faults.Fault.TheVariants.{Overflow}
 abbrev pub after_leading : Query → Stream Fault → Stream Fault
 after_leading p u = apply_steps Overflow 0 (main_fields p) (front_of p.steps) u
 
--- a file's stream, or a piece of it, as the workers give it: after the leading steps where it is of the main source
+-- a file's stream, or a piece of it, as the workers give it: after the leading steps if it is of the main source
 abbrev pub worked : Query → ℕ → Stream Fault → Stream Fault
 worked p file u = if nat_lt file (join_files p) then u else after_leading p u
 
@@ -24,7 +24,7 @@ abbrev pub worked_files : Query → ℕ → List (Stream Fault) → List (Stream
 worked_files p file [] = []
 worked_files p file (u ∷ us) = worked p file u ∷ worked_files p (file + 1) us
 
--- what the other steps make of the worked items joined, where no source before the last ends in a fault
+-- what the other steps make of the worked items joined, if no source before the last ends in a fault
 abbrev pub finished : Query → List (Stream Fault) → List (Stream Fault) → Result Frame Fault
 finished p joins items = elim (first_fault joins) [
   | Some f ↦ Err f

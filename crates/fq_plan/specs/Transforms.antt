@@ -1,5 +1,5 @@
 -- Operators that take a stream piece by piece, as two functions of the rows taken so far: what they pass on of them at once,
--- and what they make of them where no more come.
+-- and what they make of them once no more come.
 use Rattle.std.specs.Prelude.{◌≡◌, ℕ, List, [], ◌∷◌, Some, None, Ok, Err}
 use Rattle.fq_column.specs.Frame.{Fields, Name, Row}
 use Rattle.fq_column.specs.Stream.{Stream, done, ended_as, faulted, rename_fault, then_stream}

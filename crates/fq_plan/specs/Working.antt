@@ -17,7 +17,7 @@ use Rattle.fq_plan.specs.declared.feeds.Scanned.TheVariants as scanned
 use Rattle.fq_plan.specs.declared.workers.Worked.{Worked}
 use Rattle.fq_plan.specs.declared.workers.Worked.TheVariants as worked
 
--- the rows that a run's records are, up to the first with a field that is no cell
+-- the rows that a run's records are, up to the first with a field that is not a cell
 abbrev pub rows_of_run : FieldRun → Stream ScanFault
 rows_of_run run = rows_after run.file run.layout row_limit run.before run.records
 

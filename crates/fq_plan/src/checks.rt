@@ -1,4 +1,4 @@
-// Checked plans.
+//! Checked plans.
 ghost use Rattle.std.specs.Prelude.{◌≡◌, ◌⊎◌, IsErrAnd, IsOk, IfOk, IfErr, Ok, Err, length};
 ghost use Rattle.fq_column.specs.declared.faults.StepFault.{StepFault as Code};
 ghost use Rattle.fq_plan.specs.Judged.{checked, judged, refused_at, IsPlaceOf};
@@ -55,14 +55,14 @@ impl Model for Checked {
 }
 
 impl Plan {
-    /// The plan, where each source's columns make a schema and each step can be made on the columns that the steps before
-    /// it leave. A refused plan is gone.
+    /// The plan, if each source's columns make a schema and each step can be made on the columns that the steps before it
+    /// leave. A refused plan is dropped.
     ///
     /// Sources are judged in order, then steps in order; the first refusal is answered with its place. A source:
     /// `NoColumn`; `TooMany` for more than 64 columns; `DoubleName`. A row-wise step: as `RowStep::schema`. A join:
-    /// `NoSuchSource` where its number is not that of a source before the last; then as `join_schema`. A grouping: as
-    /// `group_schema`. A rolling sum: as `roll_schema`. `Memory` where a growth is refused, with the place at which the
-    /// check stood.
+    /// `NoSuchSource` if its number is not that of a source before the last; then as `join_schema`. A grouping: as
+    /// `group_schema`. A rolling sum: as `roll_schema`. `Memory` if an allocation fails, with the place at which the check
+    /// stood.
     pub fn check(self, alloc: Global) -> Result<Checked, CheckFault>
         ensures { (result ≡ checked self) ⊎ IsErrAnd result (λ e. (e.code ≡ Code.Memory) × IsPlaceOf (length self.sources) (length self.steps) e.place) }
     {
@@ -74,7 +74,7 @@ impl Plan {
     }
 }
 
-// The plan, where it is not refused; a refusal leaves the place at which the check stood.
+// The plan, if it is not refused; a refusal leaves the place at which the check stood.
 fn check_plan(alloc: Global, plan: Plan, place: &mut Place) -> Result<Checked, StepFault>
     requires { IsPlaceOf (length plan.sources) (length plan.steps) place.old }
     ensures place { IsPlaceOf (length plan.sources) (length plan.steps) place.new }

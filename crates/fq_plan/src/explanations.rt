@@ -1,4 +1,4 @@
-// What a checked plan reads and does, for people.
+//! What a checked plan reads and does, for people.
 use crate::checks::Checked;
 use crate::stages::{CheckedSource, Operator, Stage};
 use fq_column::{Kind, Memory, Schema};

@@ -1,4 +1,4 @@
-// The items of a file for the engine: its records in runs, and its fault as one item more.
+//! The items of a file for the engine: its records in runs, and its fault as one item more.
 ghost use Rattle.std.specs.Prelude.{◌≡◌, ◌≤◌, IfOk, option_map};
 ghost use Rattle.fq_csv.specs.Taking.{record_stream};
 ghost use Rattle.fq_plan.specs.Feeding.{MayCome, scanned_items, some_items};

@@ -1,4 +1,4 @@
-// The worked items of sources, gathered.
+//! The worked items of sources, gathered.
 ghost use Rattle.std.specs.Prelude.{◌≡◌, ◌<◌, None, [], length, IfOk, OnOk, OnErr};
 ghost use Rattle.fq_column.specs.Frame.{kinds_of};
 ghost use Rattle.fq_csv.specs.Rows.{Holds};
@@ -21,7 +21,7 @@ pub(crate) struct Gathered {
 }
 
 impl Gathered {
-    /// A source of so many files, with no row yet. `Memory` where a growth is refused.
+    /// A source of so many files, with no row yet. `Memory` if an allocation fails.
     pub(crate) fn new(alloc: Global, files: u16, schema: Schema) -> Result<Gathered, Memory>
         ensures { IfOk result (λ g. g ≡ record { files = files; batch = record { fields = schema; rows = [] }; fault = None }) }
     {
@@ -54,7 +54,7 @@ impl Gathered {
         }
     }
 
-    // Ends the rows, where no fault has ended them.
+    // Ends the rows, unless a fault has ended them before.
     fn end(&mut self, fault: ScanFault)
         ensures { self.new ≡ gathered self.old (Worked.Ended fault) }
     {
@@ -92,7 +92,7 @@ pub(crate) fn take_in(sources: &mut [Gathered], file: u16, out: Worked) -> Resul
     }
 }
 
-/// A batch of no rows. `Memory` where a growth is refused.
+/// A batch of no rows. `Memory` if an allocation fails.
 pub(crate) fn empty_batch(alloc: Global, schema: Schema) -> Result<Batch, Memory>
     ensures { IfOk result (λ b. b ≡ record { fields = schema; rows = [] }) }
 {

@@ -1,4 +1,4 @@
-// Laws of the definitions, proved for all values.
+//! Laws of the definitions, proved for all values.
 ghost use Rattle.std.specs.Prelude.{◌≡◌, ◌<◌, ◌≤◌, ℕ, All, List, [], Some, length, map};
 ghost use Rattle.serde_json.specs.Data.{Data};
 ghost use Rattle.fq_column.specs.Frame.{Fields, Row};
@@ -31,7 +31,7 @@ pub fn plans_of_both_versions()
         (plan_of latter ≡ Some p) × All (λ s. s.nulls ≡ []) p.sources × All IsOldStep p.steps }
 {}
 
-/// How the rows of a source are cut into files is no part of the answer: where the files of two plans with the same steps
+/// How the rows of a source are cut into files is not part of the answer: if the files of two plans with the same steps
 /// over the same columns have no fault and give each source the same rows, the plans mean the same.
 pub fn meaning_of_cut_files()
     ensures { (p q : Query) (files other : List (List Row)) → 0 < length p.sources → GiveTheSameRows p q files other →

@@ -1,4 +1,4 @@
-// The main source's rows on their way through the steps after the leading ones.
+//! The main source's rows on their way through the steps after the leading ones.
 ghost use Rattle.std.specs.Prelude.{◌≡◌, ◌⊎◌, ◌++◌, ℕ, List, [], map, Some, None, Err, IfOk, IfErr, OnOk};
 ghost use Rattle.fq_column.specs.Frame.{Fields, Row};
 ghost use Rattle.fq_column.specs.Stream.{Stream, done, then_stream};

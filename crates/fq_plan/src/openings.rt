@@ -1,4 +1,4 @@
-// What a run starts from: the feeds of the files, and the sources with no rows.
+//! What a run starts from: the feeds of the files, and the sources with no rows.
 ghost use Rattle.std.specs.Prelude.{◌≡◌, ◌≤◌, ◌++◌, ◌∷◌, [], flat_map, map, replicate, vec_len, length, IfOk};
 ghost use Rattle.fq_plan.specs.EngineRun.{no_rows, opened};
 ghost use Rattle.fq_plan.specs.Stages.{checked_layout};

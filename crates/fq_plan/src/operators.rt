@@ -1,4 +1,4 @@
-// Running operators: each takes a stream piece by piece, and passes on what it makes of a piece at once.
+//! Running operators: each takes a stream piece by piece, and passes on what it makes of a piece at once.
 ghost use Rattle.std.specs.Prelude.{◌≡◌, List, [], None, map, IfOk};
 ghost use Rattle.fq_column.specs.Frame.{Fields, Row};
 ghost use Rattle.fq_plan.specs.Transforms.{Transform, steps_transform};

@@ -1,4 +1,4 @@
-// What running operators take and pass on.
+//! What running operators take and pass on.
 ghost use Rattle.std.specs.Prelude.{◌≡◌};
 ghost use Rattle.fq_plan.specs.Gathering.{added_stream};
 ghost use Rattle.fq_plan.specs.Running.{IsUnder, passed_stream};
@@ -8,7 +8,7 @@ use crate::workers::Worked;
 use fq_column::{Batch, Schema};
 use fq_expr::Piece;
 
-/// Rows, where there are any, and the fault that ends them.
+/// Rows, if there are any, and the fault that ends them.
 #[derive(Drop)]
 pub(crate) struct Passed {
     pub(crate) batch: Option<Batch>,

@@ -1,4 +1,4 @@
-// Running operators one after the other.
+//! Running operators one after the other.
 ghost use Rattle.std.specs.Prelude.{◌≡◌, ℕ, List, [], map, IfOk};
 ghost use Rattle.fq_column.specs.Frame.{Fields, Row};
 ghost use Rattle.fq_plan.specs.Pipelines.{HasFinished, HasPushed, HasRun, PlanPart};
@@ -51,7 +51,7 @@ impl<'a> Pipeline<'a> {
         Ok(passed)
     }
 
-    /// What is left where no more comes. No more can be taken.
+    /// What is left once no more comes. No more can be taken.
     pub(crate) fn finish(&mut self, alloc: Global) -> Result<Passed, Memory>
         requires { (w : PlanPart) × ((rows : List Row) × ((out : List Row) × HasRun self.old.operators.items w rows out)) }
         ensures { IfOk result (λ p. (w : PlanPart) (rows out : List Row) → HasRun self.old.operators.items w rows out → HasFinished w rows out p) }

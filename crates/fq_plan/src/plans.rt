@@ -1,4 +1,4 @@
-// Plans.
+//! Plans.
 ghost use Rattle.std.specs.Prelude.{◌≡◌, ◌⊎◌, Err};
 ghost use Rattle.fq_plan.specs.Spelling.{read_as_plan};
 
@@ -25,7 +25,7 @@ pub struct Source {
 pub enum Version {
     /// The first.
     One,
-    /// The first; texts that are read as null, semi and anti joins, and null keys that match.
+    /// The first, with texts that are read as null, semi and anti joins, and null keys that match.
     Two,
 }
 
@@ -83,8 +83,9 @@ impl Model for Plan {
 
 /// The plan that a JSON text spells.
 ///
-/// `Json` for what is no JSON text, nesting deeper than 127 and bad UTF-8 among it, and `Shape` for a JSON value that
-/// spells no plan. `Memory` where memory is refused. One pass over the text, and one over the value that it gives.
+/// `Json` if the bytes are not a JSON text, which includes nesting deeper than 127 and invalid UTF-8, and `Shape` if the
+/// JSON value spells no plan. `Memory` if an allocation fails. One pass over the text, and one over the value that it
+/// gives.
 pub fn read_plan(alloc: Global, text: &[u8]) -> Result<Plan, PlanFault>
     ensures { (result ≡ read_as_plan text.now) ⊎ (result ≡ Err PlanFault.Memory) }
 {

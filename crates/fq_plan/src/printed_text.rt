@@ -1,4 +1,4 @@
-// The printed frame, as it grows.
+//! The printed frame, as it grows.
 ghost use Rattle.std.specs.Prelude.{◌≡◌, ◌++◌, IfOk, IfErr, OnOk};
 ghost use Rattle.std.specs.Io.KnownBytes.{Appends};
 ghost use Rattle.fq_csv.specs.Printed.{printed_names, printed_rows};
@@ -35,7 +35,7 @@ impl PrintedText {
         Ok(())
     }
 
-    /// Writes the text after what a writer holds; where the writer fails, it has taken an unknown part. `Write` where it does.
+    /// Writes the text after what a writer holds. `Write` if the writer fails; it has then taken an unknown part.
     pub(crate) fn write_to<W: Write>(&self, out: &mut W) -> Result<(), Fault>
         ensures written { OnOk result (Appends (W.contents out.old) (W.contents out.new) (text_of self.now)) }
         ensures refused { IfErr result (λ f. f ≡ fault.Write) }

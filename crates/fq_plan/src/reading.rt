@@ -1,4 +1,4 @@
-// Reading a plan out of a JSON value.
+//! Reading a plan out of a JSON value.
 ghost use Rattle.std.specs.Prelude.{◌≡◌, Option, option_map, IfOk};
 ghost use Rattle.serde_json.specs.View.{view};
 ghost use Rattle.serde_json.specs.Data.{Data};
@@ -29,12 +29,12 @@ pub trait Spelled: Drop {
     // The data of a part.
     ghost part_of: { Self → Self.Part };
 
-    /// The part that a value spells, or none where it spells no such part.
+    /// The part that a value spells, or `None` if it spells no such part.
     fn read(alloc: Global, version: Version, value: &Value) -> Result<Option<Self>, Memory>
         ensures { IfOk result (λ o. option_map part_of o ≡ spelled_by version (view value.now)) };
 }
 
-/// The part that an object's member spells, or none where there is no such member or it spells no such part.
+/// The part that an object's member spells, or `None` if there is no such member or it spells no such part.
 pub fn read_member<T: Spelled>(
     alloc: Global,
     version: Version,

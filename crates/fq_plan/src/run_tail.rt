@@ -1,4 +1,4 @@
-// The tail of a run: each worked item goes through the remaining steps as soon as it is taken.
+//! The tail of a run: each worked item goes through the remaining steps as soon as it is taken.
 ghost use Rattle.std.specs.Prelude.{◌≡◌, ℕ, List, OnOk};
 ghost use Rattle.fq_column.specs.Frame.{Fields};
 ghost use Rattle.fq_plan.specs.Gathering.{gathered, taken_in};
@@ -105,7 +105,7 @@ impl<'a> RunTail<'a> {
         Ok(())
     }
 
-    // Takes the main source's rows out of the tail, and passes a worked item on to them, where no fault has ended all.
+    // Takes the main source's rows out of the tail, and passes a worked item on to them, unless a fault has ended all.
     fn pass(&mut self, item: Worked) -> Result<Option<MainStream<'a>>, Fault>
         ensures same { self.new.join_files ≡ self.old.join_files }
         ensures opened { (stages : List Stage) (n : ℕ) (after : Fields) (joins : List Source) (main : Source) → LeadsOver stages n after joins main → Stands stages n after joins main self.old →
@@ -117,7 +117,7 @@ impl<'a> RunTail<'a> {
         }
     }
 
-    // Takes the main source's rows out of the tail, where no fault has ended all; with the first of them, the sources before
+    // Takes the main source's rows out of the tail, unless a fault has ended all; with the first of them, the sources before
     // it are whole.
     fn open(&mut self) -> Result<Option<MainStream<'a>>, Fault>
         ensures same { self.new.join_files ≡ self.old.join_files }

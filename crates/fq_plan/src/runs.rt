@@ -1,4 +1,4 @@
-// A checked plan over files.
+//! A checked plan over files.
 ghost use Rattle.std.specs.Prelude.{◌≡◌, ◌≢◌, ◌≤◌, ◌⊎◌, ℕ, List, map, vec_len, Some, Ok, Err, IfOk, IfErr, IsOk, OnOk};
 ghost use Rattle.std.specs.Io.KnownBytes.{Appends, Keeps};
 ghost use Rattle.fq_column.specs.Frame.{Frame};
@@ -37,10 +37,10 @@ impl Checked {
     /// the order in which the threads take their steps. The report lists the file and serial of each batch, by file, then
     /// serial.
     ///
-    /// The first of these faults is answered: `Inputs` for another number of readers than `Checked::inputs`, and
-    /// `Setting` for a batch size or a number of workers out of range, both before any reading; `Memory` where a growth
-    /// or a thread was refused; `Read` with the lowest file whose reader failed; the fault of the files or of the steps
-    /// that the plan means; `Write` where `out` failed. Nothing is written at any fault but `Write`, where an unknown
+    /// The first of these faults is answered: `Inputs` if the number of readers is not `Checked::inputs`, and `Setting` if
+    /// the batch size or the number of workers is out of range, both before any reading; `Memory` if an allocation failed
+    /// or a thread could not be started; `Read` with the lowest file whose reader failed; the fault of the files or of the
+    /// steps that the plan means; `Write` if `out` failed. Nothing is written at any fault but `Write`, at which an unknown
     /// part is.
     pub fn run<T: Threads + Wait + Sync, R: Read + Drop + Send, W: Write>(
         &self,
@@ -62,7 +62,7 @@ impl Checked {
         // a fault of the files or of the steps is the meaning
         ensures fault { (files : List (List ℕ)) → Tell R.remaining inputs.items files → IfErr result
             (λ f. IsOfMeaning f → meaning self.now (file_streams self.now files) ≡ Err f) }
-        // a refused write comes last
+        // a failed write is answered only if the plan means a frame
         ensures write { (files : List (List ℕ)) → Tell R.remaining inputs.items files → result ≡ Err fault.Write →
             IsOk (meaning self.now (file_streams self.now files)) }
         ensures unwritten { IfErr result (λ f. f ≢ fault.Write → Keeps (W.contents out.old) (W.contents out.new)) }
@@ -73,7 +73,7 @@ impl Checked {
     /// As `Checked::run`, with a gate that is shown each worker's answer before it leaves the worker.
     ///
     /// A gate sees who works on what and when, and can hold a worker up; what is written does not depend on it. Each answer
-    /// passes it, also where the plan has no leading row-wise steps.
+    /// passes it, even if the plan has no leading row-wise steps.
     pub fn run_gated<
         T: Threads + Wait + Sync,
         G: Gate<Worked> + Sync,
@@ -100,7 +100,7 @@ impl Checked {
         // a fault of the files or of the steps is the meaning
         ensures fault { (files : List (List ℕ)) → Tell R.remaining inputs.items files → IfErr result
             (λ f. IsOfMeaning f → meaning self.now (file_streams self.now files) ≡ Err f) }
-        // a refused write comes last
+        // a failed write is answered only if the plan means a frame
         ensures write { (files : List (List ℕ)) → Tell R.remaining inputs.items files → result ≡ Err fault.Write →
             IsOk (meaning self.now (file_streams self.now files)) }
         ensures unwritten { IfErr result (λ f. f ≢ fault.Write → Keeps (W.contents out.old) (W.contents out.new)) }

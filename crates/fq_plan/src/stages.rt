@@ -1,4 +1,4 @@
-// The parts of a checked plan.
+//! The parts of a checked plan.
 use fq_column::Schema;
 use fq_csv::NullValues;
 use fq_expr::Front;
@@ -12,7 +12,7 @@ pub struct CheckedSource {
     pub(crate) nulls: NullValues,
 }
 
-/// What is done to all rows of the main source, after what came before.
+/// What is done to all rows of the main source, after what was done before.
 #[derive(Drop)]
 pub enum Operator {
     /// Row-wise steps.

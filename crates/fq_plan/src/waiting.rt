@@ -1,4 +1,4 @@
-// The sources before the main one, while their rows come.
+//! The sources before the main one, while their rows come.
 ghost use Rattle.std.specs.Prelude.{◌≡◌, ◌⊎◌, ℕ, [], map, Some, None, IfOk, IfErr};
 ghost use Rattle.fq_column.specs.Frame.{Fields};
 ghost use Rattle.fq_csv.specs.Printed.{printed};

@@ -1,4 +1,4 @@
-// The work on the items of files: the rows of a run, and the leading row-wise steps on those of the main source.
+//! The work on the items of files: the rows of a run, and the leading row-wise steps on those of the main source.
 ghost use Rattle.std.specs.Prelude.{◌≡◌, IfOk, if◌then◌else◌};
 ghost use Rattle.fq_column.specs.Schema.{same_fields};
 ghost use Rattle.fq_plan.specs.Working.{piece_of, stepped, untouched, work_on};
@@ -15,8 +15,8 @@ use std::alloc::Global;
 pub enum Worked {
     /// A batch of the main source after the leading row-wise steps, or one of another source as it is.
     Piece(Piece),
-    /// Such a batch of the rows before a record with a field that is no cell, and that record's fault, which ends the file
-    /// where no step has faulted before it.
+    /// Such a batch of the rows before a record with a field that is not a cell, and that record's fault, which ends the
+    /// file if no step has faulted before it.
     Cut(Piece, ScanFault),
     /// Why a file's records ended before the file did; the last item of the file.
     Ended(ScanFault),

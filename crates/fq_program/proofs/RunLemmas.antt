@@ -18,7 +18,7 @@ use Rattle.fq_program.proofs.EndingLemmas.{kind-of-fault}
 abbrev pub start_at : Query → List (List ℕ) → Option Fault
 start_at p files = start_refusal (files_wanted p) (length files) 1024 2
 
--- a result of a run that is its refusal at the start, where there is one
+-- a result of a run that is its refusal at the start, if there is one
 abbrev pub StopsAsRefused : {X : Type 0} → Query → List (List ℕ) → Result X Fault → Type 0
 StopsAsRefused p files r = (f : Fault) → start_at p files ≡ Some f → r ≡ Err f
 

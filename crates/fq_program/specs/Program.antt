@@ -19,7 +19,7 @@ plan_line input = take_while (λ c. not (c == 10)) input
 abbrev pub file_after : List ℕ → List ℕ
 file_after input = drop (length (plan_line input) + 1) input
 
--- the plan that a text spells, where the check does not refuse it
+-- the plan that a text spells, if the check does not refuse it
 abbrev pub checked_plan : List ℕ → Result Query Failure
 checked_plan text = elim (read_as_plan text) [ Err fault ↦ Err (Plan fault) | Ok plan ↦ result_map_both (λ p. p) Check (checked plan) ]
 

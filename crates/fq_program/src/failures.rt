@@ -1,4 +1,4 @@
-// Why the program ends without a frame, and what it says then.
+//! Why the program ends without a frame, and what it says then.
 ghost use Rattle.std.specs.Prelude.{◌≡◌};
 ghost use Rattle.fq_program.specs.Ending.{code_of, status_of, status_of_fault};
 ghost use Rattle.fq_program.specs.declared.failures.Failure.TheVariants as failure;
@@ -20,7 +20,7 @@ pub enum Failure {
     /// The arguments name standard input more than once.
     #[error("standard input (-) can be read only once")]
     InputTwice,
-    /// The plan file can't be opened or read.
+    /// The plan file cannot be opened or read.
     #[error("cannot read plan")]
     PlanFile,
     /// The plan's text spells no plan.
@@ -29,16 +29,16 @@ pub enum Failure {
     /// The check refuses the plan.
     #[error(transparent)]
     Check(CheckFault),
-    /// The run gives no frame, or does not come about.
+    /// The run gives no frame, or does not start.
     #[error(transparent)]
     Run(Fault),
 }
 
 impl Failure {
-    /// An allocation failed, wherever that was.
+    /// An allocation failed, wherever it was.
     pub const MEMORY: Failure = Failure::Run(Fault::Memory);
 
-    /// The exit status of the program that ends so.
+    /// The exit status of a program that ends with this failure.
     pub fn status(self) -> Status
         ensures { result ≡ status_of self }
     {
@@ -68,7 +68,7 @@ fn status_of_run(fault: Fault) -> Status
     }
 }
 
-/// The exit status of an ending. A failure is said in one line on `err`, and a failed write of that line changes nothing.
+/// The exit status of an ending. A failure is reported in one line on `err`; a failed write of that line changes nothing.
 pub fn report<E: Write>(ending: Result<(), Failure>, err: &mut E) -> u8
     ensures { result ≡ code_of ending }
 {

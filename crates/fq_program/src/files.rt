@@ -1,4 +1,4 @@
-// What opens files by name.
+//! What opens files by name.
 use crate::progress::{Line, Watched};
 use std::fs::{File, Files, OpenFile};
 use std::io;
@@ -13,7 +13,7 @@ pub const CLEAR_LINE: &[u8] = b"\r\x1b[K";
 /// Why a file is not opened.
 #[derive(Clone, Copy, Debug, PartialEq, Eq)]
 pub enum OpenFault {
-    /// There is no such file, or it can't be opened.
+    /// There is no such file, or it cannot be opened.
     Failed,
     /// An allocation failed.
     Memory,
@@ -42,7 +42,7 @@ pub struct SystemFiles<'a, F: Files, I: Read, L: Write> {
     // none once it is opened
     input: Option<I>,
     log: L,
-    // the number of the next file that shows how far it is read, where files do
+    // the number of the next file that shows how far it is read, if files do
     shown: Option<usize>,
 }
 
@@ -109,7 +109,7 @@ pub enum SystemReader<F: Read, I: Read> {
 }
 
 impl<F: Read + OpenFile, I: Read> SystemReader<F, I> {
-    // The size in bytes, where the system knows it. That of a named pipe is said to be 0.
+    // The size in bytes, if the system knows it. That of a named pipe is said to be 0.
     fn size(&self) -> Option<u64> {
         match self {
             SystemReader::File(file) => {

@@ -1,4 +1,4 @@
-// What is read into memory: an input as a whole, and its two parts, a plan's line and the file after it.
+//! What is read into memory: an input as a whole, and its two parts, a plan's line and the file after it.
 ghost use Rattle.std.specs.Prelude.{◌≡◌, ◌⊎◌, ℕ, List, Some, IfOk, IfErr};
 ghost use Rattle.fq_program.specs.Program.{plan_line, file_after};
 
@@ -10,7 +10,7 @@ use std::io::{ErrorKind, Read};
 /// The most reads of one input.
 const MAX_READS: u64 = 4_294_967_296;
 
-/// All bytes of a reader. Where a read fails, or 4,294,967,296 of them don't reach the end, the answer is `failure`.
+/// All bytes of a reader. If a read fails, or 4,294,967,296 reads do not reach the end, the answer is `failure`.
 pub fn read_whole<R: Read + Drop>(
     alloc: Global,
     reader: R,

@@ -2,7 +2,7 @@
 //!
 //! [`one_input`] is the program without arguments: the first line of its input is the plan, in JSON, and the bytes after it are
 //! the one CSV file. [`with_words`] is the program with arguments, a plan file over data files that an [`Opener`] opens. Each
-//! answers the exit status, which is a [`Status`]; where there is no frame, a [`Failure`] says why in one line.
+//! answers the exit status, which is a [`Status`]; if there is no frame, a [`Failure`] says why in one line.
 #![tactic(auto)]
 
 mod failures;

@@ -1,4 +1,4 @@
-// The arguments of the command line.
+//! The arguments of the command line.
 use crate::files::STANDARD_INPUT;
 use crate::program::{BATCH_SIZE, WORKERS};
 use clap::{Arg, ArgAction, ArgMatches, Command, Error, value_parser};
@@ -12,8 +12,8 @@ const VERSION: &str = "0.1.0";
 pub struct Options<'a>(ArgMatches<'a>);
 
 impl<'a> Options<'a> {
-    /// The options that words spell, the program's own name left out. Help or a version that is asked for is an error here, as in
-    /// `clap`.
+    /// The options that the arguments give; the program's own name is not among these. A request for help or for the version is an
+    /// error here, as in `clap`.
     pub fn of_words(alloc: Global, words: &'a [String]) -> Result<Options<'a>, Error> {
         Ok(Options(command(alloc)?.try_get_matches_from(words)?))
     }
@@ -23,7 +23,7 @@ impl<'a> Options<'a> {
         self.0.get_str("plan")
     }
 
-    /// The names of the data files, in order. There is none only where the plan is to be explained.
+    /// The names of the data files, in order. There are none only if the plan is to be explained.
     pub fn files(&self) -> &[&'a str] {
         self.0.get_strs("file").unwrap_or_default()
     }

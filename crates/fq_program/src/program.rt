@@ -1,4 +1,4 @@
-// The program without arguments.
+//! The program without arguments.
 ghost use Rattle.std.specs.Prelude.{◌≡◌, ◌≢◌, ◌⊎◌, ℕ, List, Some, Ok, Err, IfErr, OnOk, MatchResult};
 ghost use Rattle.std.specs.Io.KnownBytes.{Appends, Keeps};
 ghost use Rattle.fq_column.specs.Frame.{Frame};
@@ -16,17 +16,17 @@ use std::io::{Read, Write};
 use std::sync::Wait;
 use std::thread::Threads;
 
-/// The rows of a batch, where no argument says otherwise.
+/// The rows of a batch, if no argument says otherwise.
 pub const BATCH_SIZE: u32 = 1024;
 
-/// The number of workers, where no argument says otherwise.
+/// The number of workers, if no argument says otherwise.
 pub const WORKERS: u16 = 2;
 
 /// Runs the plan of the input's first line over the CSV file of the bytes after it, and answers the exit status.
 ///
-/// The frame is written to `out` where the status is 0. At any other status a line on `err` says why, and nothing is
-/// written to `out`, but at 5, where the write itself has failed, an unknown part may be. A failed write to `err` changes
-/// no status. All of the input is read before anything else.
+/// The frame is written to `out` if the status is 0. At any other status a line on `err` says why, and nothing is
+/// written to `out`, except that at 5, if the write itself failed, an unknown part may be. A failed write to `err`
+/// changes no status. All of the input is read before anything else.
 pub fn one_input<T: Threads + Wait + Sync, R: Read + Drop, W: Write, E: Write>(
     rt: &T,
     alloc: Global,
@@ -77,7 +77,7 @@ fn run_bytes<T: Threads + Wait + Sync, W: Write>(
     Ok(())
 }
 
-/// The plan that a text spells, where the check does not refuse it.
+/// The plan that a text spells, if the check does not refuse it.
 pub fn checked_plan(alloc: Global, text: &[u8]) -> Result<Checked, Failure>
     ensures { MatchResult result (λ plan. checked_plan_of text.now ≡ Ok plan) (λ f. (checked_plan_of text.now ≡ Err f) ⊎ IsOutside f) }
 {

@@ -1,4 +1,4 @@
-// How far a file is read, on a line that moves.
+//! How far a file is read, on a line that moves.
 use crate::files::CLEAR_LINE;
 use std::fmt::{Display, Formatter, InlineText};
 use std::io::{Read, Write};
@@ -7,7 +7,7 @@ use std::{fmt, io};
 /// The bytes of a megabyte.
 const MEGABYTE: u64 = 1_000_000;
 
-/// A reader that shows on a line how far it is, where it has one.
+/// A reader that shows on a line how far it is, if it has one.
 #[derive(Drop)]
 pub struct Watched<R: Read, L: Write> {
     reader: R,
@@ -62,7 +62,7 @@ impl<L: Write> Line<L> {
     }
 }
 
-// How many bytes of a file are read, and its size, where it is known.
+// How many bytes of a file are read, and its size, if it is known.
 #[derive(Clone, Copy)]
 struct Progress {
     file: usize,

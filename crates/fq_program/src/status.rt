@@ -1,4 +1,4 @@
-// The exit statuses.
+//! The exit statuses.
 
 /// The exit status of the program.
 #[derive(Clone, Copy, Debug, PartialEq, Eq)]

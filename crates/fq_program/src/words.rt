@@ -1,4 +1,4 @@
-// The program with arguments.
+//! The program with arguments.
 ghost use Rattle.std.specs.Prelude.{◌≡◌, ◌≢◌, ◌<◌, ◌^◌, length, IfErr};
 ghost use Rattle.std.specs.Io.KnownBytes.{Keeps};
 ghost use Rattle.fq_plan.specs.declared.faults.Fault.TheVariants as fault;
@@ -18,11 +18,11 @@ use std::io::Write;
 use std::sync::Wait;
 use std::thread::Threads;
 
-/// Does what the arguments ask for, the program's own name left out, and answers the exit status.
+/// Does what the arguments ask for, and answers the exit status. The program's own name is not among these.
 ///
 /// `--plan PLAN [--batch N] [--workers N] [--progress] FILE...` runs a plan over files and writes the frame to `out`. `--plan PLAN
 /// --explain` writes there what the plan's steps leave, and opens no file of data; `--help` and `--version` write a text. At any
-/// status but 0 a message on `err` says why, and nothing is written to `out`, except that at 5, where the write itself failed, an
+/// status but 0 a message on `err` says why, and nothing is written to `out`, except that at 5, if the write itself failed, an
 /// unknown part may be. A failed write to `err` changes no status. The arguments are judged first, then the plan file, the plan, and
 /// the number of files; then the files are opened in order, and read as the run goes on.
 pub fn with_words<T: Threads + Wait + Sync, O: Opener, W: Write, E: Write>(
@@ -162,7 +162,7 @@ fn open_all<O: Opener>(
     Ok(readers)
 }
 
-// A reader of the file of this name, or this failure where it can't be opened.
+// A reader of the file of this name, or this failure if it cannot be opened.
 fn open<O: Opener>(files: &mut O, name: &str, failure: Failure) -> Result<O::Reader, Failure> {
     files.reader_of(name).map_err(|fault| match fault {
         OpenFault::Failed => failure,

@@ -24,7 +24,7 @@ fn main(rt: HostRuntime) -> ExitCode {
     })
 }
 
-// The program's arguments, its own name left out.
+// The program's arguments, without its own name.
 fn words_of(rt: &(impl env::Env + AllocGlobal)) -> Result<Vec<String>, Failure> {
     match env::args(rt) {
         Ok(words) => Ok(words.skip(1).collect(rt.alloc())?),

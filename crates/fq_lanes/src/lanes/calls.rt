@@ -20,7 +20,7 @@ pub fn lane<T: Drop>(alloc: Global, capacity: usize) -> Result<(Put<T>, Take<T>)
 }
 
 impl<T> Put<T> {
-    /// Puts an item, or hands it back where the lane is full.
+    /// Puts an item, or hands it back if the lane is full.
     pub fn put(&mut self, item: T) -> Result<(), T>
         ensures lane { SamePut self.old self.new }
         ensures ok { OnOk result (put_items self.new ≡ put_items self.old ++ item ∷ []) }

@@ -1,4 +1,4 @@
-// The check of a plan's sources.
+//! The check of a plan's sources.
 ghost use Rattle.std.specs.Prelude.{◌≡◌, ◌⊎◌, ◌≤◌, ℕ, None, Some, map, string_bytes, vec_len, IfOk, IfErr, sum_by, length};
 ghost use Rattle.fq_column.specs.Frame.{names_of};
 ghost use Rattle.fq_column.specs.Refusal.{first_refusal};

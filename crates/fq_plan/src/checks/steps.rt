@@ -1,4 +1,4 @@
-// The check of a plan's steps.
+//! The check of a plan's steps.
 ghost use Rattle.std.specs.Prelude.{◌≡◌, ◌⊎◌, ◌+◌, ◌≤◌, ◌++◌, ◌∷◌, [], ℕ, List, Ok, Err, Some, None, map, length, vec_len, MatchOption, IfOk, IfErr, pos, string_bytes};
 ghost use Rattle.fq_column.specs.Frame.{Fields};
 ghost use Rattle.fq_expr.specs.Kinds.{step_schema, steps_schema};

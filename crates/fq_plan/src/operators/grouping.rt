@@ -1,4 +1,4 @@
-// A grouping that runs.
+//! A grouping that runs.
 ghost use Rattle.std.specs.Prelude.{◌≡◌, List, [], None, map, string_bytes, IfOk, IsOk};
 ghost use Rattle.fq_column.specs.Frame.{Row};
 ghost use Rattle.fq_plan.specs.Transforms.{Transform, group_transform};

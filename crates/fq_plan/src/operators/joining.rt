@@ -1,4 +1,4 @@
-// A join that runs.
+//! A join that runs.
 ghost use Rattle.std.specs.Prelude.{◌≡◌, List, [], None, map, string_bytes, IfOk, IsOk};
 ghost use Rattle.fq_column.specs.Frame.{Fields, Row};
 ghost use Rattle.fq_plan.specs.Transforms.{Transform, join_transform};

@@ -1,4 +1,4 @@
-// A rolling sum that runs.
+//! A rolling sum that runs.
 ghost use Rattle.std.specs.Prelude.{◌≡◌, List, [], None, pos, IfOk, IsOk};
 ghost use Rattle.fq_column.specs.Frame.{Row};
 ghost use Rattle.fq_plan.specs.Transforms.{Transform, roll_transform};

@@ -1,4 +1,4 @@
-// Aggregates of groups.
+//! Aggregates of groups.
 ghost use Rattle.std.specs.Prelude.{◌≡◌, option_map, string_bytes};
 ghost use Rattle.serde_json.specs.View.{view};
 ghost use Rattle.fq_ops.specs.Aggregate.{Output};

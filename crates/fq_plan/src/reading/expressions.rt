@@ -1,4 +1,4 @@
-// Expressions.
+//! Expressions.
 ghost use Rattle.std.specs.Prelude.{◌≡◌, IfOk, option_map};
 ghost use Rattle.serde_json.specs.View.{view};
 ghost use Rattle.fq_expr.specs.Expression.{Expression};

@@ -1,4 +1,4 @@
-// Lists and pairs.
+//! Lists and pairs.
 ghost use Rattle.std.specs.Prelude.{List, map};
 ghost use Rattle.fq_plan.specs.Parts.{each_of, pair_of};
 

@@ -1,4 +1,4 @@
-// Sources, and whole plans.
+//! Sources, and whole plans.
 ghost use Rattle.std.specs.Prelude.{◌≡◌, ◌≤◌, length, map, option_map, string_bytes, sum_by, codes, IfOk};
 ghost use Rattle.serde_json.specs.View.{view};
 ghost use Rattle.fq_plan.specs.Plan.{Source as SourceData};
@@ -14,7 +14,7 @@ use fq_csv::NullValues;
 use serde_json::Value;
 use std::alloc::Global;
 
-// The number of files, the columns, and in version 2 the texts that are null, where they are given.
+// The number of files, the columns, and in version 2 the texts that are null, if they are given.
 impl Spelled for Source {
     ghost Part = { SourceData };
 

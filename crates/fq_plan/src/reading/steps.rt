@@ -1,4 +1,4 @@
-// Steps.
+//! Steps.
 ghost use Rattle.std.specs.Prelude.{◌≡◌, IfOk, codes, option_map};
 ghost use Rattle.serde_json.specs.Find.{as_bool};
 ghost use Rattle.serde_json.specs.View.{view};
@@ -49,7 +49,7 @@ impl Spelled for Step {
     }
 }
 
-// A join with an earlier source, in version 2 with whether nulls are equal, where that is given.
+// A join with an earlier source, in version 2 with whether nulls are equal, if that is given.
 fn read_join(alloc: Global, version: Version, value: &Value) -> Result<Option<Step>, Memory>
     ensures { IfOk result (λ o. option_map plan_step_of o ≡ join_of version (view value.now)) }
 {
@@ -67,7 +67,7 @@ fn read_join(alloc: Global, version: Version, value: &Value) -> Result<Option<St
     }
 }
 
-// Whether a null matches a null, where a join says so.
+// Whether a null matches a null, if a join says so.
 fn nulls_equal(value: &Value) -> Option<bool>
     ensures { result ≡ member (codes "nulls_equal") as_bool (view value.now) }
 {

@@ -1,11 +1,11 @@
-// The members of an object, and the items of an array.
+//! The members of an object, and the items of an array.
 ghost use Rattle.std.specs.Prelude.{◌≡◌, Some, None, option_map};
 ghost use Rattle.serde_json.specs.View.{view};
 ghost use Rattle.fq_plan.specs.Parts.{only_member as the_only_member, has_members as has_so_many, two_items as the_two_items, three_items as the_three_items};
 
 use serde_json::Value;
 
-/// The value of an object's only member, where that has this name.
+/// The value of an object's only member, if that has this name.
 pub fn only_member<'a>(value: &'a Value, name: &str) -> Option<&'a Value>
     ensures { option_map (λ v. view v.now) result ≡ the_only_member name.now (view value.now) }
 {

@@ -1,4 +1,4 @@
-// Words of the plan language: numbers, names, kinds, joins and operations.
+//! Words of the plan language: numbers, names, kinds, joins and operations.
 ghost use Rattle.std.specs.Prelude.{◌≡◌, ℤ, IfOk, option_map, string_bytes};
 ghost use Rattle.serde_json.specs.View.{view};
 ghost use Rattle.fq_plan.specs.Parts.{whole, name_of, word};

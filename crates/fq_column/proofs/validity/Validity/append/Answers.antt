@@ -9,7 +9,7 @@ on-err : {T E : Type 0} (r : Result T E) (P : Type 0) → P → OnErr r P
 on-err (Ok x) P p = search rules
 on-err (Err e) P p = p
 
--- the first n marks of words that were cut or filled up to k, where they lie in k words
+-- the first n marks of words that were cut or filled up to k, if they lie in k words
 resized : (old new : List ℕ) (n k : ℕ) → length new ≡ k → n ≤ k * 64 → ((q d : ℕ) → q < k → q < length old → get_or new q d ≡ get_or old q d)
     → ((q d : ℕ) → length old ≤ q → q < k → get_or new q d ≡ all-bits) → marks new n ≡ marks old n
 resized old new n k size room same filled = same-marks old new n (λ i l. mark-resized old new k size same filled i (inl (omega (arith, l, room))))

@@ -6,7 +6,7 @@ use Rattle.fq_plan.specs.declared.run_tail.RunTail.{RunTail}
 use Rattle.fq_plan.proofs.run_tail.RunTailTail.take.Goals as goal
 use Rattle.fq_plan.proofs.run_tail.RunTailTail.take.Goals.{then-file-self, else-file-self}
 
--- what holds where a call was not refused
+-- what holds if a call was not refused
 was-ok : {P : Type 0} (r : Result (Unit {0}) Memory) (u : Unit {0}) → r ≡ Ok u → OnOk r P → P
 was-ok {P} r u e h = subst (λ (r : Result (Unit {0}) Memory). OnOk r P) e h
 
