@@ -1,11 +1,11 @@
 //! The program without arguments.
-ghost use Rattle.std.specs.Prelude.{◌≡◌, ◌≢◌, ◌⊎◌, ℕ, List, Some, Ok, Err, IfErr, OnOk, MatchResult};
+ghost use Rattle.std.specs.Prelude.{◌≡◌, ◌≢◌, ◌⊎◌, ◌∷◌, [], ℕ, List, Some, Ok, Err, IfErr, OnOk, MatchResult};
 ghost use Rattle.std.specs.Io.KnownBytes.{Appends, Keeps};
 ghost use Rattle.fq_column.specs.Frame.{Frame};
 ghost use Rattle.fq_csv.specs.Printed.{printed};
 ghost use Rattle.fq_plan.specs.declared.faults.Fault.TheVariants as fault;
 ghost use Rattle.fq_program.specs.Ending.{code_of, done, bad_device, no_memory, IsOutside};
-ghost use Rattle.fq_program.specs.Program.{program, checked_plan as checked_plan_of};
+ghost use Rattle.fq_program.specs.Program.{program, checked_plan as checked_plan_of, frame_of};
 ghost use Rattle.fq_program.specs.declared.failures.Failure.TheVariants as failure;
 
 use crate::failures::{Failure, report};
@@ -71,7 +71,24 @@ fn run_bytes<T: Threads + Wait + Sync, W: Write>(
     ensures unwritten { IfErr result (λ f. f ≢ failure.Run fault.Write → Keeps (W.contents out.old) (W.contents out.new)) }
 {
     let (line, file) = split_line(input);
-    let plan = checked_plan(alloc, line)?;
+    match checked_plan(alloc, line) {
+        Ok(plan) => run_file(rt, alloc, &plan, file, out),
+        Err(failure) => Err(failure),
+    }
+}
+
+// Writes the frame of a plan over one file in memory.
+fn run_file<T: Threads + Wait + Sync, W: Write>(
+    rt: &T,
+    alloc: Global,
+    plan: &Checked,
+    file: &[u8],
+    out: &mut W,
+) -> Result<(), Failure>
+    ensures printed { OnOk result ((frame : Frame) × (frame_of plan.now (file.now ∷ []) ≡ Ok frame) × Appends (W.contents out.old) (W.contents out.new) (printed frame)) }
+    ensures failed { IfErr result (λ f. (frame_of plan.now (file.now ∷ []) ≡ Err f) ⊎ IsOutside f) }
+    ensures unwritten { IfErr result (λ f. f ≢ failure.Run fault.Write → Keeps (W.contents out.old) (W.contents out.new)) }
+{
     let inputs = vec![in alloc; file]?;
     plan.run(rt, alloc, inputs, out, BATCH_SIZE, WORKERS)?;
     Ok(())

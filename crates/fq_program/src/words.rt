@@ -69,13 +69,7 @@ fn run_options<T: Threads + Wait + Sync, O: Opener, W: Write>(
     ensures unwritten { IfErr result (λ f. f ≢ failure.Run fault.Write → Keeps (W.contents out.old) (W.contents out.new)) }
 {
     let plan = read_plan_file(alloc, options, files)?;
-    if options.explain() {
-        write_explanation(alloc, &plan, out)
-    } else if options.progress() {
-        run_with_progress(rt, alloc, &plan, options, files, out)
-    } else {
-        run_plan(rt, alloc, &plan, options, files, out)
-    }
+    explain_or_run(rt, alloc, &plan, options, files, out)
 }
 
 // The plan of the plan file.
@@ -91,6 +85,26 @@ fn read_plan_file<O: Opener>(
     let reader = open(files, name, Failure::PlanFile)?;
     let text = read_whole(alloc, reader, Failure::PlanFile)?;
     checked_plan(alloc, text.as_slice())
+}
+
+// Writes what the steps of the plan leave, or its frame over the data files.
+fn explain_or_run<T: Threads + Wait + Sync, O: Opener, W: Write>(
+    rt: &T,
+    alloc: Global,
+    plan: &Checked,
+    options: &Options<'_>,
+    files: &mut O,
+    out: &mut W,
+) -> Result<(), Failure>
+    ensures unwritten { IfErr result (λ f. f ≢ failure.Run fault.Write → Keeps (W.contents out.old) (W.contents out.new)) }
+{
+    if options.explain() {
+        write_explanation(alloc, plan, out)
+    } else if options.progress() {
+        run_with_progress(rt, alloc, plan, options, files, out)
+    } else {
+        run_plan(rt, alloc, plan, options, files, out)
+    }
 }
 
 // `run_plan`, with readers that show how far they are.

@@ -1,8 +1,10 @@
 //! Expressions.
 ghost use Rattle.std.specs.Prelude.{◌≡◌, IfOk, option_map};
 ghost use Rattle.serde_json.specs.View.{view};
+ghost use Rattle.fq_expr.specs.Expression as expr;
 ghost use Rattle.fq_expr.specs.Expression.{Expression};
 ghost use Rattle.fq_expr.specs.Meaning.{expression_of};
+ghost use Rattle.fq_plan.specs.Parts.{given};
 ghost use Rattle.fq_plan.specs.Spelling.{expression, leaf};
 
 use crate::plans::Version;
@@ -10,7 +12,7 @@ use crate::reading::Spelled;
 use crate::reading::values::only_member;
 use crate::reading::words::{binary, kind, name as read_name, unary};
 use fq_column::{Memory, Text};
-use fq_expr::Expr;
+use fq_expr::{Binary, Expr, Unary};
 use serde_json::Value;
 use std::alloc::Global;
 
@@ -41,29 +43,47 @@ fn read_expression(alloc: Global, value: &Value) -> Result<Option<Expr>, Memory>
                 let Some(op) = unary(name) else {
                     return Ok(None);
                 };
-                let Some(operand) = read_expression(alloc, operand)? else {
-                    return Ok(None);
-                };
-                Ok(Some(Expr::One(op, Box::new(alloc, operand)?)))
+                one(alloc, op, read_expression(alloc, operand)?)
             } else if items.len() == 3 {
                 let (name, left, right) = (&items[0], &items[1], &items[2]);
                 let Some(op) = binary(name) else {
                     return Ok(None);
                 };
-                let Some(left) = read_expression(alloc, left)? else {
-                    return Ok(None);
-                };
-                let Some(right) = read_expression(alloc, right)? else {
-                    return Ok(None);
-                };
-                let left = Box::new(alloc, left)?;
-                Ok(Some(Expr::Two(op, left, Box::new(alloc, right)?)))
+                let left = read_expression(alloc, left)?;
+                two(alloc, op, left, read_expression(alloc, right)?)
             } else {
                 Ok(None)
             }
         }
         Value::Object(_) => read_leaf(alloc, value),
     }
+}
+
+// The operation on an operand, where there is one.
+fn one(alloc: Global, op: Unary, operand: Option<Expr>) -> Result<Option<Expr>, Memory>
+    ensures { IfOk result (λ o. option_map expression_of o ≡ option_map (expr.unary op) (option_map expression_of operand)) }
+{
+    match operand {
+        Some(operand) => Ok(Some(Expr::One(op, Box::new(alloc, operand)?))),
+        None => Ok(None),
+    }
+}
+
+// The operation on two operands, where there are both.
+fn two(
+    alloc: Global,
+    op: Binary,
+    left: Option<Expr>,
+    right: Option<Expr>,
+) -> Result<Option<Expr>, Memory>
+    ensures { IfOk result (λ o. option_map expression_of o
+        ≡ given (option_map expression_of left) (λ d. option_map (expr.binary op d) (option_map expression_of right))) }
+{
+    let (Some(left), Some(right)) = (left, right) else {
+        return Ok(None);
+    };
+    let left = Box::new(alloc, left)?;
+    Ok(Some(Expr::Two(op, left, Box::new(alloc, right)?)))
 }
 
 // A column or a null: an object with one member.
