@@ -10,7 +10,7 @@ use Rattle.fq_plan.specs.Sources.{file_streams}
 use Rattle.fq_plan.specs.declared.faults.Fault.{Fault}
 use Rattle.fq_plan.specs.declared.faults.Fault.TheVariants.{Inputs}
 use Rattle.fq_program.specs.Ending.{IsOutside}
-use Rattle.fq_program.specs.Program.{plan_line, file_after, checked_plan, frame_of, program}
+use Rattle.fq_program.specs.Program.{frame_of}
 use Rattle.fq_program.specs.declared.failures.Failure.TheVariants.{Run}
 use Rattle.fq_program.proofs.EndingLemmas.{kind-of-fault}
 
@@ -62,10 +62,3 @@ run-failed p files f refused started meant = go (length files == files_wanted p)
         let same = refused (Inputs (files_wanted p) (length files)) (stops p files e) in
         let is : f ≡ Inputs (files_wanted p) (length files) = cc in
         inl (refuses p files e ∙ ap (λ g. Err (Run g)) (sym is))
-
--- the program of a plan that the check lets through
-pub program-of : (input line file : List ℕ) (p : Query) → line ≡ plan_line input → file ≡ file_after input → checked_plan line ≡ Ok p →
-    program input ≡ frame_of p (file ∷ [])
-program-of input line file p is_line is_file e =
-    ap (λ r. elim r [ Err failure ↦ Err failure | Ok plan ↦ frame_of plan (file_after input ∷ []) ]) (ap checked_plan (sym is_line) ∙ e)
-    ∙ ap (λ bytes. frame_of p (bytes ∷ [])) (sym is_file)
