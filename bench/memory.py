@@ -108,7 +108,7 @@ def run(words, folder):
 
 
 def main():
-    words = argparse.ArgumentParser(description="Measures the most memory that frameq takes.")
+    words = argparse.ArgumentParser(description="Measures the peak memory that frameq takes.")
     words.add_argument("--megabytes", type=int, action="append", help="size of the large file [100, then 1000]")
     words.add_argument("--program", default=os.path.join(ROOT, "frameq"), help="the frameq to measure [the one that ./frameq builds]")
     words.add_argument("--workers", default="2", help="workers [2]")
@@ -117,7 +117,7 @@ def main():
     passed = 0
     with tempfile.TemporaryDirectory() as folder:
         make_products(os.path.join(folder, "products.csv"))
-        print("| Task | File, MB | Printed, MB | Seconds | Most memory, MB | Bound, MB |\n|---|---|---|---|---|---|")
+        print("| Task | File, MB | Printed, MB | Seconds | Peak memory, MB | Bound, MB |\n|---|---|---|---|---|---|")
         for size in given.megabytes or [100, 1000]:
             make_sales(os.path.join(folder, "sales.csv"), size * MEGABYTE)
             for task in TASKS:
