@@ -1,7 +1,10 @@
 pub mod ArrayLemmas
 pub mod BatchLemmas
 pub mod ColumnLemmas
+pub mod FaultLemmas
+pub mod KindLemmas
 pub mod ListLemmas
+pub mod NameLemmas
 pub mod PieceLemmas
 pub mod SchemaLemmas
 pub mod StreamLemmas

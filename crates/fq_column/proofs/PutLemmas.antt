@@ -28,11 +28,11 @@ position-cons p x xs = go (p x) (prefix_len (λ y. not (p y)) xs) (length xs)
     go false q n = ap (λ b. let none : Option ℕ = None in cond b (Some (1 + q)) none) (one_more q n) ∙ next (nat_lt q n) q
 
 -- what one more in front changes
-some_under : (o : Option ℕ) (i : ℕ) → option_map suc o ≡ Some i → (j : ℕ) × (o ≡ Some j) × (suc j ≡ i)
+pub some_under : (o : Option ℕ) (i : ℕ) → option_map suc o ≡ Some i → (j : ℕ) × (o ≡ Some j) × (suc j ≡ i)
 some_under None i f = absurd (cc)
 some_under (Some j) i f = (j, refl, cc)
 
-none_under : (o : Option ℕ) → option_map suc o ≡ None → o ≡ None
+pub none_under : (o : Option ℕ) → option_map suc o ≡ None → o ≡ None
 none_under None f = refl
 none_under (Some j) f = absurd (cc)
 

@@ -34,6 +34,10 @@ batch_fault fields columns =
 abbrev pub kind_of_cells : Cells → Kind
 kind_of_cells c = c.kind
 
+-- the column of a kind with no cell
+abbrev pub without_cells : Kind → Cells
+without_cells kind = record { kind = kind; cells = [] }
+
 -- columns under a schema: they have the kinds of its fields, one length, and cells of their kinds
 pub record StandsIn (fields : Fields) (columns : List Cells) : Type 0 where
   pub schema : IsSchema fields

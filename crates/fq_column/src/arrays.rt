@@ -80,7 +80,7 @@ impl Element for Text {
 }
 
 /// Values of one type in a vector, with a mark for each that says whether it is there.
-#[derive(Drop)]
+#[derive(Debug, Drop)]
 pub struct Array<T> {
     values: Vec<T>,
     validity: Validity,

@@ -1,12 +1,12 @@
 //! Batches: a schema and rows, kept as columns.
-ghost use Rattle.std.specs.Prelude.{◌≡◌, ◌<◌, ◌≤◌, ◌++◌, ◌==◌, Some, None, take, length, map, not, All, IfOk, IfErr, IfNone, OnOk, OnErr, MatchResult, slice_get};
+ghost use Rattle.std.specs.Prelude.{◌≡◌, ◌<◌, ◌≤◌, ◌++◌, ◌==◌, [], Some, None, take, length, map, not, All, IfOk, IfErr, IfNone, OnOk, OnErr, MatchResult, slice_get};
 ghost use Rattle.std.specs.Bool.{OnFalse};
 ghost use Rattle.std.specs.List.{list_all, zip};
 ghost use Rattle.std.specs.Vec.Iter.{into_iter_items};
 ghost use Rattle.std.specs.Cmp.Lexicographic.{pointwise};
-ghost use Rattle.fq_column.specs.Batch.{frame_of, frame_with, batch_fault, has_kind_of, height_of, joined_cells, kind_of_cells, StandsIn};
+ghost use Rattle.fq_column.specs.Batch.{frame_of, frame_with, batch_fault, has_kind_of, height_of, joined_cells, kind_of_cells, with_cells, without_cells, StandsIn};
 ghost use Rattle.fq_column.specs.Column.{AreOfKind};
-ghost use Rattle.fq_column.specs.Frame.{IsFrame, column_at, kinds_of, names_of, put_named};
+ghost use Rattle.fq_column.specs.Frame.{IsFrame, IsSchema, column_at, kinds_of, names_of, put_named};
 ghost use Rattle.fq_column.specs.Lists.{keep as kept, zip_with};
 
 use crate::cells::Cell;
@@ -18,7 +18,7 @@ use std::marker::Model;
 use std::vec::IntoIter;
 
 /// A schema and rows that fit it.
-#[derive(Drop)]
+#[derive(Debug, Drop)]
 pub struct Batch {
     schema: Schema,
     columns: Vec<Column>,
@@ -55,6 +55,26 @@ impl Batch {
             None => Ok(Batch { schema, columns }),
             Some(fault) => Err((fault, schema, columns)),
         }
+    }
+
+    /// The batch of columns that have the kinds of a schema, in its order, and one length; with no copy.
+    pub fn new(schema: Schema, columns: Vec<Column>) -> Batch
+        requires kinds { map kind_of_cells columns.items ≡ kinds_of schema }
+        requires lengths { All (λ c. length c.cells ≡ height_of columns.items) columns.items }
+        ensures { result ≡ frame_of schema columns.items }
+    {
+        match Batch::from_columns(schema, columns) {
+            Ok(batch) => batch,
+            Err(_) => unreachable!(),
+        }
+    }
+
+    /// The batch of a schema with no row; allocates for the list of columns alone.
+    pub fn empty(alloc: Global, schema: Schema) -> Result<Batch, Memory>
+        ensures { IfOk result (λ b. b ≡ record { fields = schema; rows = [] }) }
+    {
+        let columns = empty_columns(alloc, &schema, 0)?;
+        Ok(Batch::new(schema, columns))
     }
 
     /// The schema.
@@ -95,9 +115,7 @@ impl Batch {
     pub fn cut(&mut self, n: usize)
         ensures { self.new ≡ record self.old { rows = take n self.old.rows } }
     {
-        for i in 0..self.columns.len() {
-            self.columns[i].cut(n);
-        }
+        cut_columns(self.columns.as_mut_slice(), n);
     }
 
     /// Keeps the rows that the mask marks.
@@ -163,6 +181,27 @@ impl Batch {
         let schema = self.schema.copy(alloc)?;
         let columns = copy_columns(alloc, self.columns.as_slice())?;
         Ok(Batch { schema, columns })
+    }
+}
+
+/// A column of each kind of a schema, in its order, with no cell and room for this many.
+pub fn empty_columns(alloc: Global, schema: &Schema, room: usize) -> Result<Vec<Column>, Memory>
+    ensures columns { IfOk result (λ columns. columns.items ≡ map without_cells (kinds_of schema.now)) }
+    ensures schema { IsSchema schema.now }
+{
+    let mut columns = Vec::with_capacity(alloc, schema.len())?;
+    for i in 0..schema.len() {
+        columns.push(Column::with_capacity(alloc, schema.kind(i), room)?)?;
+    }
+    Ok(columns)
+}
+
+/// Keeps the first `n` cells of each column, or all if there are fewer.
+pub fn cut_columns(columns: &mut [Column], n: usize)
+    ensures { columns.new ≡ map (λ c. with_cells c (take n c.cells)) columns.old }
+{
+    for i in 0..columns.len() {
+        columns[i].cut(n);
     }
 }
 

@@ -1,5 +1,9 @@
 //! Kinds and cells.
+ghost use Rattle.std.specs.Prelude.{◌≡◌, IfOk};
+
+use crate::faults::Memory;
 use crate::texts::Text;
+use std::alloc::Global;
 
 /// The kind of a column.
 #[derive(Clone, Copy, Debug, PartialEq, Eq)]
@@ -26,4 +30,18 @@ pub enum Cell {
     Text(Text),
     /// A truth value.
     Truth(bool),
+}
+
+impl Cell {
+    /// An equal cell in memory of its own; allocates for a text of more than 16 bytes.
+    pub fn copy(&self, alloc: Global) -> Result<Cell, Memory>
+        ensures { IfOk result (λ c. c ≡ self.now) }
+    {
+        match self {
+            Cell::Null => Ok(Cell::Null),
+            Cell::Whole(value) => Ok(Cell::Whole(*value)),
+            Cell::Text(text) => Ok(Cell::Text(text.copy(alloc)?)),
+            Cell::Truth(value) => Ok(Cell::Truth(*value)),
+        }
+    }
 }

@@ -13,7 +13,7 @@ use std::alloc::Global;
 use std::marker::Model;
 
 /// The cells of a column, as an array of its kind.
-#[derive(Drop)]
+#[derive(Debug, Drop)]
 pub enum Values {
     /// Whole numbers.
     Whole(Array<i64>),
@@ -24,7 +24,7 @@ pub enum Values {
 }
 
 /// A list of cells of one kind.
-#[derive(Drop)]
+#[derive(Debug, Drop)]
 pub struct Column {
     values: Values,
 }

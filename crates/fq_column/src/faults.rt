@@ -1,44 +1,59 @@
 //! Refusals of schemas, steps and batches, and failed allocations.
 use std::alloc::{AllocError, AllocFailed};
+use thiserror::Error;
 
 /// Why a schema or a step is refused; the numbers are those of the plan language's reference.
-#[derive(Clone, Copy, Debug, PartialEq, Eq)]
+#[derive(Clone, Copy, Debug, PartialEq, Eq, Error)]
 pub enum StepFault {
     /// A name that is not a column's.
+    #[error("no such column")]
     NoSuchColumn = 1,
     /// An operand, key or column of the wrong kind.
+    #[error("wrong kind")]
     WrongKind = 2,
     /// Two columns of one name.
+    #[error("double name")]
     DoubleName = 3,
     /// A filter whose expression is not a truth value.
+    #[error("not a truth value")]
     NotBool = 4,
     /// More than 64 columns.
+    #[error("too many columns")]
     TooMany = 5,
     /// No column, key or item where at least one is needed.
+    #[error("no column")]
     NoColumn = 6,
     /// A join with a source that is not before the last.
+    #[error("no such source")]
     NoSuchSource = 7,
     /// A rolling window that is not 1 to 65,536 rows long.
+    #[error("window out of range")]
     Window = 8,
     /// A least number of values that is not 1 to the window.
+    #[error("min_samples out of range")]
     Samples = 9,
     /// An allocation failed.
+    #[error("out of memory")]
     Memory = 10,
 }
 
 /// Why columns do not make a batch of a schema.
-#[derive(Clone, Copy, Debug, PartialEq, Eq)]
+#[derive(Clone, Copy, Debug, PartialEq, Eq, Error)]
 pub enum BatchFault {
     /// More or fewer columns than the schema has.
+    #[error("wrong number of columns")]
     Width = 1,
     /// A column of another kind than the schema says.
+    #[error("column of the wrong kind")]
     Kind = 2,
     /// Columns of different lengths.
+    #[error("columns of different lengths")]
     Length = 3,
 }
 
 /// An allocation failed.
-#[derive(Clone, Copy, Debug, PartialEq, Eq)]
+#[derive(Clone, Copy, Debug, PartialEq, Eq, Error)]
+#[error("out of memory")]
 pub struct Memory;
 
 impl From<AllocError> for Memory {

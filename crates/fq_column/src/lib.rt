@@ -17,10 +17,10 @@ mod texts;
 mod validity;
 
 pub use arrays::{Array, Element};
-pub use batches::{Batch, put_column};
+pub use batches::{Batch, cut_columns, empty_columns, put_column};
 pub use cells::{Cell, Kind};
 pub use columns::{Column, Values};
 pub use faults::{BatchFault, Memory, StepFault};
 pub use laws::{cell_laws, stream_laws};
-pub use schemas::{Schema, copy_strings};
+pub use schemas::{Schema, copy_strings, has_double};
 pub use texts::Text;

@@ -4,7 +4,7 @@ ghost use Rattle.std.specs.Cmp as laws;
 ghost use Rattle.fq_column.specs.Frame.{put_named, IsSchema, names_of, kinds_of, position_of, same_name};
 ghost use Rattle.fq_column.specs.Lists.{is_distinct};
 ghost use Rattle.fq_column.specs.Refusal.{first_refusal};
-ghost use Rattle.fq_column.specs.Schema.{schema_checks, fields_of, same_fields};
+ghost use Rattle.fq_column.specs.Schema.{schema_checks, fields_of, kind_named, same_fields};
 ghost use Rattle.fq_column.specs.SchemaLaws.{same_fields_equivalence};
 
 use crate::cells::Kind;
@@ -13,7 +13,7 @@ use std::alloc::Global;
 use std::marker::Model;
 
 /// From 1 to 64 names that differ, each with the kind of its column.
-#[derive(Drop)]
+#[derive(Debug, Drop)]
 pub struct Schema {
     names: Vec<String>,
     kinds: Vec<Kind>,
@@ -91,6 +91,16 @@ impl Schema {
         None
     }
 
+    /// The kind of the column with this name, or `NoSuchColumn`.
+    pub fn kind_of(&self, name: &str) -> Result<Kind, StepFault>
+        ensures { result ≡ kind_named self.now name.now }
+    {
+        match self.position(name) {
+            Some(i) => Ok(self.kind(i)),
+            None => Err(StepFault::NoSuchColumn),
+        }
+    }
+
     /// Puts a column in the place of the one of its name, or else last; may grow.
     ///
     /// If an allocation fails, the schema is as it was.
@@ -138,8 +148,8 @@ impl Eq for Schema {
     ghost laws = { same_fields_equivalence };
 }
 
-// Whether two of the names are equal.
-fn has_double(names: &[String]) -> bool
+/// Whether two of the names are equal.
+pub fn has_double(names: &[String]) -> bool
     ensures { result ≡ not (is_distinct same_name (map string_bytes names.now)) }
 {
     match names.split_first() {

@@ -15,7 +15,7 @@ const BITS: usize = 64;
 ///
 /// The marks lie in words of 64 bits, the lowest bit of a word first. Places behind the last word have a value, so marks take
 /// memory only up to the last place that has had none. Bits behind the last place have no meaning.
-#[derive(Drop)]
+#[derive(Debug, Drop)]
 pub struct Validity {
     words: Vec<u64>,
     len: usize,

@@ -15,9 +15,10 @@ use Rattle.fq_csv.specs.Taking.{FieldRun, HoldsRows, ReadsRun, bad_cell, record_
 use Rattle.fq_csv.specs.declared.faults.ScanFault.{ScanFault}
 use Rattle.fq_csv.specs.declared.faults.ScanFault.TheVariants.{BadCell}
 use Rattle.fq_csv.specs.declared.layouts.Layout.{Layout}
-use Rattle.fq_csv.proofs.RowLemmas.{Holds-more}
-use Rattle.fq_csv.proofs.StreamLemmas.{after-fault, after-row, length-columns, row-bad, row-good, then-end, then-row}
-use Rattle.fq_csv.proofs.StepLemmas.{frame-held}
+use Rattle.fq_csv.specs.declared.scanners.TheConstants.{MAX_ROWS}
+use Rattle.fq_csv.proofs.HeldRowLemmas.{Holds-more}
+use Rattle.fq_csv.proofs.FileStreamLemmas.{after-fault, after-row, length-columns, row-bad, row-good, then-end, then-row}
+use Rattle.fq_csv.proofs.HeldRowLemmas.{frame-held}
 use Rattle.fq_csv.proofs.TakingLemmas.{length-records_in}
 
 -- ---- a field of a record
@@ -141,7 +142,7 @@ fewer-rows None h = omega (arith, h.all refl)
 fewer-rows (Some p) h = omega (arith, h.place.1)
 
 pub reads-run : (run : FieldRun) (columns : List Cells) (bad : Option (ℕ × ℕ)) (batch : Frame) (fault : Option ScanFault) → HoldsRows run.layout.nulls (kinds_of run.layout.schema) run.records columns bad → 0 < length columns
-    → batch ≡ frame_of run.layout.schema columns → fault ≡ option_map (bad_cell run.file run.before) bad → IsOfText fault → run.before + length run.records ≤ 2147483647 → ReadsRun run batch fault
+    → batch ≡ frame_of run.layout.schema columns → fault ≡ option_map (bad_cell run.file run.before) bad → IsOfText fault → run.before + length run.records ≤ MAX_ROWS → ReadsRun run batch fault
 reads-run run columns bad batch fault h some b f text few =
     let frame : batch ≡ record { fields = run.layout.schema; rows = h.rows } = b ∙ frame-held run.layout.schema columns h.rows some h.held in
     let rows : batch.rows ≡ h.rows = ap (λ (x : Frame). x.rows) frame in

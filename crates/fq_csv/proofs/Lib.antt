@@ -1,19 +1,18 @@
 mod DigitLemmas
-pub mod FieldLemmas
+pub mod FieldReadingLemmas
 pub mod BufferLemmas
-pub mod CutLemmas
-pub mod LaneLemmas
+pub mod MachineLemmas
+pub mod BlockLemmas
 pub mod RecordLemmas
-pub mod RowLemmas
-pub mod StreamLemmas
+pub mod HeldRowLemmas
+pub mod FileStreamLemmas
 pub mod TakingLemmas
 pub mod CellLemmas
 pub mod RecordStepLemmas
 pub mod ScanLemmas
 pub mod HeaderLemmas
-pub mod StepLemmas
 pub mod FieldTextLemmas
 pub mod PrintLemmas
 pub mod FrameLemmas
-pub mod RunLemmas
+pub mod HandedOutLemmas
 pub mod OnLiterals

@@ -10,8 +10,8 @@ use Rattle.fq_csv.specs.Rows.{EndsAt}
 use Rattle.fq_csv.specs.Taking.{ReadsRecords, RecordStream, RecordsGoOn, records_after, records_in, then_records, without_records}
 use Rattle.fq_csv.specs.declared.layouts.Layout.{Layout}
 use Rattle.fq_csv.specs.declared.spans.Span.{Span}
-use Rattle.fq_csv.specs.declared.stages.Stage.{Stage}
-use Rattle.fq_csv.specs.declared.stages.Stage.TheVariants as stage
+use Rattle.fq_csv.specs.declared.file_stages.Stage.{Stage}
+use Rattle.fq_csv.specs.declared.file_stages.Stage.TheVariants as stage
 use Rattle.fq_csv.proofs.RecordLemmas.{mapped}
 use Rattle.fq_csv.proofs.TakingLemmas.{drop-first, length-records_in, take-first}
 

@@ -18,8 +18,8 @@ use Rattle.fq_csv.specs.declared.faults.ScanFault.{ScanFault}
 use Rattle.fq_csv.specs.declared.layouts.Layout.{Layout}
 use Rattle.fq_csv.specs.declared.faults.ScanFault.TheVariants.{TooLong, Width}
 use Rattle.fq_csv.proofs.RecordLemmas.{mapped}
-use Rattle.fq_csv.proofs.RowLemmas.{no-item}
-use Rattle.fq_csv.proofs.StreamLemmas.{after-fault, after-rows}
+use Rattle.fq_csv.proofs.HeldRowLemmas.{no-item}
+use Rattle.fq_csv.proofs.FileStreamLemmas.{after-fault, after-rows}
 use Rattle.fq_csv.proofs.TakingLemmas.{drop-first, fault-first, record-first, take-first}
 
 le-or-lt : (i j : ℕ) → (i ≤ j) ⊎ (j < i)

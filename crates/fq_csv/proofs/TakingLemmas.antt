@@ -10,8 +10,8 @@ use Rattle.fq_csv.specs.Taking.{ReadsRecords, RecordStream, over, record_fault, 
 use Rattle.fq_csv.specs.declared.faults.ScanFault.{ScanFault}
 use Rattle.fq_csv.specs.declared.faults.ScanFault.TheVariants.{TooLong, Width}
 use Rattle.fq_csv.specs.declared.spans.Span.{Span}
-use Rattle.fq_csv.specs.declared.stages.Stage.TheVariants as stage
-use Rattle.fq_csv.proofs.RowLemmas.{no-item}
+use Rattle.fq_csv.specs.declared.file_stages.Stage.TheVariants as stage
+use Rattle.fq_csv.proofs.HeldRowLemmas.{no-item}
 
 -- ---- fields one after the other
 

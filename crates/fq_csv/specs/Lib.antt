@@ -8,6 +8,6 @@ pub mod Rows
 pub mod Scan
 pub mod Stage
 pub mod Writing
-pub mod Run
+pub mod HandedOut
 pub mod Taking
 pub mod RecordScan

@@ -10,8 +10,9 @@ use Rattle.fq_csv.specs.declared.faults.ScanFault.{ScanFault}
 use Rattle.fq_csv.specs.declared.faults.ScanFault.TheVariants.{Header, Read, Memory}
 use Rattle.fq_csv.specs.declared.layouts.Layout.{Layout}
 use Rattle.fq_csv.specs.declared.spans.Span.{Span}
-use Rattle.fq_csv.specs.declared.stages.Stage.{Stage}
-use Rattle.fq_csv.specs.declared.stages.Stage.TheVariants as stage
+use Rattle.fq_csv.specs.declared.file_stages.Stage.{Stage}
+use Rattle.fq_csv.specs.declared.file_stages.Stage.TheVariants as stage
+use Rattle.fq_csv.specs.declared.scanners.TheConstants.{MAX_ROWS}
 
 -- ---- one step
 
@@ -90,7 +91,7 @@ pub record IsNextRun (old : RecordScanning) (run : FieldRun) (new : RecordScanni
   pub not_ended : old.ending ≡ None
   pub same : IsSameRecordScan old new
   pub counted : new.taken ≡ old.taken + length run.records
-  pub few : new.taken ≤ 2147483647
+  pub few : new.taken ≤ MAX_ROWS
   pub in_room : new.room + length run.records ≡ old.room
   pub stopped : new.stopped ≡ old.stopped
 

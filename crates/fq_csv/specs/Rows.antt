@@ -8,8 +8,8 @@ use Rattle.fq_column.specs.Lists.{zip_with, all_or_missing}
 use Rattle.fq_csv.specs.Field.{cell_under}
 use Rattle.fq_csv.specs.File.{Record}
 use Rattle.fq_csv.specs.Records.{IsOfText}
-use Rattle.fq_csv.specs.declared.stages.Stage.{Stage}
-use Rattle.fq_csv.specs.declared.stages.Stage.TheVariants as stage
+use Rattle.fq_csv.specs.declared.file_stages.Stage.{Stage}
+use Rattle.fq_csv.specs.declared.file_stages.Stage.TheVariants as stage
 
 abbrev pub kinds_in : List Cells → List Kind
 kinds_in columns = map (λ (c : Cells). c.kind) columns

@@ -13,8 +13,9 @@ use Rattle.fq_csv.specs.declared.faults.ScanFault.{ScanFault}
 use Rattle.fq_csv.specs.declared.faults.ScanFault.TheVariants.{Header, Width, BadCell, TooLong}
 use Rattle.fq_csv.specs.declared.layouts.Layout.{Layout}
 use Rattle.fq_csv.specs.declared.spans.Span.{Span}
-use Rattle.fq_csv.specs.declared.stages.Stage.{Stage}
-use Rattle.fq_csv.specs.declared.stages.Stage.TheVariants as stage
+use Rattle.fq_csv.specs.declared.file_stages.Stage.{Stage}
+use Rattle.fq_csv.specs.declared.file_stages.Stage.TheVariants as stage
+use Rattle.fq_csv.specs.declared.scanners.TheConstants.{MAX_ROWS}
 use lib.Pointwise.{pointwise}
 
 -- records, and the fault that ends them
@@ -112,7 +113,7 @@ pub record HoldsRows (nulls : List (List ℕ)) (kinds : List Kind) (rs : List Re
 -- the rows of a batch are those of a run, up to the first record with a field that is not a cell, which is this fault
 pub record ReadsRun (run : FieldRun) (batch : Frame) (fault : Option ScanFault) : Type 0 where
   pub columns : batch.fields ≡ run.layout.schema
-  pub in_limit : run.before + length run.records ≤ 2147483647
+  pub in_limit : run.before + length run.records ≤ MAX_ROWS
   pub all : fault ≡ None → length batch.rows ≡ length run.records
   pub fewer : length batch.rows ≤ length run.records
   pub cause : IsOfText fault

@@ -1,18 +1,21 @@
 //! Why the rows of a file end before its bytes do.
 use fq_column::Memory;
 use std::alloc::AllocError;
+use thiserror::Error;
 
 /// Why a scan of a file ended before the end of the file.
 ///
 /// Files and columns count from 0, rows from 1, the header not counted.
-#[derive(Clone, Copy, Debug, PartialEq, Eq)]
+#[derive(Clone, Copy, Debug, PartialEq, Eq, Error)]
 pub enum ScanFault {
     /// The first record is not the schema's names in their order, or there is no record.
+    #[error("file {file}: header differs")]
     Header {
         /// The file.
         file: u16,
     },
     /// A row has more or fewer fields than the schema has columns.
+    #[error("file {file}, row {row}: wrong number of fields")]
     Width {
         /// The file.
         file: u16,
@@ -20,6 +23,7 @@ pub enum ScanFault {
         row: u32,
     },
     /// A field is not a cell of its column's kind.
+    #[error("file {file}, row {row}, column {column}: bad cell")]
     BadCell {
         /// The file.
         file: u16,
@@ -29,16 +33,19 @@ pub enum ScanFault {
         column: u16,
     },
     /// There are more rows than the limit.
+    #[error("file {file}: too many rows")]
     TooLong {
         /// The file.
         file: u16,
     },
     /// The reader failed.
+    #[error("read failed: file {file}")]
     Read {
         /// The file.
         file: u16,
     },
     /// An allocation failed.
+    #[error("out of memory")]
     Memory,
 }
 

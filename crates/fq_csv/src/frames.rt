@@ -4,7 +4,6 @@ ghost use Rattle.fq_column.specs.Stream.{Stream};
 ghost use Rattle.fq_csv.specs.Records.{IsFailure};
 ghost use Rattle.fq_csv.specs.declared.faults.ScanFault.{ScanFault};
 
-use crate::batches::empty_batch;
 use crate::faults::ScanFault;
 use crate::scanners::Scanner;
 use crate::scans::Scan;
@@ -20,7 +19,7 @@ pub fn scan_all<R: Read + Drop>(alloc: Global, mut scanner: Scanner<R>) -> Resul
     ensures rows { IfOk result (λ frame. (u : Stream ScanFault) → scanner.upcoming ≡ Some u → u ≡ record { rows = frame.rows; fault = None }) }
     ensures fault { IfErr result (λ fault. (u : Stream ScanFault) → scanner.upcoming ≡ Some u → (u.fault ≡ Some fault) ⊎ IsFailure scanner.file fault) }
 {
-    let mut frame = empty_batch(alloc, scanner.schema())?;
+    let mut frame = Batch::empty(alloc, scanner.schema().copy(alloc)?)?;
     'batches: loop {
         match scanner.next_batch() {
             Scan::Batch { batch, .. } => frame.extend(batch)?,

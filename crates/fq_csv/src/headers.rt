@@ -6,9 +6,9 @@ ghost use Rattle.fq_csv.specs.RecordScan.{Opens, OpensBy};
 ghost use Rattle.fq_csv.specs.Records.{StopsBy};
 
 use crate::faults::ScanFault;
+use crate::file_stages::Stage;
 use crate::raw_fields::RawFields;
 use crate::records::Records;
-use crate::stages::Stage;
 use fq_column::{Memory, Schema};
 use std::alloc::Global;
 use std::io::Read;

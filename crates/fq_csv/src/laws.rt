@@ -4,7 +4,7 @@ ghost use Rattle.fq_column.specs.Frame.{Fields};
 ghost use Rattle.fq_column.specs.Stream.{Stream};
 ghost use Rattle.fq_csv.specs.Field.{cell_of};
 ghost use Rattle.fq_csv.specs.File.{file_stream, plain, stream_by};
-ghost use Rattle.fq_csv.specs.Run.{Follows, IsRun, answers, framed};
+ghost use Rattle.fq_csv.specs.HandedOut.{Follows, IsRun, answers, framed};
 ghost use Rattle.fq_csv.specs.Scan.{Scanning};
 ghost use Rattle.fq_csv.specs.Stage.{ended, without};
 ghost use Rattle.fq_csv.specs.declared.faults.ScanFault.{ScanFault};

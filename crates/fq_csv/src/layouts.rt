@@ -52,7 +52,7 @@ impl NullValues {
 }
 
 /// How the records of a file are read: its columns, and the texts that are null in each of them.
-#[derive(Drop)]
+#[derive(Debug, Drop)]
 pub struct Layout {
     /// The names that the header must have, and the kinds of the columns.
     pub schema: Schema,

@@ -1,14 +1,13 @@
 //! CSV files as streams of batches, and batches as CSV text.
 #![tactic(auto)]
 
-mod batches;
 mod blocks;
 mod buffers;
-mod cells;
 mod cutting;
 mod faults;
+mod field_cells;
 mod field_text;
-mod fields;
+mod file_stages;
 mod frames;
 mod headers;
 mod laws;
@@ -21,10 +20,10 @@ mod record_steps;
 mod record_text;
 mod records;
 mod retrying;
+mod run_rows;
 mod scanners;
 mod scans;
 mod spans;
-mod stages;
 mod taking;
 
 pub use faults::ScanFault;

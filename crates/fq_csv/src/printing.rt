@@ -12,9 +12,11 @@ use fq_column::{Batch, Column, Memory, Schema, Values};
 use itoa::Buffer;
 use std::alloc::Global;
 use std::io::Write;
+use thiserror::Error;
 
 /// The writer failed; what it took before is unknown.
-#[derive(Clone, Copy, Debug, PartialEq, Eq)]
+#[derive(Clone, Copy, Debug, PartialEq, Eq, Error)]
+#[error("write failed")]
 pub struct WriteFault;
 
 /// The CSV text of a batch: the names of its columns, and then its rows.

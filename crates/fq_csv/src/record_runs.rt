@@ -3,13 +3,13 @@ ghost use Rattle.std.specs.Prelude.{◌≡◌, ◌≤◌, ◌<◌, ◌+◌, ◌*
 ghost use Rattle.fq_column.specs.Frame.{kinds_of};
 ghost use Rattle.fq_csv.specs.Records.{IsOfText};
 ghost use Rattle.fq_csv.specs.Taking.{HoldsRows, ReadsRun, bad_cell, records_in};
+ghost use Rattle.fq_csv.specs.declared.scanners.TheConstants.{MAX_ROWS};
 
-use crate::batches::empty_columns;
-use crate::cells::push_rows;
 use crate::faults::ScanFault;
 use crate::layouts::Layout;
 use crate::raw_fields::RawFields;
-use fq_column::{Batch, Column, Memory};
+use crate::run_rows::push_rows;
+use fq_column::{Batch, Column, Memory, empty_columns};
 use std::alloc::Global;
 use std::marker::Model;
 
@@ -28,6 +28,7 @@ pub struct RecordRun {
 impl Model for RecordRun {
     ghost use Rattle.std.specs.Prelude.{◌≡◌, ◌≤◌, ◌*◌, ◌+◌, length};
     ghost use Rattle.fq_csv.specs.Taking.{FieldRun, records_in};
+    ghost use Rattle.fq_csv.specs.declared.scanners.TheConstants.{MAX_ROWS};
 
     ghost Value = { FieldRun };
 
@@ -38,7 +39,7 @@ impl Model for RecordRun {
       records = records_in a.count (length a.layout.schema) a.fields;
     } };
 
-    ghost invariant = { λ a. (length a.fields ≡ a.count * length a.layout.schema) × (a.before + a.count ≤ 2147483647) };
+    ghost invariant = { λ a. (length a.fields ≡ a.count * length a.layout.schema) × (a.before + a.count ≤ MAX_ROWS) };
 }
 
 impl RecordRun {
@@ -65,10 +66,7 @@ impl RecordRun {
             fields,
         } = self;
         let (columns, bad) = columns_of(alloc, &layout, &fields, count)?;
-        let batch = match Batch::from_columns(layout.schema, columns) {
-            Ok(batch) => batch,
-            Err(_) => unreachable!(),
-        };
+        let batch = Batch::new(layout.schema, columns);
         Ok((batch, fault_of(file, before, bad)))
     }
 }
@@ -91,7 +89,7 @@ fn columns_of(
 
 // The fault of a field that is not a cell, by its place in a run after some rows.
 fn fault_of(file: u16, before: u32, bad: Option<(u32, u16)>) -> Option<ScanFault>
-    requires { IfSome bad (λ place. before + place.0 + 1 ≤ 2147483647) }
+    requires { IfSome bad (λ place. before + place.0 + 1 ≤ MAX_ROWS) }
     ensures fault { result ≡ option_map (bad_cell file before) bad }
     ensures cause { IsOfText result }
 {

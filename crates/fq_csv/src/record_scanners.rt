@@ -5,13 +5,13 @@ ghost use Rattle.fq_csv.specs.Taking.{RecordStream, record_stream};
 ghost use Rattle.fq_csv.specs.declared.faults.ScanFault.{ScanFault};
 
 use crate::faults::ScanFault;
+use crate::file_stages::Stage;
 use crate::layouts::Layout;
 use crate::record_runs::RecordRun;
 use crate::record_steps::next_records;
 use crate::records::Records;
 use crate::scanners::{MAX_BATCH_SIZE, MAX_ROWS};
 use crate::spans::Span;
-use crate::stages::Stage;
 use fq_column::Memory;
 use std::alloc::Global;
 use std::io::Read;
@@ -34,7 +34,7 @@ impl<R: Read> Model for RecordScanner<R> {
     ghost use Rattle.std.specs.Prelude.{◌≡◌, ◌-◌};
     ghost use Rattle.fq_csv.specs.RecordScan.{RecordScanning, records_left_at};
     ghost use Rattle.fq_csv.specs.Stage.{ending_of};
-    ghost use Rattle.fq_csv.specs.declared.stages.Stage.TheVariants.{Header};
+    ghost use Rattle.fq_csv.specs.declared.file_stages.Stage.TheVariants.{Header};
 
     ghost Value = { RecordScanning };
 

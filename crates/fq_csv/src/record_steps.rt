@@ -5,14 +5,13 @@ ghost use Rattle.fq_csv.specs.Records.{StopsBy};
 ghost use Rattle.fq_csv.specs.Stage.{ending_of};
 ghost use Rattle.fq_csv.specs.declared.faults.ScanFault.{ScanFault};
 
-use crate::batches::room_for;
 use crate::faults::ScanFault;
+use crate::file_stages::Stage;
 use crate::headers::read_header;
 use crate::layouts::Layout;
 use crate::record_runs::RecordRun;
 use crate::records::Records;
 use crate::spans::Span;
-use crate::stages::Stage;
 use crate::taking::take_records;
 use std::alloc::Global;
 use std::io::Read;
@@ -78,7 +77,7 @@ fn try_read_run<R: Read>(
     ensures step { IfOk result (λ step. IsRunStep span layout.now records.old records.new Stage.Rows step.stage step.run) }
 {
     let width = layout.schema.len();
-    records.start_anew(room_for(span) * width)?;
+    records.start_anew(span.room() * width)?;
     let taken = take_records(records, width, span)?;
     let stage = taken.stage;
     let count = taken.count;

@@ -3,7 +3,7 @@ use crate::faults::ScanFault;
 use fq_column::Batch;
 
 /// What one call of a scanner hands out.
-#[derive(Drop)]
+#[derive(Debug, Drop)]
 pub enum Scan {
     /// The next rows of the file.
     Batch {

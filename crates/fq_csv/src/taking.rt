@@ -4,9 +4,9 @@ ghost use Rattle.fq_csv.specs.Records.{StopsBy};
 ghost use Rattle.fq_csv.specs.Taking.{ReadsRecords};
 
 use crate::faults::ScanFault;
+use crate::file_stages::Stage;
 use crate::records::Records;
 use crate::spans::Span;
-use crate::stages::Stage;
 use std::io::Read;
 
 /// How many records were taken, and how the file goes on after them.

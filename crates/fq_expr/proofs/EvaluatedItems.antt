@@ -9,13 +9,13 @@ use Rattle.fq_column.proofs.BatchLemmas.{changed}
 use Rattle.fq_expr.specs.declared.operands.Outcome.{Outcome}
 use Rattle.fq_expr.specs.Expression.{Item}
 use Rattle.fq_expr.specs.Operand.{kind_in_rows, cells_in_rows}
-use Rattle.fq_expr.specs.Outcome.{IsOutcome}
+use Rattle.fq_expr.specs.Evaluated.{IsOutcome}
 use Rattle.fq_expr.specs.Outputs.{AreOutputs, all_kinds, item_fault, rows_before_fault, first_fault, value_or_null, cells_of_column}
 use Rattle.fq_expr.specs.Value.{value_of}
 use Rattle.fq_expr.proofs.EvaluationLemmas.{length-cells_in_rows}
 use Rattle.fq_expr.proofs.OutcomeLemmas.{outcome-rows, outcome-rows-le}
 use Rattle.fq_expr.proofs.PrefixLemmas.{take-take-le, map-take}
-use Rattle.fq_expr.proofs.RowLemmas.{all_kinds-snoc, item_fault-snoc, rows_before-snoc, first_fault-same, first_fault-new, rows_before-none, first_fault-none, values-before}
+use Rattle.fq_expr.proofs.ItemRowLemmas.{all_kinds-snoc, item_fault-snoc, rows_before-snoc, first_fault-same, first_fault-new, rows_before-none, first_fault-none, values-before}
 
 -- what a loop over the items knows: the columns may still have more cells than there are rows
 pub record SoFar (fields : Fields) (items : List Item) (rows : List Row) (columns : List Cells) (n : ℕ) (item : Option ℕ) : Type 0 where

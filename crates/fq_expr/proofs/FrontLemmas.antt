@@ -1,6 +1,7 @@
 -- Steps on a stream, one after the other.
 use Rattle.std.proofs.Common.{◌≡◌, ℕ, zero, suc, ◌+◌, ◌<◌, List, [], ◌∷◌, length, map, drop, get_or, refl, ap, sym, ◌∙◌, arith, append-nil, Option, Some, None, Result, Ok, Err}
 use Rattle.std.specs.Prelude.{IsOk}
+use Rattle.std.specs.Option.{option_map_or}
 use Rattle.std.specs.Result.{result_unwrap_or}
 use Rattle.fq_column.specs.declared.faults.StepFault.{StepFault}
 use Rattle.fq_column.specs.Frame.{Fields, Row}
@@ -38,6 +39,10 @@ drop-map f xs i x h e = go xs i h e ∙ ap (λ n. f x ∷ drop n (map f xs)) (le
 abbrev pub fault_or_end : {F : Type 0} → (ℕ → F) → Option ℕ → Option F → Option F
 fault_or_end name (Some i) end = Some (name i)
 fault_or_end name None end = end
+
+pub replaced : {F : Type 0} (name : ℕ → F) (item : Option ℕ) (end : Option F) → option_map_or (λ i. Some (name i)) item end ≡ fault_or_end name item end
+replaced name (Some i) end = refl
+replaced name None end = refl
 
 pub ended-step : {F : Type 0} (name : ℕ → F) (rows : List Row) (fault : Option ℕ) (end : Option F) →
     (let u : Stream F = record { rows = rows; fault = fault_or_end name fault end } in u) ≡ ended_as end (rename_fault name (let v : Stream ℕ = record { rows = rows; fault = fault } in v))

@@ -5,7 +5,7 @@ use Rattle.fq_column.specs.Frame.{Name}
 use Rattle.fq_expr.specs.declared.expressions.Expr.{Expr}
 use Rattle.fq_expr.specs.Expression.{Item}
 use Rattle.fq_expr.specs.Kinds.{item_names}
-use Rattle.fq_expr.specs.Meaning.{items_of, expression_of}
+use Rattle.fq_expr.specs.ExpressionData.{items_of, expression_of}
 
 module _ {A : Type 0} where
   pub length-items_of : (items : List (String A × Expr)) → length (items_of items) ≡ length items

@@ -6,12 +6,11 @@ pub mod FilterLemmas
 pub mod FrontLemmas
 pub mod ItemLemmas
 pub mod JudgementLemmas
-pub mod KindLemmas
 pub mod OperandLemmas
 pub mod OutcomeLemmas
 pub mod OutputLemmas
 pub mod PrefixLemmas
 pub mod ProjectionLemmas
-pub mod RowLemmas
+pub mod ItemRowLemmas
 pub mod SelectionLemmas
 pub mod StepLemmas

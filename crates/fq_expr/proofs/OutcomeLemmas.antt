@@ -13,7 +13,7 @@ use Rattle.fq_expr.specs.declared.operands.Outcome.{Outcome}
 use Rattle.fq_expr.specs.Expression.{Expression, column, unary, binary}
 use Rattle.fq_expr.specs.Kinds.{kind_of, unary_kind, binary_kind}
 use Rattle.fq_expr.specs.Operand.{kind_in_rows, AnyHasRows, cells_in_rows}
-use Rattle.fq_expr.specs.Outcome.{IsOutcome, IsUnaryOutcome, IsBinaryOutcome}
+use Rattle.fq_expr.specs.Evaluated.{IsOutcome, IsUnaryOutcome, IsBinaryOutcome}
 use Rattle.fq_expr.specs.Value.{value_of, unary_value, binary_value}
 use Rattle.fq_expr.proofs.EvaluationLemmas.{length-cells_in_rows}
 use Rattle.fq_expr.proofs.PrefixLemmas.{before_missing-all, before_missing-constant, before_missing-one, before_missing-two, length-before_missing, take-take-le, map-take, cells_in_rows-take, AnyHasRows-le}

@@ -1,24 +1,14 @@
 -- Columns that are functions of the rows, and the rows that stand in them.
-use Rattle.std.proofs.Common.{◌≡◌, ℕ, zero, suc, ◌+◌, ◌<◌, ◌≤◌, Bool, true, false, cond, not, List, [], ◌∷◌, length, map, drop, replicate, refl, ap, sym, ◌∙◌, arith, Option, Some, None}
+use Rattle.std.proofs.Common.{◌≡◌, ℕ, zero, suc, ◌+◌, ◌<◌, ◌≤◌, List, [], ◌∷◌, length, map, drop, replicate, refl, ap, ◌∙◌, arith}
 use Rattle.std.specs.Prelude.{All}
-use Rattle.std.specs.Bool.{◌==◌}
-use Rattle.std.specs.List.{list_all}
-use Rattle.std.specs.Cmp.Lexicographic.{pointwise}
 use Rattle.std.proofs.Math.Seq.{drop-cons}
 use Rattle.std.proofs.lemmas.List.{length-map}
-use Rattle.std.proofs.lemmas.Bool.Decides.{nat_tests}
-use Rattle.std.proofs.lemmas.Bool.{and_from}
 use Rattle.fq_column.specs.declared.cells.Cell.{Cell}
-use Rattle.fq_column.specs.declared.cells.Kind.{Kind}
-use Rattle.fq_column.specs.declared.faults.BatchFault.{BatchFault}
-use Rattle.fq_column.specs.declared.faults.BatchFault.TheVariants.{Width, Kind as WrongKind, Length}
-use Rattle.fq_column.specs.Batch.{batch_fault, has_kind_of, height_of, kind_of_cells, frame_of}
-use Rattle.fq_column.specs.Cell.{same_kind}
+use Rattle.fq_column.specs.Batch.{height_of, frame_of}
 use Rattle.fq_column.specs.Column.{Cells}
-use Rattle.fq_column.specs.Frame.{Field, Fields, Row, kinds_of, rows_of, value_at}
+use Rattle.fq_column.specs.Frame.{Fields, Row, rows_of, value_at}
 use Rattle.fq_column.specs.Lists.{zip_with}
-use Rattle.fq_column.specs.SchemaLaws.{same_kind_decides}
-use Rattle.fq_column.proofs.BatchLemmas.{HaveHeight, height_of-is, lengths-all, column_at-rows_of, pass-lengths}
+use Rattle.fq_column.proofs.BatchLemmas.{HaveHeight, height_of-is, lengths-all, column_at-rows_of}
 use Rattle.fq_expr.specs.Outputs.{cells_of_column}
 
 -- ---- the rows of columns that are functions of the rows
@@ -48,32 +38,6 @@ frame-of-functions fields rs columns hs some e =
 
 pub lengths-of-functions : (rs : List Row) (columns : List Cells) (hs : List (Row → Cell)) → map cells_of_column columns ≡ map (λ h. map h rs) hs → All (λ (c : Cells). length c.cells ≡ height_of columns) columns
 lengths-of-functions rs columns hs e = lengths-all (length rs) columns (height-of-functions rs columns hs e)
-
--- ---- columns of the kinds of a schema and of one length are not refused
-
-same-kind-same : (k : Kind) → same_kind k k ≡ true
-same-kind-same k = (same_kind_decides k k).1 refl
-
-kinds-pass : (fields : Fields) (columns : List Cells) → map kind_of_cells columns ≡ kinds_of fields → pointwise has_kind_of fields columns ≡ true
-kinds-pass [] [] e = refl
-kinds-pass [] (c ∷ columns) e = absurd (cc)
-kinds-pass (f ∷ fields) [] e = absurd (cc)
-kinds-pass (f ∷ fields) (c ∷ columns) e = and_from (has_kind_of f c) (pointwise has_kind_of fields columns) (ap (λ k. same_kind k f.1) (let g : c.kind ≡ f.1 = cc in g) ∙ same-kind-same f.1) (kinds-pass fields columns (cc))
-
-same-number : (m n : ℕ) → m ≡ n → not (m == n) ≡ false
-same-number m n e = ap (λ k. not (k == n)) e ∙ ap not (let h : (n == n) ≡ true = grind (arith, nat_tests) in h)
-
-pub batch_fault-none : (fields : Fields) (columns : List Cells) → map kind_of_cells columns ≡ kinds_of fields → All (λ (c : Cells). length c.cells ≡ height_of columns) columns → batch_fault fields columns ≡ None
-batch_fault-none fields columns k l =
-    go (not (length columns == length fields)) (not (pointwise has_kind_of fields columns)) (not (list_all (λ (c : Cells). length c.cells == height_of columns) columns))
-    (same-number (length columns) (length fields) (sym (length-map columns kind_of_cells) ∙ ap length k ∙ length-map fields (λ (f : Field). f.1)))
-    (ap not (kinds-pass fields columns k)) (ap not (pass-lengths (height_of columns) columns l))
-  where
-    go : (a b c : Bool) → a ≡ false → b ≡ false → c ≡ false → (let none : Option BatchFault = None in cond a (Some Width) (cond b (Some WrongKind) (cond c (Some Length) none))) ≡ None
-    go true b c e f g = absurd (cc)
-    go false true c e f g = absurd (cc)
-    go false false true e f g = absurd (cc)
-    go false false false e f g = refl
 
 -- ---- the columns of a batch, as functions of its rows
 

@@ -22,7 +22,7 @@ use Rattle.fq_expr.proofs.JudgementLemmas.{select-ok}
 use Rattle.fq_expr.proofs.OutputLemmas.{length-all_kinds}
 use Rattle.fq_expr.proofs.ProjectionLemmas.{rows_of-functions, frame-of-functions, lengths-of-functions, places, columns-are-functions, map-under}
 use Rattle.fq_column.proofs.PutColumnLemmas.{put_all-zip, values-second, values-zip, zip-eta}
-use Rattle.fq_expr.proofs.RowLemmas.{made-rows, made-fault}
+use Rattle.fq_expr.proofs.ItemRowLemmas.{made-rows, made-fault}
 
 map-map : {X Y Z : Type 0} (g : Y → Z) (f : X → Y) (xs : List X) → map (λ x. g (f x)) xs ≡ map g (map f xs)
 map-map g f [] = refl

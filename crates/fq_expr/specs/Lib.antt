@@ -7,9 +7,9 @@ pub mod ExpressionCode
 pub mod Front
 pub mod Kinds
 pub mod Kleene
-pub mod Meaning
+pub mod ExpressionData
 pub mod Operand
-pub mod Outcome
+pub mod Evaluated
 pub mod Outputs
 pub mod Steps
 pub mod Value

@@ -1,14 +1,14 @@
 //! One row-wise step on a batch.
-ghost use Rattle.std.specs.Prelude.{◌≡◌, ◌≤◌, ◌<◌, All, map, take, length, zip, IfOk, IsOk, OnOk};
+ghost use Rattle.std.specs.Prelude.{◌≡◌, ◌≤◌, ◌<◌, map, take, length, zip, IfOk, IsOk, OnOk};
 ghost use Rattle.std.specs.Vec.Iter.{into_iter_items};
 ghost use Rattle.fq_column.specs.declared.cells.Cell.TheVariants as cell;
-ghost use Rattle.fq_column.specs.Batch.{frame_of, height_of, kind_of_cells, with_cells};
-ghost use Rattle.fq_column.specs.Frame.{kinds_of, names_of, put_all, put_named};
+ghost use Rattle.fq_column.specs.Batch.{kind_of_cells, with_cells};
+ghost use Rattle.fq_column.specs.Frame.{names_of, put_all};
 ghost use Rattle.fq_column.specs.Lists.{before_missing, keep as kept};
 ghost use Rattle.fq_column.specs.Stream.{one_by_one};
 ghost use Rattle.fq_expr.specs.Expression.{filter_by, with_columns, select};
 ghost use Rattle.fq_expr.specs.Kinds.{item_names, step_schema};
-ghost use Rattle.fq_expr.specs.Meaning.{expression_of, items_of, step_of};
+ghost use Rattle.fq_expr.specs.ExpressionData.{expression_of, items_of, step_of};
 ghost use Rattle.fq_expr.specs.Operand.{AnyHasRows, HasRows, cells_in, cells_in_rows, kind_in_rows};
 ghost use Rattle.fq_expr.specs.Outputs.{AreOutputs, all_kinds};
 ghost use Rattle.fq_expr.specs.Steps.{fields_after, is_true, rows_after};
@@ -17,7 +17,7 @@ ghost use Rattle.fq_expr.specs.Value.{value_of};
 use crate::expressions::Expr;
 use crate::operands::{AnyOperand, Operand};
 use crate::steps::{RowStep, select_schema};
-use fq_column::{Batch, Column, Kind, Memory, Schema, put_column};
+use fq_column::{Batch, Column, Kind, Memory, Schema, cut_columns, put_column};
 use std::alloc::Global;
 use std::vec::IntoIter;
 
@@ -133,21 +133,12 @@ fn evaluate_items(alloc: Global, items: &[(String, Expr)], batch: &Batch) -> Res
         }
         columns.push(outcome.into_column(alloc)?)?;
     }
-    cut_columns(&mut columns, rows);
+    cut_columns(columns.as_mut_slice(), rows);
     Ok(Outputs {
         columns,
         rows,
         item,
     })
-}
-
-// Keeps the first `rows` cells of each column.
-fn cut_columns(columns: &mut Vec<Column>, rows: usize)
-    ensures { columns.new.items ≡ map (λ c. with_cells c (take rows c.cells)) columns.old.items }
-{
-    for i in 0..columns.len() {
-        columns[i].cut(rows);
-    }
 }
 
 // The items alone.
@@ -165,7 +156,7 @@ fn project(alloc: Global, items: &[(String, Expr)], batch: Batch) -> Result<Step
     };
     let Outputs { columns, item, .. } = outputs;
     Ok(Stepped {
-        batch: standing(schema, columns),
+        batch: Batch::new(schema, columns),
         item,
     })
 }
@@ -190,7 +181,7 @@ fn add_columns(alloc: Global, items: &[(String, Expr)], batch: Batch) -> Result<
     let (mut schema, mut columns) = batch.into_parts();
     put_columns(items, &mut made.into_iter(), &mut schema, &mut columns)?;
     Ok(Stepped {
-        batch: standing(schema, columns),
+        batch: Batch::new(schema, columns),
         item,
     })
 }
@@ -215,16 +206,4 @@ fn put_columns(
     };
     put_column(schema, columns, item.0.as_str(), column)?;
     put_columns(rest, made, schema, columns)
-}
-
-// The batch of columns that have the kinds of a schema and one length.
-fn standing(schema: Schema, columns: Vec<Column>) -> Batch
-    requires kinds { map kind_of_cells columns.items ≡ kinds_of schema }
-    requires lengths { All (λ c. length c.cells ≡ height_of columns.items) columns.items }
-    ensures { result ≡ frame_of schema columns.items }
-{
-    match Batch::from_columns(schema, columns) {
-        Ok(batch) => batch,
-        Err(_) => unreachable!(),
-    }
 }

@@ -99,7 +99,7 @@ impl<T: Datum> Operation<T, T, T> for FillNull {
         right: Option<&T>,
     ) -> Result<Computed<T>, Memory> {
         match left.or(right) {
-            Some(value) => Ok(Computed::Value(value.duplicate(alloc)?)),
+            Some(value) => Ok(Computed::Value(value.copy_of(alloc)?)),
             None => Ok(Computed::Null),
         }
     }

@@ -4,14 +4,14 @@ ghost use Rattle.fq_column.specs.Frame.{value_named};
 ghost use Rattle.fq_column.specs.Lists.{before_missing, first_missing};
 ghost use Rattle.fq_column.specs.Schema.{kind_named};
 ghost use Rattle.fq_expr.specs.Kinds.{kind_of, unary_kind, binary_kind};
-ghost use Rattle.fq_expr.specs.Meaning.{expression_of};
+ghost use Rattle.fq_expr.specs.ExpressionData.{expression_of};
 ghost use Rattle.fq_expr.specs.Operand.{kind_in_rows, AnyHasRows, cells_in_rows};
-ghost use Rattle.fq_expr.specs.Outcome.{IsOutcome, IsUnaryOutcome, IsBinaryOutcome};
+ghost use Rattle.fq_expr.specs.Evaluated.{IsOutcome, IsUnaryOutcome, IsBinaryOutcome};
 ghost use Rattle.fq_expr.specs.Value.{value_of};
 
 use crate::expressions::{Binary, Expr, Unary};
+use crate::kernels::{binary, unary};
 use crate::operands::{AnyOperand, Operand, Outcome, borrowed, nulls, owned};
-use crate::operators::{binary, unary};
 use fq_column::{Batch, Column, Memory};
 use std::alloc::Global;
 

@@ -2,7 +2,7 @@
 ghost use Rattle.std.specs.Prelude.{◌≡◌, Ok};
 ghost use Rattle.fq_column.specs.Schema.{kind_named};
 ghost use Rattle.fq_expr.specs.Kinds.{kind_of, kind_if, unary_kind, binary_kind};
-ghost use Rattle.fq_expr.specs.Meaning.{expression_of};
+ghost use Rattle.fq_expr.specs.ExpressionData.{expression_of};
 
 use fq_column::{Kind, Schema, StepFault, Text};
 
@@ -84,7 +84,7 @@ impl Expr {
         ensures { result ≡ kind_of schema.now (expression_of self.now) }
     {
         match self {
-            Expr::Col(name) => column_kind(schema, name.as_str()),
+            Expr::Col(name) => schema.kind_of(name.as_str()),
             Expr::Null(kind) => Ok(*kind),
             Expr::Whole(_) => Ok(Kind::Whole),
             Expr::Text(_) => Ok(Kind::Text),
@@ -100,18 +100,6 @@ impl Expr {
             }
         }
     }
-}
-
-// The kind of a named column.
-fn column_kind(schema: &Schema, name: &str) -> Result<Kind, StepFault>
-    ensures { result ≡ kind_named schema.now name.now }
-{
-    for i in 0..schema.len() {
-        if name == schema.name(i) {
-            return Ok(schema.kind(i));
-        }
-    }
-    Err(StepFault::NoSuchColumn)
 }
 
 // The kind, if the condition holds.

@@ -1,9 +1,10 @@
 //! The row-wise steps of a plan, over one batch at a time.
-ghost use Rattle.std.specs.Prelude.{◌≡◌, ◌+◌, ◌≤◌, ◌==◌, length, map, vec_len, IfOk, IsOk};
+ghost use Rattle.std.specs.Prelude.{◌≡◌, ◌+◌, ◌≤◌, ◌==◌, Some, length, map, vec_len, IfOk, IsOk};
+ghost use Rattle.std.specs.Option.{option_map_or};
 ghost use Rattle.fq_column.specs.Stream.{done};
 ghost use Rattle.fq_expr.specs.Front.{fault_at};
 ghost use Rattle.fq_expr.specs.Kinds.{step_schema, steps_schema};
-ghost use Rattle.fq_expr.specs.Meaning.{step_of};
+ghost use Rattle.fq_expr.specs.ExpressionData.{step_of};
 ghost use Rattle.fq_expr.specs.Steps.{apply_steps, fields_after, fields_after_all, fields_after_each};
 
 use crate::application::Stepped;
@@ -11,9 +12,11 @@ use crate::steps::RowStep;
 use fq_column::{Batch, Memory, Schema, StepFault};
 use std::alloc::Global;
 use std::marker::Model;
+use thiserror::Error;
 
 /// An expression whose value on a row does not fit 64 bits: the step's number, and the item's in the step (a filter's is 0).
-#[derive(Clone, Copy, Debug, PartialEq, Eq)]
+#[derive(Clone, Copy, Debug, PartialEq, Eq, Error)]
+#[error("step {step}, item {item}: overflow")]
 pub struct RowFault {
     /// The step's number in the plan.
     pub step: u16,
@@ -22,7 +25,7 @@ pub struct RowFault {
 }
 
 /// What a front made of a batch: the rows before the first that faults, and that fault.
-#[derive(Drop)]
+#[derive(Debug, Drop)]
 pub struct Piece {
     /// The rows that the steps made of the rows before the first that faults.
     pub batch: Batch,
@@ -31,7 +34,7 @@ pub struct Piece {
 }
 
 /// Row-wise steps one after the other, numbered from a first number on.
-#[derive(Drop)]
+#[derive(Debug, Drop)]
 pub struct Front {
     steps: Vec<RowStep>,
     schema: Schema,
@@ -50,7 +53,7 @@ impl Model for Front {
 
     ghost use Rattle.std.specs.Prelude.{◌+◌, ◌≤◌, map, length, IsOk};
     ghost use Rattle.fq_expr.specs.Kinds.{steps_schema};
-    ghost use Rattle.fq_expr.specs.Meaning.{step_of};
+    ghost use Rattle.fq_expr.specs.ExpressionData.{step_of};
 
     ghost view = { λ f. record { steps = map step_of f.steps.items; fields = f.schema; first = f.first } };
 
@@ -128,16 +131,20 @@ impl Front {
         for i in 0..self.steps.len() {
             let Piece { batch, fault } = piece;
             let Stepped { batch, item } = self.steps[i].apply(alloc, batch)?;
-            let fault = match item {
-                Some(item) => Some(RowFault {
-                    step: self.first + i as u16,
-                    item,
-                }),
-                None => fault,
-            };
+            let fault = fault_after(self.first + i as u16, item, fault);
             piece = Piece { batch, fault };
         }
         Ok(piece)
+    }
+}
+
+// The fault after a step: that of its item, if one faulted, or the one before.
+fn fault_after(step: u16, item: Option<u16>, before: Option<RowFault>) -> Option<RowFault>
+    ensures { result ≡ option_map_or (λ i. Some (fault_at step i)) item before }
+{
+    match item {
+        Some(item) => Some(RowFault { step, item }),
+        None => before,
     }
 }
 

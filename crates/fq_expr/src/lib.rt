@@ -22,11 +22,11 @@ mod comparison;
 mod evaluation;
 mod expressions;
 mod fronts;
+mod kernels;
 mod laws;
 mod logic;
 mod operands;
 mod operations;
-mod operators;
 mod steps;
 
 pub use evaluation::eval;

@@ -158,7 +158,7 @@ fn repeated<T: Datum>(alloc: Global, value: Option<&T>, count: usize) -> Result<
     let mut array = Array::with_capacity(alloc, count)?;
     for _i in 0..count {
         match value {
-            Some(value) => array.push(value.duplicate(alloc)?)?,
+            Some(value) => array.push(value.copy_of(alloc)?)?,
             None => array.push_null()?,
         }
     }

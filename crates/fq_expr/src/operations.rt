@@ -27,10 +27,6 @@ pub trait Datum: Element + Ord {
     /// The cell of the value.
     ghost cell: { Self → Cell };
 
-    /// An equal value in memory of its own.
-    fn duplicate(&self, alloc: Global) -> Result<Self, Memory>
-        ensures { IfOk result (λ value. value ≡ self.now) };
-
     /// Cells are ordered as their values are.
     ghost ordered: { (x y : Self) → cell_cmp (cell x) (cell y) ≡ Self.cmp x y };
 
@@ -47,10 +43,6 @@ impl Datum for i64 {
 
     ghost cell = { λ x. cells.Whole x };
 
-    fn duplicate(&self, _alloc: Global) -> Result<i64, Memory> {
-        Ok(*self)
-    }
-
     ghost ordered = { λ x y. refl };
 
     ghost same = { λ x y. refl };
@@ -64,10 +56,6 @@ impl Datum for Text {
 
     ghost cell = { λ x. cells.Text x };
 
-    fn duplicate(&self, alloc: Global) -> Result<Text, Memory> {
-        self.copy(alloc)
-    }
-
     ghost ordered = { λ x y. refl };
 
     ghost same = { λ x y. refl };
@@ -80,10 +68,6 @@ impl Datum for bool {
     ghost use Rattle.fq_column.specs.declared.cells.Cell.TheVariants as cells;
 
     ghost cell = { λ x. cells.Truth x };
-
-    fn duplicate(&self, _alloc: Global) -> Result<bool, Memory> {
-        Ok(*self)
-    }
 
     ghost ordered = { λ x y. refl };
 

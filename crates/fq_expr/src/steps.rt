@@ -6,7 +6,7 @@ ghost use Rattle.fq_column.specs.Refusal.{IsJudgement};
 ghost use Rattle.fq_column.specs.Schema.{fields_of};
 ghost use Rattle.fq_expr.specs.Expression.{filter_by, with_columns, select};
 ghost use Rattle.fq_expr.specs.Kinds.{step_schema, item_names, count_new};
-ghost use Rattle.fq_expr.specs.Meaning.{expression_of, items_of, step_of};
+ghost use Rattle.fq_expr.specs.ExpressionData.{expression_of, items_of, step_of};
 ghost use Rattle.fq_expr.specs.Outputs.{all_kinds};
 
 use crate::expressions::Expr;

@@ -3,15 +3,15 @@ use Rattle.std.proofs.Common.{◌≡◌, ℕ, List, [], ◌∷◌, ◌++◌, len
 use Rattle.std.proofs.lemmas.Result.{IfOk-weaker, IfOk-at_ok}
 use Rattle.fq_lanes.specs.Due.{close_at}
 use Rattle.fq_lanes.specs.Refusals.{refusal_now, Accepted}
-use Rattle.fq_lanes.specs.Lists.{Each}
+use Rattle.fq_lanes.specs.Beside.{Each}
 use Rattle.fq_lanes.specs.Numbering.{item_at}
 use Rattle.fq_lanes.specs.Ledger.{times, Books, OffersWorked}
 use Rattle.fq_lanes.specs.Round.{job_numbers, answer_numbers, AreItems, Answers, AreWorked}
-use Rattle.fq_lanes.specs.Window.{AreNear}
+use Rattle.fq_lanes.specs.FileWindow.{AreNear}
 use Rattle.fq_lanes.proofs.EventLemmas.{or_else_none, close_at_append}
 use Rattle.fq_lanes.proofs.LedgerLemmas.{one_self, books_offer, offers_more}
 use Rattle.fq_lanes.proofs.SinkLemmas.{accepted_more}
-use Rattle.fq_lanes.proofs.WindowLemmas.{near_accepted, near_on, due_count_grows}
+use Rattle.fq_lanes.proofs.FileWindowLemmas.{near_accepted, near_on, due_count_grows}
 use Rattle.fq_lanes.specs.declared.events.Event.{Event}
 use Rattle.fq_lanes.specs.declared.events.Event.TheVariants.{Offer}
 use Rattle.fq_lanes.specs.declared.job.Job.{Job}

@@ -12,8 +12,8 @@ use Rattle.fq_lanes.specs.Numbering.{item_at}
 use Rattle.fq_lanes.specs.Sink.{HasAccepted, file_count}
 use Rattle.fq_lanes.specs.HubView.{items_of, FeedView, WorkerView, Grows, WorkerGrows, told_in, items_in}
 use Rattle.fq_lanes.specs.Turns.{BlamesTold, FeedFits, WorkerFits, InTurn, Halts}
-use Rattle.fq_lanes.specs.Window.{AreNear}
-use Rattle.fq_lanes.proofs.StartLemmas.{none_due}
+use Rattle.fq_lanes.specs.FileWindow.{AreNear}
+use Rattle.fq_lanes.proofs.NothingReadLemmas.{none_due}
 use Rattle.fq_lanes.proofs.TurnLemmas.{none_waiting, halt_on}
 use Rattle.fq_lanes.specs.declared.worker_lanes.WorkerLanes.{WorkerLanes}
 use Rattle.fq_lanes.specs.declared.faults.RunFault.{RunFault}

@@ -8,7 +8,7 @@ use Rattle.std.proofs.lemmas.List.{append-nil}
 use Rattle.fq_lanes.specs.Due.{due, offer_at, close_at, Extends, ClosesHold}
 use Rattle.fq_lanes.specs.Refusals.{refusal, offer_refusal, close_refusal, offers_from, is_past, AcceptedAfter, Accepted, after, accepted_of, refused_one, refused_of, item_of, refusal_now, refusal_at}
 use Rattle.fq_lanes.proofs.EventLemmas.{or_else, or_else_none, offer_at_append, close_at_append, none_from}
-use Rattle.fq_lanes.proofs.PrefixLemmas.{due_on}
+use Rattle.fq_lanes.proofs.DuePrefixLemmas.{due_on}
 use Rattle.fq_lanes.specs.declared.events.Why.{Why}
 use Rattle.fq_lanes.specs.declared.events.Why.TheVariants.{Stranger, Closed, Double, Short}
 use Rattle.fq_lanes.specs.declared.events.Event.{Event}

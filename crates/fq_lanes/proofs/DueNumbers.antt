@@ -6,7 +6,7 @@ use mathlib.Core.List.{IsPrefix}
 use Rattle.fq_lanes.specs.Numbering.{numbered_file, numbered, numbers, AllNumbered}
 use Rattle.fq_lanes.specs.Due.{offer_at, ready_step, ready_from, ready, is_complete, due_from}
 use Rattle.fq_lanes.proofs.NumberingLemmas.{all_numbered_append}
-use Rattle.fq_lanes.proofs.PrefixLemmas.{prefix_cons, prefix_longer, prefix_behind}
+use Rattle.fq_lanes.proofs.DuePrefixLemmas.{prefix_cons, prefix_longer, prefix_behind}
 use Rattle.fq_lanes.specs.declared.events.Event.{Event}
 
 module _ {T : Type 0} where

@@ -5,10 +5,10 @@ use Rattle.std.specs.List.{slice_get}
 use mathlib.Core.List.{IsPrefix}
 use Rattle.fq_lanes.specs.Due.{due}
 use Rattle.fq_lanes.specs.Sink.{HasAccepted, file_count}
-use Rattle.fq_lanes.specs.Taking.{Took}
+use Rattle.fq_lanes.specs.TailTaking.{Took}
 use Rattle.fq_lanes.specs.Hub.{HandsOn, HandedOn, HasStopped}
-use Rattle.fq_lanes.proofs.ListLemmas.{prefix_same}
-use Rattle.fq_lanes.proofs.PrefixLemmas.{prefix_equal}
+use Rattle.fq_lanes.proofs.BesideLemmas.{prefix_same}
+use Rattle.fq_lanes.proofs.DuePrefixLemmas.{prefix_equal}
 use Rattle.fq_lanes.proofs.DueLemmas.{due_grows, prefix_push}
 use Rattle.fq_lanes.specs.declared.events.Event.{Event}
 use Rattle.fq_lanes.specs.declared.hub.Hub.{Hub}

@@ -5,10 +5,10 @@ use Rattle.std.proofs.lemmas.Bool.{true≢false}
 use Rattle.std.specs.List.{slice_get}
 use Rattle.std.specs.Prelude.{All}
 use mathlib.Core.List.{IsPrefix}
-use Rattle.fq_lanes.specs.Lists.{Each}
+use Rattle.fq_lanes.specs.Beside.{Each}
 use Rattle.fq_lanes.specs.Numbering.{item_at}
 use Rattle.fq_lanes.specs.Inlet.{GaveOne, Gave, DrainsOne, left_in, opened}
-use Rattle.fq_lanes.proofs.ListLemmas.{get_prefix}
+use Rattle.fq_lanes.proofs.BesideLemmas.{get_prefix}
 use Rattle.fq_lanes.proofs.LedgerLemmas.{bool_cases}
 use Rattle.fq_lanes.specs.declared.inlet.Inlet.{Inlet}
 

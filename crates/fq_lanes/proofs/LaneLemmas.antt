@@ -5,7 +5,7 @@ use Rattle.std.specs.List.{slice_get}
 use mathlib.Core.List.{IsPrefix}
 use Rattle.fq_lanes.specs.Numbering.{item_at}
 use Rattle.fq_lanes.specs.HubView.{items_of, end_told, FeedView, WorkerView, Grows, WorkerGrows, told_in, items_in, Tells}
-use Rattle.fq_lanes.proofs.ListLemmas.{prefix_same, prefix_then, get_prefix}
+use Rattle.fq_lanes.proofs.BesideLemmas.{prefix_same, prefix_then, get_prefix}
 use Rattle.fq_lanes.proofs.NumberingLemmas.{item_file, file_item}
 use Rattle.fq_lanes.specs.declared.faults.FeedFault.{FeedFault}
 use Rattle.fq_lanes.specs.declared.faults.Memory.{Memory}

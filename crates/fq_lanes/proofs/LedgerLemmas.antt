@@ -8,9 +8,9 @@ use Rattle.fq_lanes.specs.Refusals.{refusal, offers_from}
 use Rattle.fq_lanes.specs.Numbering.{item_at, numbered, numbers}
 use Rattle.fq_lanes.specs.Ledger.{one_if, times, offered, given, none_waits, Books, OffersWorked}
 use Rattle.fq_lanes.proofs.EventLemmas.{or_else, or_else_none, close_at_append}
-use Rattle.fq_lanes.proofs.ListLemmas.{get_in, get_within, get_last, get_set_other}
+use Rattle.fq_lanes.proofs.BesideLemmas.{get_in, get_within, get_last, get_set_other}
 use Rattle.fq_lanes.proofs.NumberingLemmas.{item_file, file_item, item_set_other, item_set_same}
-use Rattle.fq_lanes.proofs.RefusalLemmas.{accepts_free}
+use Rattle.fq_lanes.proofs.SinkRefusalLemmas.{accepts_free}
 use Rattle.fq_lanes.proofs.SinkLemmas.{refusal_within}
 use Rattle.fq_lanes.proofs.DueNumbers.{due_numbers}
 use Rattle.fq_lanes.proofs.CountingLemmas.{enough, full_ready}

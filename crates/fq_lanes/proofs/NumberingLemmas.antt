@@ -2,10 +2,10 @@
 use Rattle.std.proofs.Common.{◌≡◌, ℕ, zero, suc, ◌+◌, ◌<◌, List, [], ◌∷◌, ◌++◌, length, set, refl, sym, subst, ap, arith, Some}
 use Rattle.std.specs.List.{slice_get}
 use mathlib.Core.List.{IsPrefix}
-use Rattle.fq_lanes.specs.Lists.{Each, EachStart}
+use Rattle.fq_lanes.specs.Beside.{Each, EachStart}
 use Rattle.fq_lanes.specs.Numbering.{numbered_file, numbered, numbers, item_at, AllNumbered}
 use Rattle.fq_lanes.specs.Engine.{IsWorked}
-use Rattle.fq_lanes.proofs.ListLemmas.{head_of, tail_of, get_set_same}
+use Rattle.fq_lanes.proofs.BesideLemmas.{head_of, tail_of, get_set_same}
 
 module _ {A : Type 0} where
   pub all_numbered_append : (P : ℕ → ℕ → A → Type 0) (es fs : List (ℕ × ℕ × A)) → AllNumbered P es → AllNumbered P fs → AllNumbered P (es ++ fs)

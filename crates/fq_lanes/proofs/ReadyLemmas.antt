@@ -7,7 +7,7 @@ use Rattle.fq_lanes.specs.Due.{offer_at, close_at, offer_count, ready_step, read
 use Rattle.fq_lanes.specs.FileFacts.{FileFacts}
 use Rattle.fq_lanes.proofs.EventLemmas.{offer_count_within}
 use Rattle.fq_lanes.proofs.FileLemmas.{none_past_top}
-use Rattle.fq_lanes.proofs.PrefixLemmas.{closed_with, ready_stops}
+use Rattle.fq_lanes.proofs.DuePrefixLemmas.{closed_with, ready_stops}
 use Rattle.fq_lanes.specs.declared.events.Event.{Event}
 
 handed_nil : (T : Type 0) (g t : ℕ) → handed_count {T = T} g t [] ≡ 0

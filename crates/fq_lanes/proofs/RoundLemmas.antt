@@ -12,15 +12,15 @@ use Rattle.fq_lanes.specs.Hub.{HasStopped}
 use Rattle.fq_lanes.specs.Inlet.{GaveOne, Gave, ClosesEnded, end_of}
 use Rattle.fq_lanes.specs.Ledger.{one_if, times, none_waits, Books, Reads}
 use Rattle.fq_lanes.specs.Round.{job_numbers, AreItems, InRound, Halted}
-use Rattle.fq_lanes.specs.Window.{IsNear, AreNear}
+use Rattle.fq_lanes.specs.FileWindow.{IsNear, AreNear}
 use Rattle.fq_lanes.proofs.DueNumbers.{due_begins, due_holds}
 use Rattle.fq_lanes.proofs.EventLemmas.{or_else, or_else_none, offer_at_append, close_at_append}
 use Rattle.fq_lanes.proofs.InletLemmas.{gave_get, gave_set, gave_sizes, gave_rest, goes_on_item, goes_on_ended}
 use Rattle.fq_lanes.proofs.LedgerLemmas.{bool_cases, times_append, books_item, books_close, books_ready, books_complete, offer_item, item_push}
-use Rattle.fq_lanes.proofs.ListLemmas.{nothing_in, prefix_then, get_in, get_within, get_append, get_set_same, get_set_other, each_length, set_same}
+use Rattle.fq_lanes.proofs.BesideLemmas.{nothing_in, prefix_then, get_in, get_within, get_append, get_set_same, get_set_other, each_length, set_same}
 use Rattle.fq_lanes.proofs.NumberingLemmas.{all_numbered_prefix, all_numbered_map, file_item, item_set_other, item_set_same}
-use Rattle.fq_lanes.proofs.PrefixLemmas.{closed_with}
-use Rattle.fq_lanes.proofs.WindowLemmas.{near_push, due_ready}
+use Rattle.fq_lanes.proofs.DuePrefixLemmas.{closed_with}
+use Rattle.fq_lanes.proofs.FileWindowLemmas.{near_push, due_ready}
 use Rattle.fq_lanes.specs.declared.events.Event.{Event}
 use Rattle.fq_lanes.specs.declared.events.Event.TheVariants.{Close}
 use Rattle.fq_lanes.specs.declared.hub.Hub.{Hub}

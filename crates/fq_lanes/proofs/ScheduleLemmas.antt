@@ -8,7 +8,7 @@ use Rattle.std.proofs.lemmas.List.Sorted.{All-permutation, sum_by-IsPermutation}
 use Rattle.std.proofs.lemmas.List.Sums.{sum_by-cons}
 use Rattle.fq_lanes.specs.Due.{due, offer_at, close_at}
 use Rattle.fq_lanes.specs.Refusals.{refusal, refused_of, AcceptedAfter, Accepted}
-use Rattle.fq_lanes.specs.Lists.{Each}
+use Rattle.fq_lanes.specs.Beside.{Each}
 use Rattle.fq_lanes.specs.Numbering.{item_at, numbered_file, numbered, numbers, AllNumbered}
 use Rattle.fq_lanes.specs.Engine.{IsWorked}
 use Rattle.fq_lanes.specs.Ledger.{one_if, times, offered, given, none_waits, Books, OffersWorked}
@@ -16,9 +16,9 @@ use Rattle.fq_lanes.specs.Schedule.{AreEmpty, IsMerge, offers_for, worked_items,
 use Rattle.fq_lanes.proofs.EventLemmas.{or_else_none, offer_at_append}
 use Rattle.fq_lanes.proofs.DueNumbers.{due_holds}
 use Rattle.fq_lanes.proofs.LedgerLemmas.{one_self, books_offer, books_close, books_settle, offers_more}
-use Rattle.fq_lanes.proofs.ListLemmas.{get_within}
+use Rattle.fq_lanes.proofs.BesideLemmas.{get_within}
 use Rattle.fq_lanes.proofs.NumberingLemmas.{items_all, each_worked}
-use Rattle.fq_lanes.proofs.WindowLemmas.{none_refused}
+use Rattle.fq_lanes.proofs.FileWindowLemmas.{none_refused}
 use Rattle.fq_lanes.specs.declared.events.Event.{Event}
 use Rattle.fq_lanes.specs.declared.events.Event.TheVariants.{Offer, Close}
 

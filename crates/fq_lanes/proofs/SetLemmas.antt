@@ -9,7 +9,7 @@ use Rattle.fq_lanes.proofs.CountingLemmas.{enough}
 use Rattle.fq_lanes.proofs.EventLemmas.{or_else, offer_at_append, close_at_append, none_of}
 use Rattle.fq_lanes.proofs.DueLemmas.{rule_off, known_file}
 use Rattle.fq_lanes.proofs.LedgerLemmas.{never_offered}
-use Rattle.fq_lanes.proofs.PrefixLemmas.{prefix_equal, ready_on}
+use Rattle.fq_lanes.proofs.DuePrefixLemmas.{prefix_equal, ready_on}
 use Rattle.fq_lanes.proofs.ReadyLemmas.{ready_reaches}
 use Rattle.fq_lanes.specs.declared.events.Why.{Why}
 use Rattle.fq_lanes.specs.declared.events.Why.TheVariants.{Stranger, Closed, Double, Short}

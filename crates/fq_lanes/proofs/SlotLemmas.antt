@@ -11,7 +11,7 @@ use Rattle.fq_lanes.specs.declared.events.Why.TheVariants.{Closed, Double, Far}
 use Rattle.std.proofs.lemmas.Option.{get_or_from_slice_get, slice_get_within}
 use Rattle.std.proofs.lemmas.Grind.{common_steps}
 use Rattle.fq_lanes.specs.FileFacts.{FileFacts}
-use Rattle.fq_lanes.proofs.ListLemmas.{get_set_same, get_set_other}
+use Rattle.fq_lanes.proofs.BesideLemmas.{get_set_same, get_set_other}
 use Rattle.fq_lanes.specs.declared.events.Event.{Event}
 use Rattle.fq_lanes.specs.declared.file_state.TheConstants.{SLOTS}
 

@@ -7,7 +7,7 @@ use Rattle.fq_lanes.specs.Due.{offer_at, close_at, offer_count, ready, is_closed
 use Rattle.fq_lanes.specs.FileState.{FileFollows}
 use Rattle.fq_lanes.specs.Slots.{found_in, held_in}
 use Rattle.fq_lanes.specs.Sink.{taken_by, waiting_of, is_finished_file, Fresh, Staged}
-use Rattle.fq_lanes.proofs.PrefixLemmas.{closed_with}
+use Rattle.fq_lanes.proofs.DuePrefixLemmas.{closed_with}
 use Rattle.fq_lanes.proofs.ReadyLemmas.{taken_within, taken_all, complete_is, drained, next_item, handed_ready, handed_other, handed_front, handed_both, get_front, get_behind}
 use Rattle.fq_lanes.specs.declared.events.Event.{Event}
 use Rattle.fq_lanes.specs.declared.file_state.FileState.{FileState}

@@ -11,14 +11,14 @@ use Rattle.fq_lanes.specs.Numbering.{item_at}
 use Rattle.fq_lanes.specs.Refusals.{refusal, Accepted}
 use Rattle.fq_lanes.specs.HubView.{items_of, end_told, FeedView, WorkerView, Grows, WorkerGrows, told_in, items_in}
 use Rattle.fq_lanes.specs.Turns.{Hears, JobsAreItems, waiting, FeedFits, WorkerFits, Sourced, OffersSourced, OutstandingNear, Known, InTurn, Halt, Settled}
-use Rattle.fq_lanes.specs.Window.{AreNear}
+use Rattle.fq_lanes.specs.FileWindow.{AreNear}
 use Rattle.fq_lanes.specs.WorkerThread.{Waits, Has}
 use Rattle.fq_lanes.proofs.EventLemmas.{or_else, or_else_none, close_at_append, offer_at_append}
 use Rattle.fq_lanes.proofs.HubLemmas.{stops_all}
 use Rattle.fq_lanes.proofs.LaneLemmas.{prefix_by, prefix_is, set_cases, get_map, get_of_map, told_item, told_end, ended_grows, item_grows, items_in_set, told_in_grows, tolds_same, workers_same, workers_set}
 use Rattle.fq_lanes.proofs.LedgerLemmas.{one_self, times_append, books_item, books_close, books_offer, item_push, offer_found}
-use Rattle.fq_lanes.proofs.ListLemmas.{get_within, get_set_same, set_same}
-use Rattle.fq_lanes.proofs.WindowLemmas.{near_on, due_count_grows}
+use Rattle.fq_lanes.proofs.BesideLemmas.{get_within, get_set_same, set_same}
+use Rattle.fq_lanes.proofs.FileWindowLemmas.{near_on, due_count_grows}
 use Rattle.fq_lanes.proofs.WorkerThreadLemmas.{waits_more, waits_less}
 use Rattle.fq_lanes.specs.declared.events.Event.{Event}
 use Rattle.fq_lanes.specs.declared.events.Event.TheVariants.{Offer, Close}

@@ -1,9 +1,9 @@
 -- What the engine promises, in whatever order its workers are done.
 use Rattle.std.specs.Prelude.{◌≡◌, ℕ, zero, List, Some}
 use Rattle.std.specs.List.{slice_get}
-use Rattle.fq_lanes.specs.Lists.{Each, EachStart}
+use Rattle.fq_lanes.specs.Beside.{Each, EachStart}
 use Rattle.fq_lanes.specs.Numbering.{numbered, numbers}
-use Rattle.fq_lanes.specs.Taking.{Took, TookUntilRefused}
+use Rattle.fq_lanes.specs.TailTaking.{Took, TookUntilRefused}
 use Rattle.fq_lanes.specs.declared.faults.RunFault.{RunFault}
 use Rattle.fq_lanes.specs.declared.faults.RunFault.TheVariants.{Memory, Read}
 

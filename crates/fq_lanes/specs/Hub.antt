@@ -5,7 +5,7 @@ use Rattle.fq_lanes.specs.Due.{due}
 use Rattle.fq_lanes.specs.Refusals.{refusal_at}
 use Rattle.fq_lanes.specs.Sink.{HasAccepted, file_count}
 use Rattle.fq_lanes.specs.Numbering.{numbers}
-use Rattle.fq_lanes.specs.Taking.{Took, TookUntilRefused}
+use Rattle.fq_lanes.specs.TailTaking.{Took, TookUntilRefused}
 use Rattle.fq_lanes.specs.declared.events.Event.{Event}
 use Rattle.fq_lanes.specs.declared.hub.Hub.{Hub}
 

@@ -2,12 +2,12 @@ pub mod Due
 pub mod Refusals
 pub mod FileFacts
 pub mod Slots
-pub mod Window
+pub mod FileWindow
 pub mod FileState
 pub mod Sink
 pub mod Numbering
-pub mod Lists
-pub mod Taking
+pub mod Beside
+pub mod TailTaking
 pub mod Engine
 pub mod Ledger
 pub mod Inlet

@@ -6,11 +6,11 @@ use Rattle.fq_lanes.specs.Engine.{BlamesFeed}
 use Rattle.fq_lanes.specs.Hub.{HandedOn}
 use Rattle.fq_lanes.specs.Inlet.{Gave, ClosesEnded, DrainsOne}
 use Rattle.fq_lanes.specs.Ledger.{times, Books, Reads}
-use Rattle.fq_lanes.specs.Lists.{Each}
+use Rattle.fq_lanes.specs.Beside.{Each}
 use Rattle.fq_lanes.specs.Numbering.{item_at, numbered, numbers, AllNumbered}
 use Rattle.fq_lanes.specs.Sink.{file_count}
-use Rattle.fq_lanes.specs.Taking.{TookUntilRefused}
-use Rattle.fq_lanes.specs.Window.{AreNear}
+use Rattle.fq_lanes.specs.TailTaking.{TookUntilRefused}
+use Rattle.fq_lanes.specs.FileWindow.{AreNear}
 use Rattle.fq_lanes.specs.declared.events.Event.{Event}
 use Rattle.fq_lanes.specs.declared.hub.Hub.{Hub}
 use Rattle.fq_lanes.specs.declared.inlet.Inlet.{Inlet}

@@ -4,7 +4,7 @@
 use Rattle.std.specs.Prelude.{◌≡◌, ℕ, zero, suc, List, [], ◌∷◌, ◌++◌, map, length, set, Some, IsPermutation}
 use Rattle.std.specs.List.{slice_get, flat_map}
 use Rattle.fq_lanes.specs.Numbering.{numbered}
-use Rattle.fq_lanes.specs.Window.{InWindow}
+use Rattle.fq_lanes.specs.FileWindow.{InWindow}
 use Rattle.fq_lanes.specs.declared.events.Event.{Event}
 use Rattle.fq_lanes.specs.declared.events.Event.TheVariants.{Offer, Close}
 

@@ -8,7 +8,7 @@ use Rattle.fq_lanes.specs.Ledger.{times, none_waits, Books}
 use Rattle.fq_lanes.specs.Numbering.{item_at}
 use Rattle.fq_lanes.specs.Sink.{file_count}
 use Rattle.fq_lanes.specs.HubView.{items_of, end_told, FeedView, WorkerView, told_in, items_in, Tells}
-use Rattle.fq_lanes.specs.Window.{AreNear}
+use Rattle.fq_lanes.specs.FileWindow.{AreNear}
 use Rattle.fq_lanes.specs.WorkerThread.{Waits, Has}
 use Rattle.fq_lanes.specs.declared.events.Event.{Event}
 use Rattle.fq_lanes.specs.declared.faults.FeedFault.TheVariants as feed_fault

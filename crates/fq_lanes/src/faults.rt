@@ -2,25 +2,32 @@
 ghost use Rattle.std.specs.Prelude.{◌≡◌};
 ghost use Rattle.fq_lanes.specs.Faults.{fault_at, first_of};
 
+use thiserror::Error;
+
 /// An allocation failed, or the runtime refused a thread.
-#[derive(Clone, Copy, PartialEq, Eq, Debug, Drop)]
+#[derive(Clone, Copy, PartialEq, Eq, Debug, Drop, Error)]
+#[error("out of memory")]
 pub struct Memory;
 
 /// Why a feed ended early.
-#[derive(Clone, Copy, PartialEq, Eq, Debug, Drop)]
+#[derive(Clone, Copy, PartialEq, Eq, Debug, Drop, Error)]
 pub enum FeedFault {
     /// Its source failed.
+    #[error("read failed")]
     Read,
     /// An allocation failed.
+    #[error("out of memory")]
     Memory,
 }
 
 /// Why a run stopped. `Memory` takes precedence over `Read`.
-#[derive(Clone, Copy, PartialEq, Eq, Debug, Drop)]
+#[derive(Clone, Copy, PartialEq, Eq, Debug, Drop, Error)]
 pub enum RunFault {
     /// An allocation failed, or the runtime refused a thread.
+    #[error("out of memory")]
     Memory,
     /// The source of a feed failed: the lowest file whose feed did.
+    #[error("read failed: file {file}")]
     Read { file: u16 },
 }
 

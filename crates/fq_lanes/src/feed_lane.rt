@@ -8,7 +8,7 @@ ghost use Rattle.fq_lanes.specs.declared.messages.FromFeed.TheVariants.{End};
 use crate::faults::FeedFault;
 use crate::lanes::Take;
 use crate::messages::FromFeed;
-use crate::waiting::Waiter;
+use crate::sleeping::Waiter;
 use std::sync::Wait;
 
 /// The most items that are counted of a feed.

@@ -6,7 +6,7 @@ ghost use Rattle.fq_lanes.specs.FeedThread.{Scanned};
 use crate::feeds::Feed;
 use crate::lanes::Put;
 use crate::messages::FromFeed;
-use crate::waiting::Waiter;
+use crate::sleeping::Waiter;
 use std::sync::Wait;
 
 /// Puts an item, and waits while the lane is full.

@@ -1,10 +1,10 @@
 //! Jobs, their answers, and the work on those of a round.
 ghost use Rattle.std.specs.Prelude.{IfOk};
-ghost use Rattle.fq_lanes.specs.Lists.{Each};
+ghost use Rattle.fq_lanes.specs.Beside.{Each};
 ghost use Rattle.fq_lanes.specs.Round.{Answers};
 
 use crate::faults::Memory;
-use crate::workers::Work;
+use crate::work::Work;
 use std::thread;
 use std::thread::Threads;
 

@@ -6,7 +6,7 @@ ghost use Rattle.fq_lanes.specs.Hub.{HandedOn, HasStopped};
 ghost use Rattle.fq_lanes.specs.Inlet.{left_in};
 ghost use Rattle.fq_lanes.specs.Ledger.{times, Books, OffersWorked};
 ghost use Rattle.fq_lanes.specs.Round.{InRound, ReadsOn, BreaksOff, AreItems, job_numbers};
-ghost use Rattle.fq_lanes.specs.Window.{AreNear};
+ghost use Rattle.fq_lanes.specs.FileWindow.{AreNear};
 ghost use Rattle.fq_lanes.specs.Sink.{file_count};
 ghost use Rattle.fq_lanes.specs.declared.events.Event.{Event};
 ghost use Rattle.fq_lanes.specs.declared.inlet.Inlet.{Inlet};
@@ -17,7 +17,7 @@ use crate::hub::Hub;
 use crate::inlet::Inlet;
 use crate::job::{Answer, Job, work_round};
 use crate::tails::Tail;
-use crate::workers::Work;
+use crate::work::Work;
 use std::alloc::Global;
 use std::thread::Threads;
 

@@ -3,7 +3,7 @@ ghost use Rattle.std.specs.Prelude.{◌≡◌, ◌≤◌, ◌<◌, ◌+◌, ℕ,
 ghost use Rattle.fq_lanes.specs.Engine.{Finishes, StopsEarly, BlamesFeed};
 ghost use Rattle.fq_lanes.specs.Inlet.{opened, DrainsOne};
 ghost use Rattle.fq_lanes.specs.Ledger.{OffersWorked};
-ghost use Rattle.fq_lanes.specs.Lists.{Each};
+ghost use Rattle.fq_lanes.specs.Beside.{Each};
 ghost use Rattle.fq_lanes.specs.Round.{InRound, Faulted};
 ghost use Rattle.fq_lanes.specs.declared.events.Event.{Event};
 ghost use Rattle.fq_lanes.specs.declared.inlet.Inlet.{Inlet};
@@ -16,7 +16,7 @@ use crate::reports::Report;
 use crate::round::{collect_round, work_jobs};
 use crate::sinks::Sink;
 use crate::tails::Tail;
-use crate::workers::Work;
+use crate::work::Work;
 use std::alloc::Global;
 use std::sync::Wait;
 use std::thread::Threads;

@@ -8,7 +8,7 @@ use crate::feed_thread::put_waiting;
 use crate::job::Job;
 use crate::lanes::{Put, Take};
 use crate::messages::ToWorker;
-use crate::waiting::Waiter;
+use crate::sleeping::Waiter;
 use std::alloc::Global;
 use std::collections::VecDeque;
 use std::sync::Wait;

@@ -9,8 +9,8 @@ use crate::gates::Gate;
 use crate::job::Job;
 use crate::lanes::{Put, Take};
 use crate::messages::ToWorker;
-use crate::waiting::Waiter;
-use crate::workers::Work;
+use crate::sleeping::Waiter;
+use crate::work::Work;
 use std::sync::Wait;
 
 /// Answers each job until it is to stop.

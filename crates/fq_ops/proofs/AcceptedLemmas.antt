@@ -15,7 +15,7 @@ use Rattle.fq_column.specs.Schema.{kind_named}
 use Rattle.fq_ops.specs.Aggregate.{Output}
 use Rattle.fq_ops.specs.Fields.{Judged, refusals}
 use Rattle.fq_ops.specs.Group.{aggregate_kind, group_schema, grouped_fields, grouped_kinds}
-use Rattle.fq_ops.proofs.FieldLemmas.{TellsName, tells-name}
+use Rattle.fq_ops.proofs.JudgedFieldLemmas.{TellsName, tells-name}
 use Rattle.fq_ops.proofs.RefusalLemmas.{accepted, chosen, ending, none-both, none-first}
 
 -- ---- judged names, of which none is refused

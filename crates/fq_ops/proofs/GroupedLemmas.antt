@@ -26,7 +26,7 @@ use Rattle.fq_ops.specs.Picks.{Pick, row_of}
 use Rattle.fq_ops.specs.Running.{Len, finished, of_kind, outcome}
 use Rattle.fq_ops.proofs.AcceptedLemmas.{aggregate-kinds, key-kinds, length-grouped}
 use Rattle.fq_ops.proofs.FinishLemmas.{below, found-here, found-past, none, not-below}
-use Rattle.fq_ops.proofs.OutcomeLemmas.{aggregated-fits, named-fits, running-is}
+use Rattle.fq_ops.proofs.AggregateLemmas.{aggregated-fits, named-fits, running-is}
 use Rattle.fq_ops.proofs.ProbeLemmas.{AllIn, AllIn-filter, AllIn-map}
 use Rattle.fq_ops.proofs.RefusalLemmas.{map-map}
 use Rattle.fq_ops.proofs.RollLemmas.{map-range, missing-none, missing-some}

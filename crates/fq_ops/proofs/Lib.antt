@@ -1,14 +1,13 @@
 pub mod AcceptedLemmas
 pub mod AccumulatorLemmas
-pub mod FieldLemmas
+pub mod JudgedFieldLemmas
 pub mod FinishLemmas
 pub mod GatherLemmas
 pub mod GroupLemmas
 pub mod GroupedLemmas
 pub mod JoinLemmas
 pub mod KeyLemmas
-pub mod KindLemmas
-pub mod OutcomeLemmas
+pub mod AggregateLemmas
 pub mod PairLemmas
 pub mod PickLemmas
 pub mod PlaceLemmas

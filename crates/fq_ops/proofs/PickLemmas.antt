@@ -1,65 +1,42 @@
 -- Columns by what each takes of an item make a batch of the items' rows.
-use Rattle.std.proofs.Common.{◌≡◌, ℕ, zero, suc, ◌+◌, ◌<◌, Bool, true, false, not, cond, ◌&&◌, List, [], ◌∷◌, ◌++◌, map, filter, length, zip, replicate, Option, Some, None, refl, sym, ap, ◌∙◌, arith, if◌then◌else◌, get_or, drop, take, length-take, append-nil, append_assoc}
-use Rattle.std.specs.Prelude.{slice_get}
-use Rattle.std.specs.Bool.{◌==◌}
-use Rattle.std.specs.List.{list_all}
-use Rattle.std.specs.Cmp.Lexicographic.{pointwise}
-use Rattle.std.proofs.lemmas.Bool.Decides.{nat_tests}
+use Rattle.std.proofs.Common.{◌≡◌, ℕ, zero, suc, ◌+◌, ◌<◌, Bool, true, false, cond, List, [], ◌∷◌, ◌++◌, map, filter, length, zip, replicate, Some, refl, sym, ap, ◌∙◌, arith, if◌then◌else◌, get_or, drop, take, length-take, append-nil, append_assoc}
+use Rattle.std.specs.Prelude.{All, slice_get}
 use Rattle.std.proofs.lemmas.List.{length-map, map-append}
 use Rattle.std.proofs.lemmas.Option.{slice_get_within}
 use Rattle.fq_column.specs.declared.cells.Cell.{Cell}
 use Rattle.fq_column.specs.declared.cells.Cell.TheVariants.{Null}
 use Rattle.fq_column.specs.declared.cells.Kind.{Kind}
-use Rattle.fq_column.specs.declared.faults.BatchFault.{BatchFault}
-use Rattle.fq_column.specs.declared.faults.BatchFault.TheVariants.{Width, Kind as WrongKind, Length}
-use Rattle.fq_column.specs.Batch.{batch_fault, frame_of, has_kind_of, height_of}
+use Rattle.fq_column.specs.Batch.{frame_of, height_of, kind_of_cells}
 use Rattle.fq_column.specs.Column.{Cells}
 use Rattle.fq_column.specs.Frame.{Field, Fields, Name, Row, kinds_of, names_of, rows_of, value_at, column_at}
 use Rattle.fq_column.specs.Lists.{zip_with}
-use Rattle.fq_column.specs.SchemaLaws.{same_kind_decides}
 use Rattle.fq_ops.specs.Picks.{Pick, column_of, columns_of, row_of, picks_from}
-use Rattle.fq_ops.proofs.FieldLemmas.{take-more}
+use Rattle.fq_ops.proofs.JudgedFieldLemmas.{take-more}
 use Rattle.fq_ops.proofs.RefusalLemmas.{map-map}
-
-eqb-same : (n : ℕ) → (n == n) ≡ true
-eqb-same n = grind (arith, nat_tests)
 
 abbrev pub kinds : {X : Type 0} → List (Pick X) → List Kind
 kinds picks = map (λ p. p.0) picks
 
+-- whether columns have one length
+abbrev pub OneLength : List Cells → Type 0
+OneLength columns = All (λ (c : Cells). length c.cells ≡ height_of columns) columns
+
 module _ {X : Type 0} (xs : List X) where
-  widths : (fields : Fields) (picks : List (Pick X)) → kinds_of fields ≡ kinds picks → length (columns_of picks xs) ≡ length fields
-  widths [] [] e = refl
-  widths [] (p ∷ picks) e = absurd (cc)
-  widths (f ∷ fields) [] e = absurd (cc)
-  widths (f ∷ fields) (p ∷ picks) e = let rest : kinds_of fields ≡ kinds picks = cc in ap suc (widths fields picks rest)
-
-  kinds-match : (fields : Fields) (picks : List (Pick X)) → kinds_of fields ≡ kinds picks → pointwise has_kind_of fields (columns_of picks xs) ≡ true
-  kinds-match [] [] e = refl
-  kinds-match [] (p ∷ picks) e = absurd (cc)
-  kinds-match (f ∷ fields) [] e = absurd (cc)
-  kinds-match (f ∷ fields) (p ∷ picks) e =
-      let here : p.0 ≡ f.1 = cc in
-      let rest : kinds_of fields ≡ kinds picks = cc in
-      ap (λ b. b && pointwise has_kind_of fields (columns_of picks xs)) ((same_kind_decides p.0 f.1).1 here) ∙ kinds-match fields picks rest
-
-  heights : (h : ℕ) → h ≡ length xs → (picks : List (Pick X)) → list_all (λ (c : Cells). length c.cells == h) (columns_of picks xs) ≡ true
-  heights h e [] = refl
-  heights h e (p ∷ picks) =
-      ap (λ n. (n == h) && list_all (λ (c : Cells). length c.cells == h) (columns_of picks xs)) (length-map xs p.1 ∙ sym e)
-      ∙ ap (λ b. b && list_all (λ (c : Cells). length c.cells == h) (columns_of picks xs)) (eqb-same h) ∙ heights h e picks
-
-  abbrev judged : Bool → Bool → Bool → Option BatchFault
-  judged width kind height = if not width then Some Width else if not kind then Some WrongKind else if not height then Some Length else None
-
   height-is : (picks : List (Pick X)) → 0 < length picks → height_of (columns_of picks xs) ≡ length xs
   height-is [] some = absurd (omega (arith, some))
   height-is (p ∷ picks) some = length-map xs p.1
 
-  pub no-fault : (fields : Fields) (picks : List (Pick X)) → kinds_of fields ≡ kinds picks → 0 < length picks → batch_fault fields (columns_of picks xs) ≡ None
-  no-fault fields picks e some =
-      ap (λ n. judged (n == length fields) (pointwise has_kind_of fields (columns_of picks xs)) (list_all (λ (c : Cells). length c.cells == height_of (columns_of picks xs)) (columns_of picks xs))) (widths fields picks e)
-      ∙ (λ i. judged (eqb-same (length fields) i) (kinds-match fields picks e i) (heights (height_of (columns_of picks xs)) (height-is picks some) picks i))
+  pub kinds-of-picks : (picks : List (Pick X)) → map kind_of_cells (columns_of picks xs) ≡ kinds picks
+  kinds-of-picks [] = refl
+  kinds-of-picks (p ∷ picks) = ap (λ ks. p.0 ∷ ks) (kinds-of-picks picks)
+
+  one-for-each : (picks : List (Pick X)) → All (λ (c : Cells). length c.cells ≡ length xs) (columns_of picks xs)
+  one-for-each [] i d below = absurd (omega (arith, below))
+  one-for-each (p ∷ picks) zero d below = length-map xs p.1
+  one-for-each (p ∷ picks) (suc i) d below = one-for-each picks i d (omega (arith, below))
+
+  pub lengths-picked : (picks : List (Pick X)) → 0 < length picks → OneLength (columns_of picks xs)
+  lengths-picked picks some = let same = sym (height-is picks some) in λ i d below. one-for-each picks i d below ∙ same
 
   zip-rows : (f : X → Cell) (g : X → Row) (ys : List X) → zip_with (λ c row. c ∷ row) (map f ys) (map g ys) ≡ map (λ x. f x ∷ g x) ys
   zip-rows f g [] = refl

@@ -25,7 +25,8 @@ use Rattle.std.proofs.lemmas.Bool.{or_parts, and_parts}
 use Rattle.std.proofs.lemmas.List.Folds.{list_any-append}
 use Rattle.fq_column.specs.declared.cells.Kind.TheVariants.{Whole}
 use Rattle.fq_ops.specs.Group.{group_schema, grouped_kinds, grouped_names, grouped_fields, aggregate_kind}
-use Rattle.fq_ops.proofs.FieldLemmas.{first_refusal-here, first_refusal-past, take-more, TellsName, tells-name, position-here, position-past, unnamed}
+use Rattle.fq_column.proofs.NameLemmas.{position-here, position-past, unnamed}
+use Rattle.fq_ops.proofs.JudgedFieldLemmas.{first_refusal-here, first_refusal-past, take-more, TellsName, tells-name}
 
 -- the value, or the refusal
 abbrev pub chosen : {X : Type 0} → X → Option StepFault → Result X StepFault

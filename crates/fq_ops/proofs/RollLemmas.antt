@@ -13,7 +13,8 @@ use Rattle.fq_ops.specs.Roll.{rolled, rolled_at}
 use Rattle.fq_ops.specs.Taken.{Window, HasTakenCells}
 use Rattle.fq_ops.specs.Window.{sum_of_window, sums_along}
 use Rattle.fq_column.specs.Column.{nullable}
-use Rattle.fq_ops.proofs.FieldLemmas.{position-here, position-past, take-more}
+use Rattle.fq_column.proofs.NameLemmas.{position-here, position-past}
+use Rattle.fq_ops.proofs.JudgedFieldLemmas.{take-more}
 use Rattle.fq_ops.proofs.WindowLemmas.{keep_last-append}
 
 -- ---- numbers

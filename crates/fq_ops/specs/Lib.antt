@@ -8,7 +8,7 @@ pub mod Group
 pub mod Grouping
 pub mod Indexed
 pub mod Join
-pub mod Meaning
+pub mod AggregateData
 pub mod Pairs
 pub mod Picks
 pub mod PlainJoin

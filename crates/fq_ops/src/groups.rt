@@ -8,31 +8,34 @@ ghost use Rattle.fq_ops.specs.Aggregate.{Output};
 ghost use Rattle.fq_ops.specs.Gathered.{HasTakenRows, IsFaultOf, fresh, function_of, place_named, place_of};
 ghost use Rattle.fq_ops.specs.Group.{group_schema as judged_grouping, grouped, grouped_fields, same_key};
 ghost use Rattle.fq_ops.specs.Grouping.{key_at};
-ghost use Rattle.fq_ops.specs.Meaning.{aggregate_of, outputs_of};
+ghost use Rattle.fq_ops.specs.AggregateData.{aggregate_of, outputs_of};
 ghost use Rattle.fq_ops.specs.Picks.{column_of, columns_of};
 ghost use Rattle.fq_ops.specs.Running.{IsBoundedBy};
 
 use crate::accumulators::Accumulator;
 use crate::aggregates::{Agg, What};
-use crate::fields::positions;
+use crate::field_lists::positions;
 use crate::index::number_of;
 use crate::keys::Key;
+use crate::output_schemas::group_schema;
 use crate::running::{Function, push_cell};
-use crate::schemas::group_schema;
 use fq_column::{Batch, Column, Kind, Memory, Schema};
 use indexmap::IndexSet;
 use std::alloc::Global;
 use std::marker::Model;
+use thiserror::Error;
 
 /// Why a grouping gives no rows.
-#[derive(Clone, Copy, Debug, PartialEq, Eq)]
+#[derive(Clone, Copy, Debug, PartialEq, Eq, Error)]
 pub enum GroupFault {
     /// The sum of an aggregate does not fit 64 bits in a group: the lowest such aggregate of the first such group.
+    #[error("item {item}: sum out of range")]
     SumRange {
         /// The aggregate, counted from 0.
         item: u16,
     },
     /// An allocation failed.
+    #[error("out of memory")]
     Memory,
 }
 
@@ -179,10 +182,7 @@ impl Grouper {
             return Err(GroupFault::SumRange { item: item as u16 });
         }
         let columns = gather(alloc, &self.output, keys, self.accumulators.as_slice())?;
-        match Batch::from_columns(output, columns) {
-            Ok(batch) => Ok(batch),
-            Err(_) => unreachable!(),
-        }
+        Ok(Batch::new(output, columns))
     }
 }
 

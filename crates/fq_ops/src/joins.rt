@@ -13,11 +13,11 @@ ghost use Rattle.fq_ops.specs.PlainJoin.{plain_fields, plain_how, plain_join};
 ghost use Rattle.fq_ops.specs.Picks.{Pick, columns_of, picks_from};
 ghost use Rattle.fq_ops.specs.Pairs.{IsIndex, Pair, can_match, join_picks, left_value, matches_of, pairs_of, pairs_within, right_value};
 
-use crate::fields::positions;
+use crate::field_lists::positions;
 use crate::index::number_of;
 use crate::keys::{Key, key_law};
+use crate::output_schemas::{contains, join_schema};
 use crate::pairs::Pairs;
-use crate::schemas::{contains, join_schema};
 use fq_column::{Batch, Column, Memory, copy_strings};
 use indexmap::IndexSet;
 use smallvec::SmallVec;
@@ -54,7 +54,7 @@ pub enum How {
 }
 
 /// The output of a left batch.
-#[derive(Drop)]
+#[derive(Debug, Drop)]
 pub struct Probed {
     /// The output rows, up to the left row whose output would pass the room.
     pub batch: Batch,
@@ -192,10 +192,10 @@ impl JoinTable {
         let places = places.as_slice();
         let (pairs, fault) = pair_rows(alloc, &self.seen, &self.groups, places, left, how, room)?;
         let columns = gather(alloc, left, &self.right, on, how, &pairs)?;
-        match Batch::from_columns(schema, columns) {
-            Ok(batch) => Ok(Probed { batch, fault }),
-            Err(_) => unreachable!(),
-        }
+        Ok(Probed {
+            batch: Batch::new(schema, columns),
+            fault,
+        })
     }
 }
 

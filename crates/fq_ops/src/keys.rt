@@ -80,10 +80,10 @@ impl Key {
     {
         let mut rest = Vec::with_capacity(alloc, self.rest.len())?;
         for cell in &self.rest {
-            rest.push(copy_cell(alloc, cell)?)?;
+            rest.push(cell.copy(alloc)?)?;
         }
         Ok(Key {
-            first: copy_cell(alloc, &self.first)?,
+            first: self.first.copy(alloc)?,
             rest,
         })
     }
@@ -167,16 +167,4 @@ fn has_null(cells: &[Cell]) -> bool
         }
     }
     false
-}
-
-/// An equal cell in memory of its own.
-pub fn copy_cell(alloc: Global, cell: &Cell) -> Result<Cell, Memory>
-    ensures { IfOk result (λ c. c ≡ cell.now) }
-{
-    match cell {
-        Cell::Null => Ok(Cell::Null),
-        Cell::Whole(value) => Ok(Cell::Whole(*value)),
-        Cell::Text(text) => Ok(Cell::Text(text.copy(alloc)?)),
-        Cell::Truth(value) => Ok(Cell::Truth(*value)),
-    }
 }

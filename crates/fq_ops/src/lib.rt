@@ -7,20 +7,20 @@
 
 mod accumulators;
 mod aggregates;
-mod fields;
+mod field_lists;
 mod groups;
 mod index;
 mod joins;
 mod keys;
+mod output_schemas;
 mod pairs;
 mod rolls;
 mod running;
-mod schemas;
 mod states;
 mod sums;
 
 pub use aggregates::{Agg, What};
 pub use groups::{GroupFault, Grouper};
 pub use joins::{How, JoinTable, Probed, join_laws};
+pub use output_schemas::{group_schema, join_schema, roll_schema};
 pub use rolls::Rolling;
-pub use schemas::{group_schema, join_schema, roll_schema};

@@ -9,7 +9,6 @@ ghost use Rattle.fq_ops.specs.Running as state;
 ghost use Rattle.fq_ops.specs.Running.{addend, finished};
 ghost use Rattle.fq_ops.specs.declared.running.Function.{Function};
 
-use crate::keys::copy_cell;
 use crate::running::{State, push_cell};
 use fq_column::{Cell, Column, Memory, Values};
 use indexmap::IndexSet;
@@ -280,7 +279,7 @@ fn insert_new(alloc: Global, cells: &mut IndexSet<Cell>, cell: &Cell) -> Result<
     if cells.get_index_of(cell).is_some() {
         return Ok(());
     }
-    let own = copy_cell(alloc, cell)?;
+    let own = cell.copy(alloc)?;
     cells.insert(own)?;
     Ok(())
 }

@@ -11,7 +11,7 @@ use Rattle.fq_column.specs.Refusal.{first_refusal, and_then, IsJudgement}
 use Rattle.fq_column.specs.Schema.{fields_of, schema_checks}
 use Rattle.fq_expr.specs.Expression.{Step}
 use Rattle.fq_expr.specs.Kinds.{step_schema, steps_schema}
-use Rattle.fq_ops.specs.Meaning.{outputs_of}
+use Rattle.fq_ops.specs.AggregateData.{outputs_of}
 use Rattle.fq_plan.specs.Judged.{judged_step, judged_steps, refused_at, source_refusal}
 use Rattle.fq_plan.specs.Plan.{Source, PlanStep, row_wise, join, group_by, rolling_sum}
 use Rattle.fq_plan.specs.Stages.{operator_steps, stage_steps, Leads, Turns}

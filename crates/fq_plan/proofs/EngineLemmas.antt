@@ -11,9 +11,9 @@ use Rattle.fq_csv.specs.declared.faults.ScanFault.{ScanFault}
 use Rattle.fq_csv.proofs.ScanLemmas.{rows-under-header}
 use Rattle.fq_expr.specs.Front.{NumberedSteps}
 use Rattle.fq_lanes.specs.Engine.{IsWorked}
-use Rattle.fq_lanes.specs.Lists.{Each}
+use Rattle.fq_lanes.specs.Beside.{Each}
 use Rattle.fq_lanes.specs.Numbering.{numbered, numbered_file, numbers}
-use Rattle.fq_lanes.specs.Taking.{Took}
+use Rattle.fq_lanes.specs.TailTaking.{Took}
 use Rattle.fq_plan.specs.Feeding.{Feeding, MayCome, end_item, runs_from, scanned_items}
 use Rattle.fq_plan.specs.Kept.{Takes}
 use Rattle.fq_plan.specs.Plan.{Query, join_files, main_fields}
@@ -23,13 +23,13 @@ use Rattle.fq_plan.specs.Sources.{concat_streams, row_limit, scan_fault}
 use Rattle.fq_plan.specs.Tail.{Taken, tagged, worked, worked_files}
 use Rattle.fq_plan.specs.Working.{work_on, worked_stream}
 use Rattle.fq_plan.specs.declared.faults.Fault.{Fault}
-use Rattle.fq_plan.specs.declared.feeds.Scanned.{Scanned}
-use Rattle.fq_plan.specs.declared.feeds.Scanned.TheVariants.{Run}
+use Rattle.fq_plan.specs.declared.file_feeds.Scanned.{Scanned}
+use Rattle.fq_plan.specs.declared.file_feeds.Scanned.TheVariants.{Run}
 use Rattle.fq_plan.specs.declared.gathering.Gathered.{Gathered}
-use Rattle.fq_plan.specs.declared.workers.Worked.{Worked}
+use Rattle.fq_plan.specs.declared.leading_steps.Worked.{Worked}
 use Rattle.fq_plan.proofs.EndLemmas.{AllDone}
 use Rattle.fq_plan.proofs.GatheringLemmas.{Answer, AllFit, Fits, Head, all_taken, fields_at, streams_of}
-use Rattle.fq_plan.proofs.ItemLemmas.{done-length, file-worked}
+use Rattle.fq_plan.proofs.FileItemLemmas.{done-length, file-worked}
 
 -- feeds that tell their items gave those
 pub each-known : (feeds : List Feeding) (items known : List (List Scanned)) → Each MayCome feeds items → map (λ (f : Feeding). f.items) feeds ≡ map Some known → items ≡ known

@@ -8,10 +8,10 @@ use Rattle.fq_csv.specs.Taking.{FieldRun, RecordStream, over, without_records}
 use Rattle.fq_csv.specs.declared.faults.ScanFault.{ScanFault}
 use Rattle.fq_csv.specs.declared.layouts.Layout.{Layout}
 use Rattle.fq_csv.specs.declared.faults.ScanFault.TheVariants.{Read, Memory}
-use Rattle.fq_csv.proofs.RunLemmas.{pieces-more, pieces-none}
+use Rattle.fq_csv.proofs.HandedOutLemmas.{pieces-more, pieces-none}
 use Rattle.fq_plan.specs.Feeding.{Feeding, MayCome, end_item, feeding_of, runs_from, scanned_items}
-use Rattle.fq_plan.specs.declared.feeds.Scanned.{Scanned}
-use Rattle.fq_plan.specs.declared.feeds.Scanned.TheVariants.{Run, Ended}
+use Rattle.fq_plan.specs.declared.file_feeds.Scanned.{Scanned}
+use Rattle.fq_plan.specs.declared.file_feeds.Scanned.TheVariants.{Run, Ended}
 
 -- a run is the first item, and the rest comes
 scanned_items-next : (file : ℕ) (layout : Layout) (size n : ℕ) (u : RecordStream) (run : FieldRun) → 0 < size → 0 < length u.records

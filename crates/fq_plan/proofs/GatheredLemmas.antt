@@ -4,7 +4,7 @@ use Rattle.fq_column.specs.Stream.{Stream}
 use Rattle.fq_csv.specs.declared.faults.ScanFault.{ScanFault}
 use Rattle.fq_expr.specs.Front.{NumberedSteps}
 use Rattle.fq_lanes.specs.Engine.{Finishes}
-use Rattle.fq_lanes.specs.Lists.{Each}
+use Rattle.fq_lanes.specs.Beside.{Each}
 use Rattle.fq_lanes.specs.Numbering.{numbered}
 use Rattle.fq_plan.specs.EngineRun.{Gives, opened, records_of_files}
 use Rattle.fq_plan.specs.Feeding.{Feeding, MayCome}
@@ -13,22 +13,22 @@ use Rattle.fq_plan.specs.Kept.{AreSound, Takes}
 use Rattle.fq_plan.specs.Plan.{file_layouts, files_wanted, join_files}
 use Rattle.fq_plan.specs.Run.{Tell}
 use Rattle.fq_plan.specs.Sources.{file_streams}
-use Rattle.fq_plan.specs.Stages.{checked_layout, IsChecked}
+use Rattle.fq_plan.specs.Stages.{IsChecked}
 use Rattle.fq_plan.specs.Standing.{TailTakes, Waits}
 use Rattle.fq_plan.specs.Working.{work_on}
-use Rattle.fq_plan.specs.declared.feeds.Scanned.{Scanned}
+use Rattle.fq_plan.specs.declared.file_feeds.Scanned.{Scanned}
 use Rattle.fq_plan.specs.declared.gathering.Gathered.{Gathered}
 use Rattle.fq_plan.specs.declared.run_tail.RunTail.{RunTail}
 use Rattle.fq_plan.specs.declared.stages.CheckedSource.{CheckedSource}
 use Rattle.fq_plan.specs.declared.stages.Stage.{Stage}
-use Rattle.fq_plan.specs.declared.workers.Worked.{Worked}
+use Rattle.fq_plan.specs.declared.leading_steps.Worked.{Worked}
 use Rattle.fq_plan.proofs.EngineLemmas.{answers_in, rows-of-bytes}
 use Rattle.fq_plan.proofs.GatheringLemmas.{all_taken}
 use Rattle.fq_plan.proofs.LogLemmas.{InOrder, StandsFor, in-order, took-sources, whole-log, worked-order}
 use Rattle.fq_plan.proofs.MeaningLemmas.{ran-gives}
-use Rattle.fq_plan.proofs.OutcomeLemmas.{before_main, leads-over, main_one, outcome-is, sound-nothing}
-use Rattle.fq_plan.proofs.RunLemmas.{sound-kept}
-use Rattle.fq_plan.proofs.StartLemmas.{join-file-count, length-opened, nothing-is, plan, ran-over, wanted-is}
+use Rattle.fq_plan.proofs.CheckedOutcomeLemmas.{before_main, leads-over, main_one, outcome-is, sound-nothing}
+use Rattle.fq_plan.proofs.KeptSourceLemmas.{sound-kept}
+use Rattle.fq_plan.proofs.RunStartLemmas.{join-file-count, length-opened, nothing-is, plan, ran-over, wanted-is}
 
 each-length : {A B : Type 0} (R : A → B → Type 0) (xs : List A) (ys : List B) → Each R xs ys → length ys ≡ length xs
 each-length R [] [] h = refl
@@ -42,7 +42,7 @@ module _ (sources : List CheckedSource) (front : NumberedSteps) (stages : List S
 
   pub has-gathered : {R : Type 0} (remaining : R → Option (List ℕ)) (readers : List R) (b : ℕ) (feeds : List Feeding) (first last : RunTail) (trace : List (ℕ × ℕ)) →
       0 < b → length readers ≡ files_wanted (plan sources front stages inputs c) →
-      feeds ≡ opened remaining b 0 (flat_map (λ (s : CheckedSource). replicate s.files (checked_layout s)) sources) readers →
+      feeds ≡ opened remaining b 0 (flat_map (λ (s : CheckedSource). replicate s.files s.layout) sources) readers →
       first.join_files ≡ join_files (plan sources front stages inputs c) →
       Waits stages (before_main sources front stages inputs c joins main parts) (main_one sources front stages inputs c joins main parts) first →
       Finishes MayCome (λ file item out. out ≡ work_on front (inputs - main.files) file item) TailTakes feeds first trace last →
@@ -61,7 +61,7 @@ module _ (sources : List CheckedSource) (front : NumberedSteps) (stages : List S
         ap length feeds-are,
         count,
         wanted-is sources front stages inputs c joins main parts,
-        length-opened remaining b 0 (flat_map (λ (s : CheckedSource). replicate s.files (checked_layout s)) sources) readers,
+        length-opened remaining b 0 (flat_map (λ (s : CheckedSource). replicate s.files s.layout) sources) readers,
       ))) in
       let taken : List Gathered = all_taken (answers_in log) at_first in
       let stood : StandsFor stages (length front.steps) c.leads.1 last taken =

@@ -15,8 +15,8 @@ use Rattle.fq_plan.specs.Tail.{Taken, items_from, taken_streams}
 use Rattle.fq_plan.specs.Working.{worked_stream}
 use Rattle.fq_plan.specs.declared.faults.Fault.{Fault}
 use Rattle.fq_plan.specs.declared.gathering.Gathered.{Gathered}
-use Rattle.fq_plan.specs.declared.workers.Worked.{Worked}
-use Rattle.fq_plan.specs.declared.workers.Worked.TheVariants.{Piece, Cut, Ended}
+use Rattle.fq_plan.specs.declared.leading_steps.Worked.{Worked}
+use Rattle.fq_plan.specs.declared.leading_steps.Worked.TheVariants.{Piece, Cut, Ended}
 
 -- the number of files and the columns of a source
 abbrev pub Head : Type 0

@@ -2,28 +2,28 @@ pub mod ReadingLemmas
 pub mod ValueLemmas
 pub mod SpellingLemmas
 pub mod LimitLemmas
-pub mod BatchLemmas
+pub mod LeadingStepLemmas
 pub mod TailLemmas
 pub mod StageLemmas
-pub mod FinishLemmas
-pub mod RunLemmas
+pub mod SourceFaultLemmas
+pub mod KeptSourceLemmas
 pub mod FeedLemmas
 pub mod GatheringLemmas
 pub mod EndLemmas
-pub mod ItemLemmas
+pub mod FileItemLemmas
 pub mod EngineLemmas
-pub mod PlaceLemmas
+pub mod SourceOfFileLemmas
 pub mod MeaningLemmas
 pub mod OnLiterals
 pub mod CheckLemmas
 pub mod SplitLemmas
 pub mod PreparedLemmas
-pub mod CutLemmas
-pub mod StartLemmas
-pub mod OutcomeLemmas
+pub mod FileCutLemmas
+pub mod RunStartLemmas
+pub mod CheckedOutcomeLemmas
 mod PipelineLemmas
 mod OperatorLemmas
-mod RunningLemmas
+mod PipelineStepLemmas
 mod TransformLemmas
 mod StageTransforms
 mod OutcomeOfPipeline

@@ -5,9 +5,9 @@ use Rattle.std.proofs.lemmas.Bool.Decides.{nat_tests}
 use Rattle.std.proofs.lemmas.List.Sums.{sum_by-cons}
 use Rattle.fq_column.specs.Frame.{Fields}
 use Rattle.fq_lanes.specs.Engine.{IsWorked}
-use Rattle.fq_lanes.specs.Lists.{Each}
+use Rattle.fq_lanes.specs.Beside.{Each}
 use Rattle.fq_lanes.specs.Numbering.{numbered, numbered_file}
-use Rattle.fq_lanes.specs.Taking.{Took}
+use Rattle.fq_lanes.specs.TailTaking.{Took}
 use Rattle.fq_plan.specs.Gathering.{gathered, taken_in}
 use Rattle.fq_plan.specs.Kept.{Takes}
 use Rattle.fq_plan.specs.Stages.{Leads}
@@ -15,10 +15,10 @@ use Rattle.fq_plan.specs.Standing.{LeadsOver, Stands, TailTakes, Waits}
 use Rattle.fq_plan.specs.declared.gathering.Gathered.{Gathered}
 use Rattle.fq_plan.specs.declared.run_tail.RunTail.{RunTail}
 use Rattle.fq_plan.specs.declared.stages.Stage.{Stage}
-use Rattle.fq_plan.specs.declared.workers.Worked.{Worked}
+use Rattle.fq_plan.specs.declared.leading_steps.Worked.{Worked}
 use Rattle.fq_plan.proofs.EngineLemmas.{answers_in}
 use Rattle.fq_plan.proofs.GatheringLemmas.{all_taken}
-use Rattle.fq_plan.proofs.RunLemmas.{columns-taken}
+use Rattle.fq_plan.proofs.KeptSourceLemmas.{columns-taken}
 
 -- ---- files by their place
 

@@ -17,11 +17,11 @@ use Rattle.fq_plan.specs.Run.{trace_of}
 use Rattle.fq_plan.specs.Sources.{concat_streams, first_fault, scan_fault}
 use Rattle.fq_plan.specs.Tail.{Taken, finished, items_from, tagged, taken_streams, worked_files}
 use Rattle.fq_plan.specs.declared.faults.Fault.{Fault}
-use Rattle.fq_plan.specs.declared.feeds.Scanned.{Scanned}
+use Rattle.fq_plan.specs.declared.file_feeds.Scanned.{Scanned}
 use Rattle.fq_plan.specs.declared.gathering.Gathered.{Gathered}
 use Rattle.fq_plan.proofs.EndLemmas.{files-done}
 use Rattle.fq_plan.proofs.GatheringLemmas.{Answer, all_joined-items, all_taken, all_taken-joined, items-frames, items-streams, with_items, with_items-append, head_of}
-use Rattle.fq_plan.proofs.PlaceLemmas.{HasMain, files-fit, has_main, length-layouts, main-fields, wanted-main}
+use Rattle.fq_plan.proofs.SourceOfFileLemmas.{HasMain, files-fit, has_main, length-layouts, main-fields, wanted-main}
 use Rattle.fq_plan.proofs.EngineLemmas.{answer-streams, answers_in, answers_to, each-known, files-numbers, fit-files, length-rows, log-answers, log-numbers, took-all, worked-joined, worked_streams}
 use Rattle.fq_plan.proofs.SplitLemmas.{same-ends}
 use Rattle.fq_plan.proofs.TailLemmas.{flat, items_from-start, outcome-all}

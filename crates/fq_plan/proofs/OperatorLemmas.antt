@@ -22,7 +22,7 @@ use Rattle.fq_ops.proofs.JoinLemmas.{within-parts}
 use Rattle.fq_ops.proofs.RollLemmas.{rolled-append, rolled-added}
 use Rattle.fq_plan.specs.Transforms.{Transform, roll_transform, steps_transform}
 use Rattle.fq_plan.specs.Meaning.{join_room}
-use Rattle.fq_plan.specs.Running.{HasJoined, HasSummed, IsNext}
+use Rattle.fq_plan.specs.RunningOperators.{HasJoined, HasSummed, IsNext}
 use Rattle.fq_plan.specs.Sources.{row_fault}
 use Rattle.fq_plan.specs.declared.faults.Fault.{Fault}
 use Rattle.fq_plan.specs.declared.faults.Fault.TheVariants.{JoinRows, Overflow, RollRange}

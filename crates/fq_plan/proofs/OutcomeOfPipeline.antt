@@ -4,7 +4,7 @@ use Rattle.fq_column.specs.Frame.{Fields, Row}
 use Rattle.fq_column.specs.Stream.{Stream, done}
 use Rattle.fq_plan.specs.Meaning.{frame_or_fault}
 use Rattle.fq_plan.specs.Pipelines.{HasFinished, PlanPart, meant}
-use Rattle.fq_plan.specs.Running.{rows_in}
+use Rattle.fq_plan.specs.RunningOperators.{rows_in}
 use Rattle.fq_plan.specs.declared.faults.Fault.{Fault}
 use Rattle.fq_plan.specs.declared.passed.Passed.{Passed}
 

@@ -5,7 +5,7 @@ use Rattle.std.proofs.Math.Seq.{drop-cons, take-suc-set}
 use Rattle.fq_column.specs.Frame.{Fields, Row}
 use Rattle.fq_column.specs.Stream.{Stream, done, then_stream}
 use Rattle.fq_plan.specs.Transforms.{Transform, Chain, given, given_all, whole_all}
-use Rattle.fq_plan.specs.Running.{CanTake, HasEnded, HasGrouped, HasPassed, HasTaken, HaveEnded, HavePassed, HaveTaken, IsUnder, Keeps, passed_stream, rows_in}
+use Rattle.fq_plan.specs.RunningOperators.{CanTake, HasEnded, HasGrouped, HasPassed, HasTaken, HaveEnded, HavePassed, HaveTaken, IsUnder, Keeps, passed_stream, rows_in}
 use Rattle.fq_plan.specs.declared.faults.Fault.{Fault}
 use Rattle.fq_plan.specs.declared.operators.Running.{Running}
 use Rattle.fq_plan.specs.declared.operators.Running.TheVariants.{Group}

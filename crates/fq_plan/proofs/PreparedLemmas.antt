@@ -13,7 +13,7 @@ use Rattle.fq_plan.specs.Stages.{checked_fields, checked_source_data, query_of, 
 use Rattle.fq_plan.specs.declared.faults.CheckFault.{CheckFault}
 use Rattle.fq_plan.specs.declared.stages.CheckedSource.{CheckedSource}
 use Rattle.fq_plan.specs.declared.stages.Stage.{Stage}
-use Rattle.fq_plan.proofs.BatchLemmas.{front-rest}
+use Rattle.fq_plan.proofs.LeadingStepLemmas.{front-rest}
 use Rattle.fq_plan.proofs.CheckLemmas.{refusal_in, refusal-is, no-refusal, rows-passed, stages-passed}
 use Rattle.fq_plan.proofs.SplitLemmas.{but_last-snoc, last_or-snoc, no_more_leading}
 
@@ -51,7 +51,7 @@ module _ (sources joins : List CheckedSource) (main : CheckedSource) (parts : so
 
   fields-of : (xs : List CheckedSource) → map (λ (s : Source). s.fields) (map checked_source_data xs) ≡ checked_fields xs
   fields-of [] = refl
-  fields-of (x ∷ xs) = ap (λ fs. x.schema ∷ fs) (fields-of xs)
+  fields-of (x ∷ xs) = ap (λ fs. x.layout.schema ∷ fs) (fields-of xs)
 
   pub joins-are : (steps : List PlanStep) → join_fields (query steps) ≡ checked_fields joins
   joins-are steps =
@@ -59,35 +59,35 @@ module _ (sources joins : List CheckedSource) (main : CheckedSource) (parts : so
       ∙ ap (map (λ (s : Source). s.fields)) (but_last-snoc (map checked_source_data joins) (checked_source_data main))
       ∙ fields-of joins
 
-  pub main-is : (steps : List PlanStep) → main_fields (query steps) ≡ main.schema
+  pub main-is : (steps : List PlanStep) → main_fields (query steps) ≡ main.layout.schema
   main-is steps =
-      ap (last_or []) (fields-of sources ∙ ap checked_fields parts ∙ map-append (λ (s : CheckedSource). s.schema) joins (main ∷ []))
-      ∙ last_or-snoc [] (checked_fields joins) main.schema
+      ap (last_or []) (fields-of sources ∙ ap checked_fields parts ∙ map-append (λ (s : CheckedSource). s.layout.schema) joins (main ∷ []))
+      ∙ last_or-snoc [] (checked_fields joins) main.layout.schema
 
   module _ (steps : List PlanStep) (leading : List Step) (front : leading ≡ front_of steps) where
-    judged-are : (rest : List PlanStep) → rest ≡ rest_of steps → steps_judged (query steps) ≡ judged_steps (checked_fields joins) 0 main.schema (map row_wise leading ++ rest)
+    judged-are : (rest : List PlanStep) → rest ≡ rest_of steps → steps_judged (query steps) ≡ judged_steps (checked_fields joins) 0 main.layout.schema (map row_wise leading ++ rest)
     judged-are rest r = λ i. judged_steps (joins-are steps i) 0 (main-is steps i) (sym (steps-are steps leading front rest r) i)
 
     pub leading-refuses : (e : CheckFault) → source_refusal 0 (map checked_source_data sources) ≡ None →
-        ((joins : List Fields) (rest : List PlanStep) → judged_steps joins 0 main.schema (map row_wise leading ++ rest) ≡ Err e) → checked (query steps) ≡ Err e
+        ((joins : List Fields) (rest : List PlanStep) → judged_steps joins 0 main.layout.schema (map row_wise leading ++ rest) ≡ Err e) → checked (query steps) ≡ Err e
     leading-refuses e s h = step-refuses (query steps) e s (judged-are (rest_of steps) refl ∙ h (checked_fields joins) (rest_of steps))
 
     pub stages-refuse : (rest : List PlanStep) (mid : Fields) (e : CheckFault) → source_refusal 0 (map checked_source_data sources) ≡ None → rest ≡ rest_of steps →
-        steps_schema main.schema leading ≡ Ok mid → judged_steps (checked_fields joins) (length leading) mid rest ≡ Err e → checked (query steps) ≡ Err e
+        steps_schema main.layout.schema leading ≡ Ok mid → judged_steps (checked_fields joins) (length leading) mid rest ≡ Err e → checked (query steps) ≡ Err e
     stages-refuse rest mid e s r h g =
         step-refuses (query steps) e s
         (judged-are rest r
-        ∙ refusal-is (judged_steps (checked_fields joins) 0 main.schema (map row_wise leading ++ rest)) e
-        (rows-passed (checked_fields joins) 0 main.schema leading rest mid h
+        ∙ refusal-is (judged_steps (checked_fields joins) 0 main.layout.schema (map row_wise leading ++ rest)) e
+        (rows-passed (checked_fields joins) 0 main.layout.schema leading rest mid h
         ∙ ap (λ n. refusal_in (judged_steps (checked_fields joins) n mid rest)) (let q : 0 + length leading ≡ length leading = omega arith in q)
         ∙ ap refusal_in g))
 
     -- ---- a plan that is not refused
 
     module _ (stages : List Stage) (mid after : Fields) (rest : stage_steps stages ≡ rest_of steps) (passed : source_refusal 0 (map checked_source_data sources) ≡ None)
-        (to_mid : steps_schema main.schema leading ≡ Ok mid) (leads : Leads (checked_fields joins) (length leading) mid stages after) where
+        (to_mid : steps_schema main.layout.schema leading ≡ Ok mid) (leads : Leads (checked_fields joins) (length leading) mid stages after) where
       abbrev pub in_front : NumberedSteps
-      in_front = record { steps = leading; fields = main.schema; first = 0 }
+      in_front = record { steps = leading; fields = main.layout.schema; first = 0 }
 
       pub query-is : query_of sources in_front stages ≡ query steps
       query-is = ap query (steps-are steps leading front (stage_steps stages) rest)

@@ -3,7 +3,7 @@ use Rattle.std.proofs.Common.{◌≡◌, ℕ, zero, suc, ◌+◌, ◌-◌, ◌<�
 use Rattle.std.specs.Prelude.{slice_index_or}
 use Rattle.std.proofs.lemmas.List.{length-map, map-append}
 use Rattle.fq_expr.specs.Expression.{Step}
-use Rattle.fq_expr.specs.Meaning.{step_of}
+use Rattle.fq_expr.specs.ExpressionData.{step_of}
 use Rattle.fq_expr.specs.declared.steps.RowStep.{RowStep}
 use Rattle.fq_plan.specs.Plan.{PlanStep, row_wise, join, group_by, rolling_sum, but_last, last_or, front_of, rest_of}
 use Rattle.fq_plan.specs.View.{plan_step_of}

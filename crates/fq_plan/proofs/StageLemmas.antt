@@ -40,7 +40,7 @@ use Rattle.fq_plan.specs.declared.stages.Stage.{Stage}
 use Rattle.fq_plan.specs.declared.stages.Operator.TheVariants as operator
 use Rattle.fq_plan.specs.declared.faults.Fault.{Fault}
 use Rattle.fq_plan.specs.declared.faults.Fault.TheVariants.{Overflow, JoinRows}
-use Rattle.fq_plan.proofs.BatchLemmas.{leading-steps, rename_fault-apply_steps}
+use Rattle.fq_plan.proofs.LeadingStepLemmas.{leading-steps, rename_fault-apply_steps}
 
 -- ---- a step that goes row by row, on a stream
 

@@ -18,14 +18,14 @@ use Rattle.fq_column.specs.Stream.{Stream, done, then_stream}
 use Rattle.fq_expr.specs.Steps.{apply_steps, fields_after_all}
 use Rattle.fq_ops.specs.Group.{group_stream, grouped_fields, grouped_kinds, grouped_names}
 use Rattle.fq_ops.specs.Join.{join_schema, joined_fields}
-use Rattle.fq_ops.specs.Meaning.{outputs_of}
+use Rattle.fq_ops.specs.AggregateData.{outputs_of}
 use Rattle.fq_ops.specs.Roll.{is_from_to, roll_stream}
 use Rattle.fq_plan.specs.Judged.{judged_step}
 use Rattle.fq_ops.specs.Aggregate.{Output}
 use Rattle.fq_ops.specs.declared.joins.How.{How}
 use Rattle.fq_plan.specs.Transforms.{Chain, Transform, given_all, group_transform, join_transform, roll_transform, whole, whole_all}
 use Rattle.fq_plan.specs.Pipelines.{HasRun}
-use Rattle.fq_plan.specs.Running.{HasGrouped, HasJoined, HasSummed, HasTaken, HaveTaken}
+use Rattle.fq_plan.specs.RunningOperators.{HasGrouped, HasJoined, HasSummed, HasTaken, HaveTaken}
 use Rattle.fq_plan.specs.declared.operators.Running.{Running}
 use Rattle.fq_plan.specs.declared.operators.Running.TheVariants as running
 use Rattle.fq_plan.specs.declared.operators.grouping.Grouping.{Grouping}

@@ -19,8 +19,8 @@ use Rattle.fq_plan.specs.declared.faults.Fault.{Fault}
 use Rattle.fq_plan.specs.declared.faults.Fault.TheVariants.{Memory}
 use Rattle.fq_plan.specs.declared.gathering.Gathered.{Gathered}
 use Rattle.fq_plan.specs.declared.stages.Stage.{Stage}
-use Rattle.fq_plan.specs.declared.workers.Worked.{Worked}
-use Rattle.fq_plan.proofs.FinishLemmas.{none-before}
+use Rattle.fq_plan.specs.declared.leading_steps.Worked.{Worked}
+use Rattle.fq_plan.proofs.SourceFaultLemmas.{none-before}
 use Rattle.fq_plan.proofs.GatheringLemmas.{then-nothing}
 use Rattle.fq_plan.proofs.OutcomeOfPipeline.{fault-is}
 

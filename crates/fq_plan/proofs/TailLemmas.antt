@@ -11,7 +11,7 @@ use Rattle.fq_plan.specs.Sources.{concat_streams, source_streams}
 use Rattle.fq_plan.specs.declared.faults.Fault.TheVariants.{Overflow}
 use Rattle.fq_plan.specs.Plan.{Source, Query, but_last, front_of, join_files, main_fields, files_wanted}
 use Rattle.fq_plan.specs.Tail.{Taken, after_leading, finished, items_from, items_of, outcome_of_taken, tagged, taken_streams, worked, worked_files, worked_items}
-use Rattle.fq_plan.proofs.BatchLemmas.{apply_steps-concat_streams, concat_streams-append, concat_streams-items, finished-worked, worked-joined}
+use Rattle.fq_plan.proofs.LeadingStepLemmas.{apply_steps-concat_streams, concat_streams-append, concat_streams-items, finished-worked, worked-joined}
 use Rattle.fq_plan.specs.declared.faults.Fault.{Fault}
 
 items_from-append : (a n : ℕ) (xs ys : List Taken) → items_from a n (xs ++ ys) ≡ items_from a n xs ++ items_from a n ys

@@ -17,7 +17,7 @@ use Rattle.fq_plan.specs.Run.{trace_of}
 use Rattle.fq_plan.specs.Sources.{first_fault, row_limit}
 use Rattle.fq_plan.specs.Working.{work_on}
 use Rattle.fq_plan.specs.declared.faults.Fault.{Fault}
-use Rattle.fq_plan.specs.declared.feeds.Scanned.{Scanned}
+use Rattle.fq_plan.specs.declared.file_feeds.Scanned.{Scanned}
 use Rattle.fq_plan.specs.declared.gathering.Gathered.{Gathered}
 
 -- the number of the main source's files, and its columns after the leading steps

@@ -7,8 +7,8 @@ use Rattle.fq_csv.specs.RecordScan.{RecordScanning}
 use Rattle.fq_csv.specs.Taking.{RecordStream}
 use Rattle.fq_csv.specs.declared.faults.ScanFault.{ScanFault}
 use Rattle.fq_csv.specs.declared.layouts.Layout.{Layout}
-use Rattle.fq_plan.specs.declared.feeds.Scanned.{Scanned}
-use Rattle.fq_plan.specs.declared.feeds.Scanned.TheVariants.{Run, Ended}
+use Rattle.fq_plan.specs.declared.file_feeds.Scanned.{Scanned}
+use Rattle.fq_plan.specs.declared.file_feeds.Scanned.TheVariants.{Run, Ended}
 
 -- a fault as one item
 abbrev pub end_item : Option ScanFault → List Scanned

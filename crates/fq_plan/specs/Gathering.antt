@@ -8,8 +8,8 @@ use Rattle.fq_plan.specs.Sources.{scan_fault}
 use Rattle.fq_plan.specs.Working.{piece_stream}
 use Rattle.fq_plan.specs.declared.faults.Fault.{Fault}
 use Rattle.fq_plan.specs.declared.gathering.Gathered.{Gathered}
-use Rattle.fq_plan.specs.declared.workers.Worked.{Worked}
-use Rattle.fq_plan.specs.declared.workers.Worked.TheVariants as worked
+use Rattle.fq_plan.specs.declared.leading_steps.Worked.{Worked}
+use Rattle.fq_plan.specs.declared.leading_steps.Worked.TheVariants as worked
 
 -- the stream so far, and a source with another one
 abbrev pub gathered_stream : Gathered → Stream Fault

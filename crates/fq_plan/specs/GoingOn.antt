@@ -5,7 +5,7 @@ use Rattle.fq_csv.specs.Printed.{printed_rows}
 use Rattle.fq_plan.specs.Gathering.{added_stream}
 use Rattle.fq_plan.specs.Pipelines.{HasRun, PlanPart}
 use Rattle.fq_plan.specs.Streaming.{Streaming}
-use Rattle.fq_plan.specs.declared.workers.Worked.{Worked}
+use Rattle.fq_plan.specs.declared.leading_steps.Worked.{Worked}
 
 -- its rows were taken by operators that had passed on some rows; what they passed on of them was printed
 pub record HasGoneOn (old : Streaming) (item : Worked) (w : PlanPart) (taken out : List Row) (new : Streaming) : Type 0 where

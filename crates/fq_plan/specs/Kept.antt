@@ -5,7 +5,7 @@ use Rattle.fq_plan.specs.Gathering.{taken_in}
 use Rattle.fq_plan.specs.Run.{IsRunFault}
 use Rattle.fq_plan.specs.declared.faults.Fault.{Fault}
 use Rattle.fq_plan.specs.declared.gathering.Gathered.{Gathered}
-use Rattle.fq_plan.specs.declared.workers.Worked.{Worked}
+use Rattle.fq_plan.specs.declared.leading_steps.Worked.{Worked}
 
 -- a source's files and columns
 abbrev pub shape : Gathered → ℕ × Fields

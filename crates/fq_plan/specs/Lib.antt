@@ -18,7 +18,7 @@ pub mod Examples
 pub mod Stages
 pub mod Outcome
 pub mod Transforms
-pub mod Running
+pub mod RunningOperators
 pub mod Pipelines
 pub mod Starting
 pub mod Streaming

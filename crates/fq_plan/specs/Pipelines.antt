@@ -5,7 +5,7 @@ use Rattle.fq_column.specs.Stream.{Stream, done, then_stream}
 use Rattle.fq_plan.specs.Transforms.{Chain, Transform, given_all, whole_all}
 use Rattle.fq_plan.specs.Meaning.{apply_plan_steps}
 use Rattle.fq_plan.specs.Plan.{PlanStep}
-use Rattle.fq_plan.specs.Running.{HaveTaken, IsUnder, passed_stream, rows_in}
+use Rattle.fq_plan.specs.RunningOperators.{HaveTaken, IsUnder, passed_stream, rows_in}
 use Rattle.fq_plan.specs.declared.faults.Fault.{Fault}
 use Rattle.fq_plan.specs.declared.operators.Running.{Running}
 use Rattle.fq_plan.specs.declared.passed.Passed.{Passed}

@@ -5,6 +5,7 @@ use Rattle.fq_column.specs.Stream.{Stream, done, then_stream}
 use Rattle.fq_csv.specs.File.{file_stream}
 use Rattle.fq_csv.specs.declared.faults.ScanFault.{ScanFault}
 use Rattle.fq_csv.specs.declared.faults.ScanFault.TheVariants as scan
+use Rattle.fq_csv.specs.declared.scanners.TheConstants.{MAX_ROWS}
 use Rattle.fq_expr.specs.declared.fronts.RowFault.{RowFault}
 use Rattle.fq_plan.specs.Plan.{Source, Query, file_layouts}
 use Rattle.fq_plan.specs.declared.faults.Fault.{Fault}
@@ -12,7 +13,7 @@ use Rattle.fq_plan.specs.declared.faults.Fault.TheVariants.{Memory, Read, Header
 
 -- the most rows of a file
 abbrev pub row_limit : ℕ
-row_limit = 2147483647
+row_limit = MAX_ROWS
 
 -- the streams of the files' bytes, each with its number and its source's layout
 abbrev pub file_streams : Query → List (List ℕ) → List (Stream ScanFault)

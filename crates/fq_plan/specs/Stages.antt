@@ -1,10 +1,9 @@
 -- What a checked plan holds: its sources with their schemas, its leading row-wise steps, and the stages after them.
 use Rattle.std.specs.Prelude.{◌≡◌, ℕ, ◌+◌, pos, List, [], ◌∷◌, ◌++◌, map, flat_map, length, string_bytes, None, Ok}
 use Rattle.fq_column.specs.Frame.{Fields}
-use Rattle.fq_csv.specs.declared.layouts.Layout.{Layout}
 use Rattle.fq_expr.specs.Front.{NumberedSteps}
 use Rattle.fq_expr.specs.Kinds.{steps_schema}
-use Rattle.fq_ops.specs.Meaning.{outputs_of}
+use Rattle.fq_ops.specs.AggregateData.{outputs_of}
 use Rattle.fq_plan.specs.Judged.{judged_step, source_refusal}
 use Rattle.fq_plan.specs.Plan.{Source, PlanStep, row_wise, join, group_by, rolling_sum, Query, IsWithinLimits, files_wanted, front_of, join_fields, main_fields}
 use Rattle.fq_plan.specs.declared.stages.CheckedSource.{CheckedSource}
@@ -13,14 +12,10 @@ use Rattle.fq_plan.specs.declared.stages.Operator.TheVariants.{Rows, Join, Group
 use Rattle.fq_plan.specs.declared.stages.Stage.{Stage}
 
 abbrev pub checked_source_data : CheckedSource → Source
-checked_source_data s = record { files = s.files; fields = s.schema; nulls = s.nulls }
-
--- how the files of a source are read
-abbrev pub checked_layout : CheckedSource → Layout
-checked_layout s = record { schema = s.schema; nulls = s.nulls }
+checked_source_data s = record { files = s.files; fields = s.layout.schema; nulls = s.layout.nulls }
 
 abbrev pub checked_fields : List CheckedSource → List Fields
-checked_fields sources = map (λ s. s.schema) sources
+checked_fields sources = map (λ s. s.layout.schema) sources
 
 -- the steps that an operator does
 abbrev pub operator_steps : Operator → List PlanStep

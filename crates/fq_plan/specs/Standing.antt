@@ -16,7 +16,7 @@ use Rattle.fq_plan.specs.declared.faults.Fault.TheVariants.{Memory}
 use Rattle.fq_plan.specs.declared.gathering.Gathered.{Gathered}
 use Rattle.fq_plan.specs.declared.run_tail.RunTail.{RunTail}
 use Rattle.fq_plan.specs.declared.stages.Stage.{Stage}
-use Rattle.fq_plan.specs.declared.workers.Worked.{Worked}
+use Rattle.fq_plan.specs.declared.leading_steps.Worked.{Worked}
 
 -- the sources before the main one are these, whose rows may still come, and the main one has none
 pub record IsWaiting (stages : List Stage) (joins : List Gathered) (main : Gathered) (w : WaitingSources) : Type 0 where

@@ -1,7 +1,7 @@
 -- The transforms that the stages of a checked plan are.
 use Rattle.std.specs.Prelude.{ℕ, List, [], ◌∷◌, map, string_bytes, slice_index_or}
 use Rattle.fq_column.specs.Frame.{Fields, Frame}
-use Rattle.fq_ops.specs.Meaning.{outputs_of}
+use Rattle.fq_ops.specs.AggregateData.{outputs_of}
 use Rattle.fq_plan.specs.Transforms.{Transform, group_transform, join_transform, roll_transform, steps_transform}
 use Rattle.fq_plan.specs.declared.stages.Operator.{Operator}
 use Rattle.fq_plan.specs.declared.stages.Operator.TheVariants.{Rows, Join, GroupBy, RollingSum}

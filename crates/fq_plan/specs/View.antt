@@ -3,8 +3,8 @@ use Rattle.std.specs.Prelude.{map, string_bytes, String}
 use Rattle.std.specs.Global.{Global}
 use Rattle.fq_column.specs.declared.cells.Kind.{Kind}
 use Rattle.fq_column.specs.Frame.{Field}
-use Rattle.fq_expr.specs.Meaning.{step_of}
-use Rattle.fq_ops.specs.Meaning.{outputs_of}
+use Rattle.fq_expr.specs.ExpressionData.{step_of}
+use Rattle.fq_ops.specs.AggregateData.{outputs_of}
 use Rattle.fq_plan.specs.Plan.{Source as SourceData, PlanStep, row_wise, join, group_by, rolling_sum}
 use Rattle.fq_plan.specs.declared.plans.Source.{Source}
 use Rattle.fq_plan.specs.declared.plans.Step.{Step}

@@ -4,7 +4,7 @@ use Rattle.fq_column.specs.Frame.{Frame}
 use Rattle.fq_column.specs.Schema.{same_fields}
 use Rattle.fq_column.specs.Stream.{Stream, done, faulted, then_stream}
 use Rattle.fq_csv.specs.File.{rows_after}
-use Rattle.fq_csv.specs.Run.{framed}
+use Rattle.fq_csv.specs.HandedOut.{framed}
 use Rattle.fq_csv.specs.Taking.{FieldRun}
 use Rattle.fq_csv.specs.declared.faults.ScanFault.{ScanFault}
 use Rattle.fq_expr.specs.Front.{NumberedSteps, fault_at}
@@ -12,10 +12,10 @@ use Rattle.fq_expr.specs.Steps.{apply_steps, fields_after_all}
 use Rattle.fq_expr.specs.declared.fronts.Piece.{Piece}
 use Rattle.fq_plan.specs.Sources.{row_fault, row_limit, scan_fault}
 use Rattle.fq_plan.specs.declared.faults.Fault.{Fault}
-use Rattle.fq_plan.specs.declared.feeds.Scanned.{Scanned}
-use Rattle.fq_plan.specs.declared.feeds.Scanned.TheVariants as scanned
-use Rattle.fq_plan.specs.declared.workers.Worked.{Worked}
-use Rattle.fq_plan.specs.declared.workers.Worked.TheVariants as worked
+use Rattle.fq_plan.specs.declared.file_feeds.Scanned.{Scanned}
+use Rattle.fq_plan.specs.declared.file_feeds.Scanned.TheVariants as scanned
+use Rattle.fq_plan.specs.declared.leading_steps.Worked.{Worked}
+use Rattle.fq_plan.specs.declared.leading_steps.Worked.TheVariants as worked
 
 -- the rows that a run's records are, up to the first with a field that is not a cell
 abbrev pub rows_of_run : FieldRun → Stream ScanFault

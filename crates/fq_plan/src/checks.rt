@@ -5,9 +5,9 @@ ghost use Rattle.fq_plan.specs.Judged.{checked, judged, refused_at, IsPlaceOf};
 ghost use Rattle.fq_plan.specs.Plan.{files_wanted};
 
 use crate::faults::{CheckFault, Place};
-use crate::plans::Plan;
+use crate::leading_steps::LeadingSteps;
+use crate::plans::{Plan, file_count};
 use crate::stages::{CheckedSource, Stage};
-use crate::workers::LeadingSteps;
 use fq_column::{Schema, StepFault};
 use fq_expr::Front;
 use std::alloc::Global;
@@ -16,7 +16,7 @@ use std::marker::Model;
 mod sources;
 mod steps;
 
-use sources::{check_sources, count_files};
+use sources::check_sources;
 use steps::{check_leading, check_stages, split_leading};
 
 /// A plan that the check does not refuse.
@@ -82,14 +82,14 @@ fn check_plan(alloc: Global, plan: Plan, place: &mut Place) -> Result<Checked, S
     ensures refused { IfErr result (λ code. (checked plan ≡ Err (refused_at place.new code)) ⊎ (code ≡ Code.Memory)) }
 {
     let Plan { sources, steps } = plan;
-    let inputs = count_files(&sources);
+    let inputs = file_count(&sources) as u16;
     let mut joins = check_sources(alloc, sources, place)?;
     let Some(main) = joins.pop() else {
         unreachable!()
     };
     let (leading, rest) = split_leading(alloc, steps)?;
-    let front_schema = main.schema.copy(alloc)?;
-    let schema = check_leading(alloc, &main.schema, leading.as_slice(), place)?;
+    let front_schema = main.layout.schema.copy(alloc)?;
+    let schema = check_leading(alloc, &main.layout.schema, leading.as_slice(), place)?;
     let after_leading = schema.copy(alloc)?;
     let stages = check_stages(
         alloc,

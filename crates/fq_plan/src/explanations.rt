@@ -77,7 +77,7 @@ fn write_source<W: Write>(
 ) -> fmt::Result {
     let files = if source.files == 1 { "file" } else { "files" };
     write!(f, "source {number}, {} {files}:", source.files)?;
-    write_columns(f, &source.schema)
+    write_columns(f, &source.layout.schema)
 }
 
 // The names and kinds of columns, and the line's end.

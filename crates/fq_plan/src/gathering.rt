@@ -1,12 +1,10 @@
 //! The worked items of sources, gathered.
-ghost use Rattle.std.specs.Prelude.{◌≡◌, ◌<◌, None, [], length, IfOk, OnOk, OnErr};
-ghost use Rattle.fq_column.specs.Frame.{kinds_of};
-ghost use Rattle.fq_csv.specs.Rows.{Holds};
+ghost use Rattle.std.specs.Prelude.{◌≡◌, ◌<◌, None, [], IfOk, OnOk, OnErr};
 ghost use Rattle.fq_plan.specs.Gathering.{gathered, taken_in};
 
 use crate::faults::Fault;
-use crate::workers::Worked;
-use fq_column::{Batch, Column, Memory, Schema};
+use crate::leading_steps::Worked;
+use fq_column::{Batch, Memory, Schema};
 use fq_csv::ScanFault;
 use fq_expr::Piece;
 use std::alloc::Global;
@@ -27,7 +25,7 @@ impl Gathered {
     {
         Ok(Gathered {
             files,
-            batch: empty_batch(alloc, schema)?,
+            batch: Batch::empty(alloc, schema)?,
             fault: None,
         })
     }
@@ -90,27 +88,4 @@ pub(crate) fn take_in(sources: &mut [Gathered], file: u16, out: Worked) -> Resul
     } else {
         take_in(others, file - source.files, out)
     }
-}
-
-/// A batch of no rows. `Memory` if an allocation fails.
-pub(crate) fn empty_batch(alloc: Global, schema: Schema) -> Result<Batch, Memory>
-    ensures { IfOk result (λ b. b ≡ record { fields = schema; rows = [] }) }
-{
-    let columns = empty_columns(alloc, &schema)?;
-    match Batch::from_columns(schema, columns) {
-        Ok(batch) => Ok(batch),
-        Err(_) => unreachable!(),
-    }
-}
-
-// A column of each kind of the schema, with no cell.
-fn empty_columns(alloc: Global, schema: &Schema) -> Result<Vec<Column>, Memory>
-    ensures some { IfOk result (λ columns. 0 < length columns.items) }
-    ensures empty { IfOk result (λ columns. Holds (kinds_of schema.now) columns.items []) }
-{
-    let mut columns = Vec::with_capacity(alloc, schema.len())?;
-    for i in 0..schema.len() {
-        columns.push(Column::new(alloc, schema.kind(i)))?;
-    }
-    Ok(columns)
 }

@@ -7,9 +7,10 @@
 mod checks;
 mod explanations;
 mod faults;
-mod feeds;
+mod file_feeds;
 mod gathering;
 mod laws;
+mod leading_steps;
 mod main_stream;
 mod openings;
 mod operators;
@@ -22,7 +23,6 @@ mod run_tail;
 mod runs;
 mod stages;
 mod waiting;
-mod workers;
 
 pub use checks::Checked;
 pub use explanations::Explanation;
@@ -31,5 +31,5 @@ pub use fq_csv::ScanFault;
 pub use fq_expr::{Piece, RowFault};
 pub use fq_lanes::{Gate, NoGate, Report};
 pub use laws::{meaning_of_cut_files, meaning_of_items, plans_of_both_versions, renamed_steps};
+pub use leading_steps::Worked;
 pub use plans::{Plan, Source, Step, read_plan};
-pub use workers::Worked;

@@ -1,9 +1,8 @@
 //! What a run starts from: the feeds of the files, and the sources with no rows.
 ghost use Rattle.std.specs.Prelude.{◌≡◌, ◌≤◌, ◌++◌, ◌∷◌, [], flat_map, map, replicate, vec_len, length, IfOk};
 ghost use Rattle.fq_plan.specs.EngineRun.{no_rows, opened};
-ghost use Rattle.fq_plan.specs.Stages.{checked_layout};
 
-use crate::feeds::FileFeed;
+use crate::file_feeds::FileFeed;
 use crate::gathering::Gathered;
 use crate::stages::CheckedSource;
 use fq_column::Memory;
@@ -17,7 +16,7 @@ pub(crate) fn file_layouts(
     joins: &[CheckedSource],
     main: &CheckedSource,
 ) -> Result<Vec<Layout>, Memory>
-    ensures { IfOk result (λ layouts. layouts.items ≡ flat_map (λ s. replicate s.files (checked_layout s)) (joins.now ++ main.now ∷ [])) }
+    ensures { IfOk result (λ layouts. layouts.items ≡ flat_map (λ s. replicate s.files s.layout) (joins.now ++ main.now ∷ [])) }
 {
     let mut layouts = Vec::new(alloc);
     for source in joins {
@@ -33,13 +32,10 @@ fn push_layouts(
     layouts: &mut Vec<Layout>,
     source: &CheckedSource,
 ) -> Result<(), Memory>
-    ensures { IfOk result (λ _. layouts.new.items ≡ layouts.old.items ++ replicate source.now.files (checked_layout source.now)) }
+    ensures { IfOk result (λ _. layouts.new.items ≡ layouts.old.items ++ replicate source.now.files source.now.layout) }
 {
     for _ in 0..source.files {
-        layouts.push(Layout {
-            schema: source.schema.copy(alloc)?,
-            nulls: source.nulls.copy(alloc)?,
-        })?;
+        layouts.push(source.layout.copy(alloc)?)?;
     }
     Ok(())
 }
@@ -71,11 +67,12 @@ pub(crate) fn open_feeds<R: Read + Drop>(
 
 /// The sources before the main one, with no rows.
 pub(crate) fn empty_sources(alloc: Global, joins: &[CheckedSource]) -> Result<Vec<Gathered>, Memory>
-    ensures { IfOk result (λ sources. sources.items ≡ map (λ s. no_rows s.files s.schema) joins.now) }
+    ensures { IfOk result (λ sources. sources.items ≡ map (λ s. no_rows s.files s.layout.schema) joins.now) }
 {
     let mut sources = Vec::with_capacity(alloc, joins.len())?;
     for source in joins {
-        sources.push(Gathered::new(alloc, source.files, source.schema.copy(alloc)?)?)?;
+        let schema = source.layout.schema.copy(alloc)?;
+        sources.push(Gathered::new(alloc, source.files, schema)?)?;
     }
     Ok(sources)
 }

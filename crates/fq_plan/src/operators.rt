@@ -4,7 +4,7 @@ ghost use Rattle.fq_column.specs.Frame.{Fields, Row};
 ghost use Rattle.fq_plan.specs.Transforms.{Transform, steps_transform};
 ghost use Rattle.fq_plan.specs.Stages.{Turns};
 ghost use Rattle.fq_plan.specs.Starting.{transform_of};
-ghost use Rattle.fq_plan.specs.Running.{HasEnded, HasPassed, HasTaken, IsUnder, Keeps, Takes};
+ghost use Rattle.fq_plan.specs.RunningOperators.{HasEnded, HasPassed, HasTaken, IsUnder, Keeps, Takes};
 
 mod grouping;
 mod joining;

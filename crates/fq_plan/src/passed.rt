@@ -1,10 +1,10 @@
 //! What running operators take and pass on.
 ghost use Rattle.std.specs.Prelude.{◌≡◌};
 ghost use Rattle.fq_plan.specs.Gathering.{added_stream};
-ghost use Rattle.fq_plan.specs.Running.{IsUnder, passed_stream};
+ghost use Rattle.fq_plan.specs.RunningOperators.{IsUnder, passed_stream};
 
 use crate::faults::Fault;
-use crate::workers::Worked;
+use crate::leading_steps::Worked;
 use fq_column::{Batch, Schema};
 use fq_expr::Piece;
 

@@ -3,7 +3,7 @@ ghost use Rattle.std.specs.Prelude.{◌≡◌, ℕ, List, [], map, IfOk};
 ghost use Rattle.fq_column.specs.Frame.{Fields, Row};
 ghost use Rattle.fq_plan.specs.Pipelines.{HasFinished, HasPushed, HasRun, PlanPart};
 ghost use Rattle.fq_plan.specs.Stages.{Leads, stage_steps};
-ghost use Rattle.fq_plan.specs.Running.{IsUnder};
+ghost use Rattle.fq_plan.specs.RunningOperators.{IsUnder};
 
 use crate::operators::Running;
 use crate::passed::Passed;

@@ -1,6 +1,7 @@
 //! Plans.
-ghost use Rattle.std.specs.Prelude.{◌≡◌, ◌⊎◌, Err};
+ghost use Rattle.std.specs.Prelude.{◌≡◌, ◌≤◌, ◌⊎◌, Err, length, map, sum_by};
 ghost use Rattle.fq_plan.specs.Spelling.{read_as_plan};
+ghost use Rattle.fq_plan.specs.View.{source_data};
 
 use crate::faults::PlanFault;
 use crate::reading::plan_in;
@@ -56,7 +57,7 @@ pub enum Step {
 }
 
 /// A plan as its text spells it: 1 to 8 sources of 16 files at most, and 0 to 64 steps.
-#[derive(Drop)]
+#[derive(Debug, Drop)]
 pub struct Plan {
     pub(crate) sources: Vec<Source>,
     pub(crate) steps: Vec<Step>,
@@ -97,4 +98,12 @@ pub fn read_plan(alloc: Global, text: &[u8]) -> Result<Plan, PlanFault>
         Err(error) if error.is_memory() => Err(PlanFault::Memory),
         Err(_) => Err(PlanFault::Json),
     }
+}
+
+/// How many files the sources have.
+pub(crate) fn file_count(sources: &[Source]) -> u32
+    requires { length sources.now ≤ 8 }
+    ensures { result ≡ sum_by (λ s. s.files) (map source_data sources.now) }
+{
+    sources.iter().map(|source| u32::from(source.files)).sum()
 }

@@ -29,12 +29,12 @@ pub trait Spelled: Drop {
     // The data of a part.
     ghost part_of: { Self → Self.Part };
 
-    /// The part that a value spells, or `None` if it spells no such part.
+    /// The part that a value spells, or `None` if the value is not a spelling of one.
     fn read(alloc: Global, version: Version, value: &Value) -> Result<Option<Self>, Memory>
         ensures { IfOk result (λ o. option_map part_of o ≡ spelled_by version (view value.now)) };
 }
 
-/// The part that an object's member spells, or `None` if there is no such member or it spells no such part.
+/// The part that an object's member spells, or `None` if there is no such member, or if it is not a spelling of one.
 pub fn read_member<T: Spelled>(
     alloc: Global,
     version: Version,

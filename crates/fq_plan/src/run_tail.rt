@@ -9,10 +9,10 @@ ghost use Rattle.fq_plan.specs.declared.gathering.Gathered.{Gathered as Source};
 ghost use Rattle.fq_plan.specs.declared.stages.Stage.{Stage};
 
 use crate::faults::Fault;
+use crate::leading_steps::Worked;
 use crate::main_stream::MainStream;
 use crate::printed_text::PrintedText;
 use crate::waiting::Waiting;
-use crate::workers::Worked;
 use fq_column::Memory;
 use fq_lanes::Tail;
 use std::alloc::Global;

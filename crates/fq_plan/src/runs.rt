@@ -13,11 +13,11 @@ ghost use Rattle.fq_plan.specs.declared.faults.Fault.TheVariants as fault;
 
 use crate::checks::Checked;
 use crate::faults::Fault;
+use crate::leading_steps::Worked;
 use crate::openings::{empty_sources, file_layouts, open_feeds};
 use crate::printed_text::PrintedText;
 use crate::run_tail::RunTail;
 use crate::waiting::Waiting;
-use crate::workers::Worked;
 use fq_csv::MAX_BATCH_SIZE;
 use fq_lanes::{Gate, NoGate, Report, run_lanes};
 use std::alloc::Global;

@@ -1,15 +1,14 @@
 //! The parts of a checked plan.
 use fq_column::Schema;
-use fq_csv::NullValues;
+use fq_csv::Layout;
 use fq_expr::Front;
 use fq_ops::{Agg, How};
 
-/// The number of a source's files, the schema of its columns, and the texts that are null in each of them.
+/// The number of a source's files, and how each of them is read.
 #[derive(Drop)]
 pub struct CheckedSource {
     pub(crate) files: u16,
-    pub(crate) schema: Schema,
-    pub(crate) nulls: NullValues,
+    pub(crate) layout: Layout,
 }
 
 /// What is done to all rows of the main source, after what was done before.

@@ -11,9 +11,9 @@ ghost use Rattle.fq_plan.specs.declared.faults.Fault.TheVariants as fault;
 
 use crate::faults::Fault;
 use crate::gathering::{Gathered, take_in};
+use crate::leading_steps::Worked;
 use crate::main_stream::MainStream;
 use crate::stages::Stage;
-use crate::workers::Worked;
 use fq_column::{Memory, Schema};
 use std::alloc::Global;
 use std::marker::Model;

@@ -1,3 +1,3 @@
 pub mod InputLemmas
 pub mod EndingLemmas
-pub mod RunLemmas
+pub mod ClauseLemmas

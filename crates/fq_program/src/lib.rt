@@ -5,6 +5,7 @@
 //! answers the exit status, which is a [`Status`]; if there is no frame, a [`Failure`] says why in one line.
 #![tactic(auto)]
 
+mod command_line;
 mod failures;
 mod files;
 mod inputs;
@@ -12,10 +13,9 @@ mod options;
 mod program;
 mod progress;
 mod status;
-mod words;
 
+pub use command_line::with_words;
 pub use failures::{Failure, report};
 pub use files::{OpenFault, Opener, SystemFiles};
 pub use program::one_input;
 pub use status::Status;
-pub use words::with_words;

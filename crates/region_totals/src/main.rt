@@ -11,11 +11,11 @@ ghost use Rattle.fq_column.specs.Stream.{Stream};
 ghost use Rattle.fq_csv.specs.File.{file_stream, plain};
 ghost use Rattle.fq_csv.specs.Printed.{printed};
 ghost use Rattle.fq_csv.specs.declared.faults.ScanFault.{ScanFault};
-ghost use Rattle.fq_expr.specs.Meaning.{expression_of};
+ghost use Rattle.fq_expr.specs.ExpressionData.{expression_of};
 ghost use Rattle.fq_expr.specs.Expression.{column as column_of, binary};
 ghost use Rattle.fq_expr.specs.Steps.{fields_after_all};
 ghost use Rattle.fq_ops.specs.Gathered.{HasTakenRows};
-ghost use Rattle.fq_ops.specs.Meaning.{outputs_of};
+ghost use Rattle.fq_ops.specs.AggregateData.{outputs_of};
 ghost use Rattle.region_totals.specs.Report.{group_keys, group_outputs, order_steps, orders};
 ghost use Rattle.region_totals.specs.Totals.{AreTotals, HasTotals};
 
@@ -37,15 +37,15 @@ const MAX_GROUPED_ROWS: u64 = 1 << 40;
 /// Why there are no totals.
 #[derive(Debug, Drop, Error)]
 enum Failure {
-    #[error("the steps do not fit the columns: {0:?}")]
+    #[error("the steps do not fit the columns: {0}")]
     Step(#[from] StepFault),
-    #[error("the file: {0:?}")]
+    #[error(transparent)]
     Scan(#[from] ScanFault),
-    #[error("a row: {0:?}")]
+    #[error(transparent)]
     Row(#[from] RowFault),
-    #[error("a sum: {0:?}")]
+    #[error(transparent)]
     Group(#[from] GroupFault),
-    #[error("out of memory")]
+    #[error(transparent)]
     Memory(#[from] Memory),
     #[error("too many rows")]
     TooManyRows,

@@ -1,5 +1,5 @@
 //! The check of a plan's sources.
-ghost use Rattle.std.specs.Prelude.{◌≡◌, ◌⊎◌, ◌≤◌, ℕ, None, Some, map, string_bytes, vec_len, IfOk, IfErr, sum_by, length};
+ghost use Rattle.std.specs.Prelude.{◌≡◌, ◌⊎◌, ◌≤◌, ℕ, None, Some, map, string_bytes, vec_len, IfOk, IfErr, length};
 ghost use Rattle.fq_column.specs.Frame.{names_of};
 ghost use Rattle.fq_column.specs.Refusal.{first_refusal};
 ghost use Rattle.fq_column.specs.Schema.{schema_checks};
@@ -11,6 +11,7 @@ use crate::faults::Place;
 use crate::plans::Source;
 use crate::stages::CheckedSource;
 use fq_column::{Kind, Memory, Schema, StepFault};
+use fq_csv::Layout;
 use std::alloc::Global;
 
 /// The sources with their schemas, or the first refusal, which leaves the place of its source.
@@ -48,8 +49,7 @@ fn check_source(alloc: Global, source: Source) -> Result<CheckedSource, StepFaul
     let schema = Schema::new(names, kinds)?;
     Ok(CheckedSource {
         files,
-        schema,
-        nulls,
+        layout: Layout { schema, nulls },
     })
 }
 
@@ -65,12 +65,4 @@ fn unzip(alloc: Global, columns: Vec<(String, Kind)>) -> Result<(Vec<String>, Ve
         kinds.push(kind)?;
     }
     Ok((names, kinds))
-}
-
-/// How many files the sources have.
-pub fn count_files(sources: &[Source]) -> u16
-    requires { sum_by (λ s. s.files) (map source_data sources.now) ≤ 16 }
-    ensures { result ≡ sum_by (λ s. s.files) (map source_data sources.now) }
-{
-    sources.iter().map(|source| source.files).sum()
 }

@@ -2,9 +2,9 @@
 ghost use Rattle.std.specs.Prelude.{◌≡◌, ◌⊎◌, ◌+◌, ◌≤◌, ◌++◌, ◌∷◌, [], ℕ, List, Ok, Err, Some, None, map, length, vec_len, MatchOption, IfOk, IfErr, pos, string_bytes};
 ghost use Rattle.fq_column.specs.Frame.{Fields};
 ghost use Rattle.fq_expr.specs.Kinds.{step_schema, steps_schema};
-ghost use Rattle.fq_expr.specs.Meaning.{step_of};
+ghost use Rattle.fq_expr.specs.ExpressionData.{step_of};
 ghost use Rattle.fq_ops.specs.Group.{group_schema as group_schema_of};
-ghost use Rattle.fq_ops.specs.Meaning.{outputs_of};
+ghost use Rattle.fq_ops.specs.AggregateData.{outputs_of};
 ghost use Rattle.fq_ops.specs.Roll.{roll_schema as roll_schema_of};
 ghost use Rattle.fq_plan.specs.Judged.{judged_step, judged_steps, refused_at, IsPlaceOf};
 ghost use Rattle.fq_plan.specs.Plan.{PlanStep, front_of, group_by, item_at, join, rest_of, rolling_sum, row_wise};
@@ -160,7 +160,7 @@ fn check_join(
     let Some((source, right)) = source_at(joins, source) else {
         return Err(StepFault::NoSuchSource);
     };
-    let after = join_schema(alloc, schema, &right.schema, on.as_slice(), how)?;
+    let after = join_schema(alloc, schema, &right.layout.schema, on.as_slice(), how)?;
     let operator = Operator::Join {
         source,
         on,
@@ -219,7 +219,7 @@ fn check_rolling(
 fn source_at(sources: &[CheckedSource], number: i64) -> Option<(usize, &CheckedSource)>
     ensures { MatchOption result
         (item_at (checked_fields sources.now) number ≡ None)
-        (λ r. (pos r.0 ≡ number) × (item_at (checked_fields sources.now) number ≡ Some r.1.now.schema)) }
+        (λ r. (pos r.0 ≡ number) × (item_at (checked_fields sources.now) number ≡ Some r.1.now.layout.schema)) }
 {
     let place = usize::try_from(number).ok()?;
     let source = sources.get(place)?;

@@ -3,8 +3,8 @@ ghost use Rattle.std.specs.Prelude.{◌≡◌, List, [], None, map, string_bytes
 ghost use Rattle.fq_column.specs.Frame.{Row};
 ghost use Rattle.fq_plan.specs.Transforms.{Transform, group_transform};
 ghost use Rattle.fq_ops.specs.Group.{group_schema};
-ghost use Rattle.fq_ops.specs.Meaning.{outputs_of};
-ghost use Rattle.fq_plan.specs.Running.{HasGrouped, IsUnder, Takes, passed_stream};
+ghost use Rattle.fq_ops.specs.AggregateData.{outputs_of};
+ghost use Rattle.fq_plan.specs.RunningOperators.{HasGrouped, IsUnder, Takes, passed_stream};
 
 use crate::faults::Fault;
 use crate::passed::Passed;

@@ -3,7 +3,7 @@ ghost use Rattle.std.specs.Prelude.{◌≡◌, List, [], None, map, string_bytes
 ghost use Rattle.fq_column.specs.Frame.{Fields, Row};
 ghost use Rattle.fq_plan.specs.Transforms.{Transform, join_transform};
 ghost use Rattle.fq_ops.specs.Join.{join_schema};
-ghost use Rattle.fq_plan.specs.Running.{HasJoined, Takes};
+ghost use Rattle.fq_plan.specs.RunningOperators.{HasJoined, Takes};
 
 use crate::faults::Fault;
 use crate::passed::Passed;

@@ -3,7 +3,7 @@ ghost use Rattle.std.specs.Prelude.{◌≡◌, List, [], None, pos, IfOk, IsOk};
 ghost use Rattle.fq_column.specs.Frame.{Row};
 ghost use Rattle.fq_plan.specs.Transforms.{Transform, roll_transform};
 ghost use Rattle.fq_ops.specs.Roll.{roll_schema};
-ghost use Rattle.fq_plan.specs.Running.{HasSummed, Takes};
+ghost use Rattle.fq_plan.specs.RunningOperators.{HasSummed, Takes};
 
 use crate::faults::Fault;
 use crate::passed::Passed;

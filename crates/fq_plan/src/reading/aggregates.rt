@@ -2,7 +2,7 @@
 ghost use Rattle.std.specs.Prelude.{◌≡◌, option_map, string_bytes};
 ghost use Rattle.serde_json.specs.View.{view};
 ghost use Rattle.fq_ops.specs.Aggregate.{Output};
-ghost use Rattle.fq_ops.specs.Meaning.{aggregate_of};
+ghost use Rattle.fq_ops.specs.AggregateData.{aggregate_of};
 ghost use Rattle.fq_plan.specs.Parts.{word};
 ghost use Rattle.fq_plan.specs.Spelling.{aggregate, row_counts, functions};
 

@@ -3,7 +3,7 @@ ghost use Rattle.std.specs.Prelude.{◌≡◌, IfOk, option_map};
 ghost use Rattle.serde_json.specs.View.{view};
 ghost use Rattle.fq_expr.specs.Expression as expr;
 ghost use Rattle.fq_expr.specs.Expression.{Expression};
-ghost use Rattle.fq_expr.specs.Meaning.{expression_of};
+ghost use Rattle.fq_expr.specs.ExpressionData.{expression_of};
 ghost use Rattle.fq_plan.specs.Parts.{given};
 ghost use Rattle.fq_plan.specs.Spelling.{expression, leaf};
 

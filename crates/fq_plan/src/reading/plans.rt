@@ -1,12 +1,12 @@
 //! Sources, and whole plans.
-ghost use Rattle.std.specs.Prelude.{◌≡◌, ◌≤◌, length, map, option_map, string_bytes, sum_by, codes, IfOk};
+ghost use Rattle.std.specs.Prelude.{◌≡◌, map, option_map, string_bytes, codes, IfOk};
 ghost use Rattle.serde_json.specs.View.{view};
 ghost use Rattle.fq_plan.specs.Plan.{Source as SourceData};
 ghost use Rattle.fq_plan.specs.Parts.{member, whole_from_to as the_whole_from_to, with_length};
 ghost use Rattle.fq_plan.specs.Spelling.{names, plan_of, source_of, source_with, version_of};
 ghost use Rattle.fq_plan.specs.View.{source_data};
 
-use crate::plans::{Plan, Source, Step, Version};
+use crate::plans::{Plan, Source, Step, Version, file_count};
 use crate::reading::values::has_members;
 use crate::reading::{Spelled, read_member};
 use fq_column::Memory;
@@ -123,12 +123,4 @@ fn whole_from_to(value: &Value, low: u16, high: u16) -> Option<u16>
     } else {
         Some(number as u16)
     }
-}
-
-// How many files the sources have.
-fn file_count(sources: &[Source]) -> u32
-    requires { length sources.now ≤ 8 }
-    ensures { result ≡ sum_by (λ s. s.files) (map source_data sources.now) }
-{
-    sources.iter().map(|source| u32::from(source.files)).sum()
 }

@@ -3,7 +3,7 @@ use Rattle.std.proofs.lemmas.Bool.Decides.{nat_tests}
 use Rattle.std.proofs.lemmas.List.{drop_all}
 use Rattle.csv.specs.declared.parser.State.TheVariants.{StartField, StartRecord}
 use Rattle.fq_csv.specs.Cutting.{fields_at, next_of}
-use Rattle.fq_csv.proofs.CutLemmas.{field-more, held-more, no-record, record-at-end, record-by-line, stands-alike}
+use Rattle.fq_csv.proofs.MachineLemmas.{field-more, held-more, no-record, record-at-end, record-by-line, stands-alike}
 use Rattle.fq_csv.proofs.cutting.cut_record.Goals as goal
 use Rattle.fq_csv.proofs.cutting.cut_record.Goals.{else-end-text-via-then-end-text+else-not-is_last, else-end-text-via-else-end-text}
 

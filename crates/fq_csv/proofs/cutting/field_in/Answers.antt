@@ -1,7 +1,7 @@
 use Rattle.std.proofs.Common.{◌≡◌, ◌-◌, take, drop, arith, subst, sym}
 use Rattle.std.proofs.lemmas.Bool.Decides.{nat_tests}
 use Rattle.fq_csv.specs.Cutting.{FieldEnds}
-use Rattle.fq_csv.proofs.CutLemmas.{nothing-left, opened, plain}
+use Rattle.fq_csv.proofs.MachineLemmas.{nothing-left, opened, plain}
 use Rattle.fq_csv.proofs.cutting.field_in.Goals as goal
 
 pub returns-then-start-text-clause-field : goal.returns-then-start-text-clause-field

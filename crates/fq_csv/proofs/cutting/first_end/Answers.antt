@@ -3,7 +3,7 @@ use Rattle.std.specs.Int.{bit_at, trailing_zeros}
 use Rattle.std.proofs.Common.{◌≡◌, ◌∙◌, ℕ, arith, subst, sym, w64}
 use Rattle.std.proofs.lemmas.Nat.{or_lt}
 use Rattle.std.proofs.lemmas.Nat.Bits.{bit_at-trailing_zeros}
-use Rattle.fq_csv.proofs.LaneLemmas.{first-marked, marks, none-marked}
+use Rattle.fq_csv.proofs.BlockLemmas.{first-marked, marks, none-marked}
 use Rattle.fq_csv.proofs.cutting.first_end.Goals as goal
 
 pub returns-then-marks-eq0-clause-none : goal.returns-then-marks-eq0-clause-none

@@ -1,7 +1,7 @@
 use Rattle.std.specs.Simd.Lanes.{chunk}
 use Rattle.std.proofs.Common.{◌<◌, ◌≡◌, get_or, arith, true}
 use Rattle.fq_csv.specs.Cutting.{NoneEnds, ends_field}
-use Rattle.fq_csv.proofs.LaneLemmas.{ends-there, none-more}
+use Rattle.fq_csv.proofs.BlockLemmas.{ends-there, none-more}
 use Rattle.fq_csv.proofs.cutting.plain_end.Goals as goal
 
 pub returns-in-Some-clause-plain : goal.returns-in-Some-clause-plain

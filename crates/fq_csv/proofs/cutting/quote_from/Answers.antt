@@ -1,7 +1,7 @@
 use Rattle.std.proofs.Common.{◌≡◌, ◌-◌, ◌+◌, ℕ, List, length, take, drop, arith, refl, subst}
 use Rattle.std.proofs.lemmas.List.{length-drop, length-take}
 use Rattle.fq_csv.specs.Cutting.{NoQuote}
-use Rattle.fq_csv.proofs.LaneLemmas.{no-quote-in}
+use Rattle.fq_csv.proofs.BlockLemmas.{no-quote-in}
 use Rattle.fq_csv.proofs.cutting.quote_from.Goals as goal
 
 pub returns-in-Some-clause-none : goal.returns-in-Some-clause-none

@@ -1,6 +1,6 @@
 use Rattle.std.proofs.Common.{◌<◌, length, arith, subst, sym, ap, ◌∙◌}
 use Rattle.fq_csv.specs.Cutting.{FieldEnds, between}
-use Rattle.fq_csv.proofs.CutLemmas.{closed, closed-at-end, closed-by-byte, open-ended, unquoted-whole}
+use Rattle.fq_csv.proofs.MachineLemmas.{closed, closed-at-end, closed-by-byte, open-ended, unquoted-whole}
 use Rattle.fq_csv.proofs.cutting.quoted_field.Goals as goal
 use Rattle.fq_csv.proofs.cutting.quoted_field.Goals.{then-next-text-via-then-next-text, then-next-text-via-else-next-text+then-ends_field}
 

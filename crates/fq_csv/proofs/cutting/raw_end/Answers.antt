@@ -1,7 +1,7 @@
 use Rattle.std.proofs.Common.{◌≡◌, ◌+◌, ◌∙◌, length, arith, subst, sym}
 use Rattle.fq_csv.specs.Cutting.{FieldEnds, between, state_of, unquoted}
 use Rattle.fq_csv.specs.declared.cutting.Quotes.TheVariants.{Closing}
-use Rattle.fq_csv.proofs.CutLemmas.{IsWithin, ended-within, quotes-end, raw-more, raw-start, text-ended}
+use Rattle.fq_csv.proofs.MachineLemmas.{IsWithin, ended-within, quotes-end, raw-more, raw-start, text-ended}
 use Rattle.fq_csv.proofs.cutting.raw_end.Goals as goal
 
 pub loop-i-init : goal.loop-i-init

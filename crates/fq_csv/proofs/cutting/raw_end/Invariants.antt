@@ -1,7 +1,7 @@
 use Rattle.std.specs.Prelude.{ℕ, List}
 use Rattle.csv.specs.declared.parser.State.TheVariants.{AfterQuote}
 use Rattle.fq_csv.specs.Cutting.{Stands}
-use Rattle.fq_csv.proofs.CutLemmas.{IsWithin}
+use Rattle.fq_csv.proofs.MachineLemmas.{IsWithin}
 use Rattle.fq_csv.proofs.cutting.raw_end.Given as goal
 
 abbrev pub invariant-loop-i : goal.invariant-loop-i

@@ -1,6 +1,6 @@
 use Rattle.std.proofs.Common.{arith}
 use Rattle.std.proofs.lemmas.Bool.Decides.{nat_tests}
-use Rattle.fq_csv.proofs.CutLemmas.{line-skipped}
+use Rattle.fq_csv.proofs.MachineLemmas.{line-skipped}
 use Rattle.fq_csv.proofs.cutting.record_start.Goals as goal
 use Rattle.fq_csv.proofs.cutting.record_start.Goals.{else-text-i-ne13-via-then-text-i-ne13+else-text-i-ne10, else-text-i-ne13-via-else-text-i-ne13}
 

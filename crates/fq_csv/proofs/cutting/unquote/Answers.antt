@@ -1,5 +1,5 @@
 use Rattle.std.proofs.Common.{◌≡◌, ◌++◌, ◌∷◌, ◌∙◌, ℕ, List, [], inl, inr, ap, get_or, rules, refl, sym}
-use Rattle.fq_csv.proofs.CutLemmas.{unquoted-next}
+use Rattle.fq_csv.proofs.MachineLemmas.{unquoted-next}
 use Rattle.fq_csv.proofs.cutting.unquote.Goals as goal
 use Rattle.fq_csv.proofs.cutting.unquote.Goals.{in-Closing, in-Open+in_ok-push-in-Open}
 use Rattle.fq_csv.specs.Cutting.{joined, unquoted}

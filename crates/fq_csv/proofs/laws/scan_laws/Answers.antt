@@ -1,4 +1,4 @@
-use Rattle.fq_csv.proofs.RunLemmas.{answers-last, answers-next, run-follows}
+use Rattle.fq_csv.proofs.HandedOutLemmas.{answers-last, answers-next, run-follows}
 use Rattle.fq_csv.proofs.laws.scan_laws.Goals as goal
 
 pub returns-clause-next : goal.returns-clause-next

@@ -4,7 +4,7 @@ use Rattle.fq_csv.specs.File.{Record}
 use Rattle.fq_csv.specs.Records.{IsOver, Takes, Unread}
 use Rattle.fq_csv.specs.Taking.{ReadsRecords}
 use Rattle.fq_csv.specs.declared.faults.ScanFault.TheVariants.{TooLong, Width}
-use Rattle.fq_csv.specs.declared.stages.Stage.TheVariants.{Closed}
+use Rattle.fq_csv.specs.declared.file_stages.Stage.TheVariants.{Closed}
 use Rattle.fq_csv.proofs.TakingLemmas.{HasTaken-more, HasTaken-start, ends-done, ends-full, ends-long, ends-width, taken-back}
 use Rattle.fq_csv.proofs.taking.take_records.Goals as goal
 

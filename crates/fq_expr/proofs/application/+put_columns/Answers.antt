@@ -4,7 +4,7 @@ use Rattle.std.specs.Vec.Iter.{into_iter_items}
 use Rattle.fq_column.specs.Batch.{kind_of_cells}
 use Rattle.fq_column.specs.Frame.{Name, put_all, put_named}
 use Rattle.fq_expr.specs.Kinds.{item_names}
-use Rattle.fq_expr.specs.Meaning.{items_of}
+use Rattle.fq_expr.specs.ExpressionData.{items_of}
 use Rattle.fq_expr.proofs.OutputLemmas.{length-put_all-more}
 use Rattle.fq_expr.proofs.application.+put_columns.Goals as goal
 

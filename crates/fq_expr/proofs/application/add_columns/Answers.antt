@@ -8,7 +8,7 @@ use Rattle.fq_column.specs.Frame.{Field, Fields, Frame, names_of, put_all, rows_
 use Rattle.fq_column.specs.Schema.{fields_of}
 use Rattle.fq_expr.specs.Expression.{with_columns}
 use Rattle.fq_expr.specs.Kinds.{item_names, step_schema}
-use Rattle.fq_expr.specs.Meaning.{items_of}
+use Rattle.fq_expr.specs.ExpressionData.{items_of}
 use Rattle.fq_expr.specs.Outputs.{all_kinds, cells_of_column}
 use Rattle.fq_expr.proofs.ItemLemmas.{length-items_of, length-item_names}
 use Rattle.fq_expr.proofs.JudgementLemmas.{ok-is, with_columns-ok, adds-room, adds-bound, fields_after-is}
@@ -16,7 +16,7 @@ use Rattle.fq_expr.specs.Steps.{with_values}
 use Rattle.fq_expr.proofs.OutputLemmas.{length-put_all-more}
 use Rattle.fq_expr.proofs.SelectionLemmas.{ok-same, added-kinds, added-lengths, added-rows, made-item}
 use Rattle.fq_expr.proofs.application.add_columns.Goals as goal
-use Rattle.fq_expr.proofs.application.add_columns.Goals.{In_ok-outputs, After-into_parts-schema, In_ok-put_columns}
+use Rattle.fq_expr.proofs.application.add_columns.Goals.{After-into_parts-schema, In_ok-put_columns}
 
 pub evaluate_items-requires-clause-kinds : goal.evaluate_items-requires-clause-kinds
 evaluate_items-requires-clause-kinds c =
@@ -61,13 +61,13 @@ under : (c : In_ok-put_columns) → zip (names_of c.put_columns.new.schema) c.pu
     ≡ put_all (zip (names_of c.args.batch.fields) c.into_parts-schema.result.1.items) (zip (item_names (items_of c.args.items.now)) c.in_ok-outputs.outputs.columns.items)
 under c = c.in_ok-put_columns.ensures.columns ∙ (λ i. put_all (zip (names_of (fields (goal.at.In_ok-put_columns c).After-into_parts-schema i)) c.into_parts-schema.result.1.items) (zip (item_names (items_of c.args.items.now)) (c.into_iter.ensures.rest i)))
 
-pub standing-requires-clause-kinds : goal.standing-requires-clause-kinds
-standing-requires-clause-kinds c = let d = goal.at.standing-requires-clause-kinds c in
+pub new-requires-clause-kinds : goal.new-requires-clause-kinds
+new-requires-clause-kinds c = let d = goal.at.new-requires-clause-kinds c in
     added-kinds c.args.batch.fields (items_of c.args.items.now) c.args.batch.rows c.in_ok-outputs.outputs.columns.items c.in_ok-outputs.outputs.rows c.in_ok-outputs.outputs.item c.in_ok-outputs.ensures
     c.into_parts-schema.result.1.items (stands d.After-into_parts-schema) (rows d.After-into_parts-schema) c.put_columns.new.schema (schema d.In_ok-put_columns) c.put_columns.new.columns.items (under d.In_ok-put_columns) c.in_ok-put_columns.ensures.width
 
-pub standing-requires-clause-lengths : goal.standing-requires-clause-lengths
-standing-requires-clause-lengths c = let d = goal.at.standing-requires-clause-lengths c in
+pub new-requires-clause-lengths : goal.new-requires-clause-lengths
+new-requires-clause-lengths c = let d = goal.at.new-requires-clause-lengths c in
     added-lengths c.args.batch.fields (items_of c.args.items.now) c.args.batch.rows c.in_ok-outputs.outputs.columns.items c.in_ok-outputs.outputs.rows c.in_ok-outputs.outputs.item c.in_ok-outputs.ensures
     c.into_parts-schema.result.1.items (stands d.After-into_parts-schema) (rows d.After-into_parts-schema) c.put_columns.new.schema (schema d.In_ok-put_columns) c.put_columns.new.columns.items (under d.In_ok-put_columns) c.in_ok-put_columns.ensures.width
 
@@ -77,7 +77,7 @@ returns-clause-fields c = let d = goal.at.returns-clause-fields c in
     let s = ok-is (step_schema c.args.batch.fields (with_columns items)) c.requires in
     let a = with_columns-ok c.args.batch.fields items s.0 s.1 in
     let same : a.0 ≡ map kind_of_cells c.in_ok-outputs.outputs.columns.items = ok-same a.0 (map kind_of_cells c.in_ok-outputs.outputs.columns.items) (all_kinds c.args.batch.fields items) a.1.kinds c.in_ok-outputs.ensures.kinds in
-    ap (λ (f : Frame). f.fields) c.standing.ensures
+    ap (λ (f : Frame). f.fields) c.new.ensures
     ∙ schema d.In_ok-put_columns
     ∙ ap (λ ks. put_all c.args.batch.fields (zip (item_names items) ks)) (sym same)
     ∙ a.1.columns
@@ -92,7 +92,7 @@ returns-clause-rows c = let d = goal.at.returns-clause-rows c in
       (stands d.After-into_parts-schema).schema.some_column,
       length-put_all-more c.args.batch.fields (zip (item_names (items_of c.args.items.now)) (map kind_of_cells c.in_ok-outputs.outputs.columns.items)),
     ) in
-    ap (λ (f : Frame). f.rows) c.standing.ensures
+    ap (λ (f : Frame). f.rows) c.new.ensures
     ∙ added-rows c.args.batch.fields (items_of c.args.items.now) c.args.batch.rows c.in_ok-outputs.outputs.columns.items c.in_ok-outputs.outputs.rows c.in_ok-outputs.outputs.item c.in_ok-outputs.ensures
     c.into_parts-schema.result.1.items (stands d.After-into_parts-schema) (rows d.After-into_parts-schema) c.put_columns.new.schema (schema d.In_ok-put_columns) c.put_columns.new.columns.items (under d.In_ok-put_columns) c.in_ok-put_columns.ensures.width some
 

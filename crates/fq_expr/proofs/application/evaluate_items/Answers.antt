@@ -1,17 +1,18 @@
-use Rattle.std.proofs.Common.{◌≡◌, ℕ, ◌∙◌, ap, sym, subst, arith, List, Option, Some, length, take, string_bytes, String, Global}
+use Rattle.std.proofs.Common.{◌≡◌, ℕ, ◌∙◌, ap, sym, subst, arith, List, Option, Some, length, map, take, string_bytes, String, Global}
 use Rattle.std.specs.Prelude.{IsOk}
-use Rattle.std.proofs.lemmas.List.{length-take-le, take_all}
+use Rattle.std.proofs.lemmas.List.{length-map, length-take-le, take_all}
 use Rattle.fq_column.specs.Column.{Cells}
+use Rattle.fq_column.proofs.BatchLemmas.{changed, written}
 use Rattle.fq_expr.specs.declared.expressions.Expr.{Expr}
 use Rattle.fq_expr.specs.Expression.{Item}
 use Rattle.fq_expr.specs.Kinds.{kind_of}
-use Rattle.fq_expr.specs.Meaning.{items_of, expression_of}
-use Rattle.fq_expr.specs.Outcome.{IsOutcome}
+use Rattle.fq_expr.specs.ExpressionData.{items_of, expression_of}
+use Rattle.fq_expr.specs.Evaluated.{IsOutcome}
 use Rattle.fq_expr.specs.Outputs.{AreOutputs}
 use Rattle.fq_expr.proofs.EvaluatedItems.{SoFar, no-item, item-faults, item-has-values, all-items}
 use Rattle.fq_expr.proofs.ItemLemmas.{items_of-at, items_of-step, length-items_of}
-use Rattle.fq_expr.proofs.RowLemmas.{kind-at}
-use Rattle.fq_expr.proofs.application.evaluate_items.Goals.{then-outcome-rows, else-outcome-rows, In_ok-push}
+use Rattle.fq_expr.proofs.ItemRowLemmas.{kind-at}
+use Rattle.fq_expr.proofs.application.evaluate_items.Goals.{then-outcome-rows, else-outcome-rows}
 use Rattle.fq_expr.proofs.application.evaluate_items.Goals as goal
 
 pub loop-i-init : goal.loop-i-init
@@ -48,4 +49,9 @@ returns c =
     let fields = c.args.batch.now.fields in let all = c.args.batch.now.rows in
     let whole = take_all c.loop-i.i (items_of c.args.items.now) (omega (arith, length-items_of c.args.items.now, c.loop-i-test.false)) in
     let P : List Item → List Cells → Type 0 = λ a b. AreOutputs fields a all b c.loop-i.rows c.loop-i.item in
-    coe 0 1 (i. P (whole i) (sym c.cut_columns.ensures i)) (all-items fields (take c.loop-i.i (items_of c.args.items.now)) all c.loop-i.columns.items c.loop-i.rows c.loop-i.item c.loop-i.invariant)
+    let items = c.loop-i.columns.items in
+    let f = changed (take c.loop-i.rows) in
+    let cut : c.cut_columns.new.columns ≡ map f items = c.cut_columns.ensures ∙ ap (map f) c.as_mut_slice.ensures.value in
+    let size : length c.cut_columns.new.columns ≡ length items = ap length cut ∙ length-map items f in
+    let back = written c.loop-i.columns.len c.cut_columns.new.columns items size (grind arith) ∙ cut in
+    coe 0 1 (i. P (whole i) (sym back i)) (all-items fields (take c.loop-i.i (items_of c.args.items.now)) all items c.loop-i.rows c.loop-i.item c.loop-i.invariant)

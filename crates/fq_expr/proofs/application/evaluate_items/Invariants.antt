@@ -1,5 +1,5 @@
 use Rattle.std.proofs.Common.{take}
-use Rattle.fq_expr.specs.Meaning.{items_of}
+use Rattle.fq_expr.specs.ExpressionData.{items_of}
 use Rattle.fq_expr.proofs.EvaluatedItems.{SoFar}
 use Rattle.fq_expr.proofs.application.evaluate_items.Given as goal
 

@@ -3,7 +3,7 @@ use Rattle.std.specs.Bool.{then_some}
 use Rattle.std.proofs.lemmas.List.{length-map, length-take-le}
 use Rattle.fq_column.specs.Frame.{Frame}
 use Rattle.fq_column.specs.Lists.{before_missing, keep}
-use Rattle.fq_expr.specs.Meaning.{expression_of}
+use Rattle.fq_expr.specs.ExpressionData.{expression_of}
 use Rattle.fq_expr.specs.Steps.{is_true}
 use Rattle.fq_expr.specs.Value.{value_of}
 use Rattle.fq_expr.proofs.FilterLemmas.{filter-rows, filter-item}

@@ -3,7 +3,7 @@ use Rattle.fq_column.specs.Frame.{Fields, Frame}
 use Rattle.std.specs.Result.{is_ok}
 use Rattle.fq_expr.specs.Expression.{select}
 use Rattle.fq_expr.specs.Kinds.{step_schema}
-use Rattle.fq_expr.specs.Meaning.{items_of}
+use Rattle.fq_expr.specs.ExpressionData.{items_of}
 use Rattle.fq_expr.proofs.ItemLemmas.{length-items_of, length-item_names}
 use Rattle.fq_expr.proofs.JudgementLemmas.{ok-is, judgement-ok, select-ok}
 use Rattle.fq_expr.proofs.SelectionLemmas.{selected-kinds, selected-rows, outputs-lengths, made-item}
@@ -18,16 +18,16 @@ evaluate_items-requires-clause-kinds c =
     let s = ok-is (step_schema c.args.batch.fields (select (items_of c.args.items.now))) c.requires in
     ap is_ok (select-ok c.args.batch.fields (items_of c.args.items.now) s.0 s.1).1.kinds
 
-pub standing-requires-clause-kinds : goal.standing-requires-clause-kinds
-standing-requires-clause-kinds c = selected-kinds c.args.batch.fields (items_of c.args.items.now) c.args.batch.rows c.in_ok-outputs.outputs.columns.items c.in_ok-outputs.outputs.rows c.in_ok-outputs.outputs.item c.in_ok-outputs.ensures
-    c.in-Ok.schema (judged (goal.at.standing-requires-clause-kinds c).In-Ok) (length-item_names c.args.items.now ∙ sym (length-items_of c.args.items.now))
+pub new-requires-clause-kinds : goal.new-requires-clause-kinds
+new-requires-clause-kinds c = selected-kinds c.args.batch.fields (items_of c.args.items.now) c.args.batch.rows c.in_ok-outputs.outputs.columns.items c.in_ok-outputs.outputs.rows c.in_ok-outputs.outputs.item c.in_ok-outputs.ensures
+    c.in-Ok.schema (judged (goal.at.new-requires-clause-kinds c).In-Ok) (length-item_names c.args.items.now ∙ sym (length-items_of c.args.items.now))
 
-pub standing-requires-clause-lengths : goal.standing-requires-clause-lengths
-standing-requires-clause-lengths c = outputs-lengths c.args.batch.fields (items_of c.args.items.now) c.args.batch.rows c.in_ok-outputs.outputs.columns.items c.in_ok-outputs.outputs.rows c.in_ok-outputs.outputs.item c.in_ok-outputs.ensures
+pub new-requires-clause-lengths : goal.new-requires-clause-lengths
+new-requires-clause-lengths c = outputs-lengths c.args.batch.fields (items_of c.args.items.now) c.args.batch.rows c.in_ok-outputs.outputs.columns.items c.in_ok-outputs.outputs.rows c.in_ok-outputs.outputs.item c.in_ok-outputs.ensures
 
 pub returns-clause-rows : goal.returns-clause-rows
 returns-clause-rows c = let s = ok-is (step_schema c.args.batch.fields (select (items_of c.args.items.now))) c.requires in
-    ap (λ (f : Frame). f.rows) c.standing.ensures
+    ap (λ (f : Frame). f.rows) c.new.ensures
     ∙ selected-rows c.args.batch.fields (items_of c.args.items.now) c.args.batch.rows c.in_ok-outputs.outputs.columns.items c.in_ok-outputs.outputs.rows c.in_ok-outputs.outputs.item c.in_ok-outputs.ensures
     c.in-Ok.schema (judged (goal.at.returns-clause-rows c).In-Ok) (length-item_names c.args.items.now ∙ sym (length-items_of c.args.items.now))
     (select-ok c.args.batch.fields (items_of c.args.items.now) s.0 s.1).1.some

@@ -2,7 +2,7 @@ use Rattle.std.proofs.Common.{◌≡◌, ◌∙◌, ℕ, ap, sym, map, length, t
 use Rattle.std.specs.Bool.{then_some}
 use Rattle.std.proofs.lemmas.List.{length-map, take_all}
 use Rattle.fq_column.specs.Lists.{before_missing}
-use Rattle.fq_expr.specs.Meaning.{expression_of}
+use Rattle.fq_expr.specs.ExpressionData.{expression_of}
 use Rattle.fq_expr.specs.Value.{value_of}
 use Rattle.fq_expr.proofs.OutcomeLemmas.{outcome-rows}
 use Rattle.fq_expr.proofs.PrefixLemmas.{first_missing-is}

@@ -1,6 +1,6 @@
 use Rattle.std.proofs.Common.{◌∙◌, ap, sym, Ok}
 use Rattle.fq_column.specs.Frame.{Fields, names_of, position_of}
-use Rattle.fq_expr.proofs.KindLemmas.{kind_named-at, kind_named-none}
+use Rattle.fq_column.proofs.NameLemmas.{kind_named-at, kind_named-none}
 use Rattle.fq_expr.proofs.evaluation.named.Goals as goal
 
 pub unreachable-requires : goal.unreachable-requires

@@ -1,6 +1,6 @@
 use Rattle.std.proofs.Common.{◌≡◌, map, take, string_bytes}
 use Rattle.fq_expr.specs.Kinds.{item_names}
-use Rattle.fq_expr.specs.Meaning.{items_of}
+use Rattle.fq_expr.specs.ExpressionData.{items_of}
 use Rattle.fq_expr.proofs.steps.copy_names.Given as goal
 
 abbrev pub invariant-loop-item : goal.invariant-loop-item

@@ -1,6 +1,6 @@
 use Rattle.std.proofs.Common.{◌≡◌, ◌++◌, drop, Ok}
 use Rattle.fq_column.specs.Refusal.{and_then}
-use Rattle.fq_expr.specs.Meaning.{items_of}
+use Rattle.fq_expr.specs.ExpressionData.{items_of}
 use Rattle.fq_expr.specs.Outputs.{all_kinds}
 use Rattle.fq_expr.proofs.steps.item_kinds.Given as goal
 

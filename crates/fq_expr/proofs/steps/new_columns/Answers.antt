@@ -3,7 +3,7 @@ use Rattle.std.specs.Option.{is_none, is_some}
 use Rattle.std.proofs.lemmas.List.{at_drop_more}
 use Rattle.fq_column.specs.Frame.{names_of, has_name, same_name, position_of}
 use Rattle.fq_expr.specs.Kinds.{count_new, item_names}
-use Rattle.fq_expr.specs.Meaning.{items_of}
+use Rattle.fq_expr.specs.ExpressionData.{items_of}
 use Rattle.fq_expr.proofs.OutputLemmas.{is_none-position, count_new-cons}
 use Rattle.fq_expr.proofs.steps.new_columns.Goals as goal
 use Rattle.fq_expr.proofs.steps.new_columns.Goals.{then-is_none, else-is_none}

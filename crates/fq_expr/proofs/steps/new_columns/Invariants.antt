@@ -1,6 +1,6 @@
 use Rattle.std.proofs.Common.{◌≡◌, ◌≤◌, ◌+◌, drop}
 use Rattle.fq_expr.specs.Kinds.{count_new, item_names}
-use Rattle.fq_expr.specs.Meaning.{items_of}
+use Rattle.fq_expr.specs.ExpressionData.{items_of}
 use Rattle.fq_expr.proofs.steps.new_columns.Given as goal
 
 abbrev pub invariant-loop-item : goal.invariant-loop-item

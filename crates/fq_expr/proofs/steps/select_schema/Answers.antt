@@ -3,7 +3,7 @@ use Rattle.std.proofs.lemmas.List.{length-map}
 use Rattle.std.proofs.lemmas.Result.{err_from_is_err_and}
 use Rattle.std.proofs.lemmas.Bool.Decides.{nat_tests}
 use Rattle.fq_expr.specs.Expression.{select}
-use Rattle.fq_expr.specs.Meaning.{items_of}
+use Rattle.fq_expr.specs.ExpressionData.{items_of}
 use Rattle.fq_expr.specs.Kinds.{step_schema}
 use Rattle.fq_expr.proofs.ItemLemmas.{length-items_of, length-item_names}
 use Rattle.fq_expr.proofs.OutputLemmas.{length-all_kinds}

@@ -1,7 +1,7 @@
 use Rattle.std.proofs.Common.{◌∙◌, ap, sym, arith, length, inl, Ok}
 use Rattle.std.proofs.lemmas.Result.{err_from_is_err_and}
 use Rattle.fq_expr.specs.Expression.{with_columns}
-use Rattle.fq_expr.specs.Meaning.{items_of}
+use Rattle.fq_expr.specs.ExpressionData.{items_of}
 use Rattle.fq_expr.specs.Kinds.{item_names, count_new, step_schema}
 use Rattle.fq_column.specs.Schema.{fields_of}
 use Rattle.fq_column.specs.Frame.{put_all}

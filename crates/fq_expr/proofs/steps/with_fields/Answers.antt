@@ -7,7 +7,7 @@ use Rattle.fq_column.specs.Frame.{Fields, Name, put_named, put_all}
 use Rattle.fq_column.specs.Schema.{fields_of}
 use Rattle.fq_expr.specs.declared.expressions.Expr.{Expr}
 use Rattle.fq_expr.specs.Kinds.{item_names}
-use Rattle.fq_expr.specs.Meaning.{items_of}
+use Rattle.fq_expr.specs.ExpressionData.{items_of}
 use Rattle.fq_expr.proofs.ItemLemmas.{length-item_names, item_names-at}
 use Rattle.fq_expr.proofs.OutputLemmas.{length-put_all-take, fields_of-at, put_all-step}
 use Rattle.fq_expr.proofs.steps.with_fields.Goals as goal

@@ -2,7 +2,7 @@ use Rattle.std.proofs.Common.{◌≡◌, take}
 use Rattle.fq_column.specs.Frame.{put_all}
 use Rattle.fq_column.specs.Schema.{fields_of}
 use Rattle.fq_expr.specs.Kinds.{item_names}
-use Rattle.fq_expr.specs.Meaning.{items_of}
+use Rattle.fq_expr.specs.ExpressionData.{items_of}
 use Rattle.fq_expr.proofs.steps.with_fields.Given as goal
 
 abbrev pub invariant-loop-i : goal.invariant-loop-i

@@ -5,8 +5,8 @@ use Rattle.fq_lanes.specs.FeedLane.{feed_name, feed_views}
 use Rattle.fq_lanes.specs.HubView.{told_in}
 use Rattle.fq_lanes.specs.Turns.{BlamesTold}
 use Rattle.fq_lanes.proofs.LaneLemmas.{tolds_same, tolds_then}
-use Rattle.fq_lanes.proofs.ListLemmas.{get_or_place}
-use Rattle.fq_lanes.proofs.StepLemmas.{drain_grows, drain_blames}
+use Rattle.fq_lanes.proofs.BesideLemmas.{get_or_place}
+use Rattle.fq_lanes.proofs.HubStepLemmas.{drain_grows, drain_blames}
 use Rattle.fq_lanes.proofs.drains.drain_lanes.Goals as goal
 
 pub loop-file-init : goal.loop-file-init

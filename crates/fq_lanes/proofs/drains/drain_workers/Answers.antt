@@ -3,8 +3,8 @@ use Rattle.std.proofs.Math.ListN.{length-set}
 use Rattle.std.proofs.Math.Seq.{map-set_same}
 use Rattle.fq_lanes.specs.WorkerLanes.{worker_name, worker_views}
 use Rattle.fq_lanes.proofs.LaneLemmas.{workers_same, workers_then}
-use Rattle.fq_lanes.proofs.ListLemmas.{get_or_place}
-use Rattle.fq_lanes.proofs.StepLemmas.{worker_grows}
+use Rattle.fq_lanes.proofs.BesideLemmas.{get_or_place}
+use Rattle.fq_lanes.proofs.HubStepLemmas.{worker_grows}
 use Rattle.fq_lanes.specs.Turns.{BlamesTold}
 use Rattle.fq_lanes.proofs.drains.drain_workers.Goals as goal
 use Rattle.fq_lanes.proofs.drains.drain_workers.Goals.{then-drain, else-drain}

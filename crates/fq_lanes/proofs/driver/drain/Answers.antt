@@ -5,7 +5,7 @@ use mathlib.Core.List.{IsPrefix}
 use Rattle.fq_lanes.specs.Due.{due}
 use Rattle.fq_lanes.specs.Sink.{SinkFacts, file_count}
 use Rattle.fq_lanes.proofs.DueLemmas.{prefix_push}
-use Rattle.fq_lanes.proofs.PrefixLemmas.{prefix_equal}
+use Rattle.fq_lanes.proofs.DuePrefixLemmas.{prefix_equal}
 use Rattle.fq_lanes.proofs.driver.drain.Goals as goal
 
 pub loop-next-preserved : goal.loop-next-preserved

@@ -1,4 +1,4 @@
-use Rattle.fq_lanes.proofs.StartLemmas.{stops_at_once}
+use Rattle.fq_lanes.proofs.NothingReadLemmas.{stops_at_once}
 use Rattle.fq_lanes.proofs.free_threads.may_stop.Goals as goal
 
 pub returns : goal.returns

@@ -5,7 +5,7 @@ use Rattle.fq_lanes.specs.FeedLane.{feed_views, feed_view}
 use Rattle.fq_lanes.specs.HubView.{told_in}
 use Rattle.fq_lanes.specs.Turns.{Settled, Halts}
 use Rattle.fq_lanes.proofs.BeginLemmas.{turn_begins, halts_on}
-use Rattle.fq_lanes.proofs.StepLemmas.{tolds_feed_views}
+use Rattle.fq_lanes.proofs.HubStepLemmas.{tolds_feed_views}
 use Rattle.fq_lanes.proofs.TurnLemmas.{sizes}
 use Rattle.fq_lanes.proofs.free_threads.run_hub.Goals as goal
 

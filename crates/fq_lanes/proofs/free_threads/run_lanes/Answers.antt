@@ -1,6 +1,6 @@
 use Rattle.std.proofs.Common.{sym, subst, ap}
 use Rattle.fq_lanes.specs.Engine.{StopsEarly}
-use Rattle.fq_lanes.proofs.JoinLemmas.{lanes_finish, lanes_stop, blames_feed, run_ok, run_err}
+use Rattle.fq_lanes.proofs.JoinedThreadLemmas.{lanes_finish, lanes_stop, blames_feed, run_ok, run_err}
 use Rattle.fq_lanes.proofs.free_threads.run_lanes.Goals as goal
 
 pub returns-in-Err-clause-stopped : goal.returns-in-Err-clause-stopped

@@ -1,6 +1,6 @@
 use Rattle.std.proofs.Common.{rules, ◌≡◌, length, sym, subst, ◌∙◌, get_or}
 use Rattle.fq_lanes.specs.Round.{Answers}
-use Rattle.fq_lanes.proofs.ListLemmas.{each_by_place}
+use Rattle.fq_lanes.proofs.BesideLemmas.{each_by_place}
 use Rattle.fq_lanes.proofs.job.work_round.Goals as goal
 
 pub returns-in-Ok : goal.returns-in-Ok

@@ -2,7 +2,7 @@ use Rattle.std.proofs.Common.{◌≡◌, length, sym, ap, ◌∙◌, arith, inl,
 use Rattle.std.specs.List.{slice_get}
 use Rattle.std.proofs.lemmas.Result.{err_from_is_err_and}
 use Rattle.std.proofs.lemmas.Bool.{cases_lt}
-use Rattle.fq_lanes.proofs.ListLemmas.{get_within}
+use Rattle.fq_lanes.proofs.BesideLemmas.{get_within}
 use Rattle.fq_lanes.proofs.RoundLemmas.{halted_back, reads_then}
 use Rattle.fq_lanes.proofs.round.go_round.Goals as goal
 

@@ -7,17 +7,17 @@ use Rattle.fq_lanes.specs.Refusals.{refusal}
 use Rattle.fq_lanes.specs.Engine.{BlamesFeed}
 use Rattle.fq_lanes.specs.Ledger.{times}
 use Rattle.fq_lanes.specs.Round.{job_numbers, InRound}
-use Rattle.fq_lanes.specs.Window.{AreNear}
+use Rattle.fq_lanes.specs.FileWindow.{AreNear}
 use Rattle.fq_lanes.specs.declared.events.Event.{Event}
 use Rattle.fq_lanes.specs.declared.events.Event.TheVariants.{Close}
 use Rattle.fq_lanes.specs.declared.job.Job.{Job}
-use Rattle.fq_lanes.proofs.FaultLemmas.{fault_blames}
+use Rattle.fq_lanes.proofs.FeedFaultLemmas.{fault_blames}
 use Rattle.fq_lanes.proofs.HubLemmas.{stops_all}
 use Rattle.fq_lanes.proofs.InletLemmas.{gave_get, gave_sizes, gave_drains, drains_set, left_set}
-use Rattle.fq_lanes.proofs.ListLemmas.{get_or_place, get_set_same, get_set_other}
+use Rattle.fq_lanes.proofs.BesideLemmas.{get_or_place, get_set_same, get_set_other}
 use Rattle.fq_lanes.proofs.RoundLemmas.{halted, halted_back, turn_none, turn_item, turn_may_close, turn_end, lowest_due}
 use Rattle.fq_lanes.proofs.SlotLemmas.{not_far}
-use Rattle.fq_lanes.proofs.WindowLemmas.{near_on, due_count_grows}
+use Rattle.fq_lanes.proofs.FileWindowLemmas.{near_on, due_count_grows}
 use Rattle.fq_lanes.proofs.round.take_turn.Goals as goal
 use Rattle.fq_lanes.specs.declared.file_state.TheConstants.{SLOTS}
 

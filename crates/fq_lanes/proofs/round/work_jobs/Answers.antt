@@ -5,13 +5,13 @@ use Rattle.fq_lanes.specs.Hub.{HasStopped}
 use Rattle.fq_lanes.specs.Ledger.{times, Books}
 use Rattle.fq_lanes.specs.Refusals.{refusal_now, Accepted}
 use Rattle.fq_lanes.specs.Round.{AreWorked, job_numbers, answer_numbers}
-use Rattle.fq_lanes.specs.Window.{AreNear}
+use Rattle.fq_lanes.specs.FileWindow.{AreNear}
 use Rattle.fq_lanes.specs.Sink.{file_count}
 use Rattle.fq_lanes.specs.declared.events.Event.{Event}
 use Rattle.fq_lanes.specs.declared.events.Event.TheVariants.{Offer}
 use Rattle.fq_lanes.proofs.AnswerLemmas.{answers_work, answer_offer}
 use Rattle.fq_lanes.proofs.HubLemmas.{stops_all}
-use Rattle.fq_lanes.proofs.ListLemmas.{nothing_in}
+use Rattle.fq_lanes.proofs.BesideLemmas.{nothing_in}
 use Rattle.fq_lanes.proofs.round.work_jobs.Goals as goal
 
 pub loop-answer-init : goal.loop-answer-init

@@ -4,7 +4,7 @@ use Rattle.fq_lanes.specs.Due.{close_at}
 use Rattle.fq_lanes.specs.Hub.{HandedOn}
 use Rattle.fq_lanes.specs.Ledger.{times, Books, OffersWorked}
 use Rattle.fq_lanes.specs.Round.{AreItems, AreWorked, job_numbers, answer_numbers}
-use Rattle.fq_lanes.specs.Window.{AreNear}
+use Rattle.fq_lanes.specs.FileWindow.{AreNear}
 use Rattle.fq_lanes.specs.Sink.{file_count}
 use Rattle.fq_lanes.specs.declared.events.Event.{Event}
 use Rattle.fq_lanes.proofs.round.work_jobs.Given as goal

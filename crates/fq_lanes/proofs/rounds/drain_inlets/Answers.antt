@@ -2,9 +2,9 @@ use Rattle.std.proofs.Common.{◌≡◌, sym, subst, ◌∙◌, arith, rules, So
 use Rattle.std.specs.List.{slice_get}
 use Rattle.std.proofs.Math.ListN.{length-set}
 use Rattle.fq_lanes.specs.Engine.{BlamesFeed}
-use Rattle.fq_lanes.proofs.FaultLemmas.{first_blames}
+use Rattle.fq_lanes.proofs.FeedFaultLemmas.{first_blames}
 use Rattle.fq_lanes.proofs.InletLemmas.{drains_get}
-use Rattle.fq_lanes.proofs.ListLemmas.{get_or_place, get_set_other}
+use Rattle.fq_lanes.proofs.BesideLemmas.{get_or_place, get_set_other}
 use Rattle.fq_lanes.proofs.rounds.drain_inlets.Goals as goal
 
 pub loop-file-preserved : goal.loop-file-preserved

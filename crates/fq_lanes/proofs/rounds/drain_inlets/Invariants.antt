@@ -2,7 +2,7 @@ use Rattle.std.proofs.Common.{◌≡◌, ◌≤◌, ℕ, List, length}
 use Rattle.std.specs.List.{slice_get}
 use Rattle.fq_lanes.specs.Engine.{BlamesFeed}
 use Rattle.fq_lanes.specs.Inlet.{DrainsOne}
-use Rattle.fq_lanes.specs.Lists.{Each}
+use Rattle.fq_lanes.specs.Beside.{Each}
 use Rattle.fq_lanes.proofs.rounds.drain_inlets.Given as goal
 
 abbrev pub invariant-loop-file : goal.invariant-loop-file

@@ -4,7 +4,7 @@ use Rattle.std.proofs.lemmas.Result.{err_from_is_err_and}
 use Rattle.fq_lanes.specs.Sink.{file_count}
 use Rattle.fq_lanes.proofs.InletLemmas.{gave_sizes, gave_drains}
 use Rattle.fq_lanes.proofs.RoundLemmas.{halted}
-use Rattle.fq_lanes.proofs.RunLemmas.{offers_on, stops_early, round_worked, finishes}
+use Rattle.fq_lanes.proofs.RoundRunLemmas.{offers_on, stops_early, round_worked, finishes}
 use Rattle.fq_lanes.proofs.rounds.run_open.Goals as goal
 
 pub returns-in_err-jobs-clause-runs : goal.returns-in_err-jobs-clause-runs

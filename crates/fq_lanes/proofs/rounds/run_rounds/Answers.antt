@@ -1,10 +1,10 @@
 use Rattle.std.proofs.Common.{rules, ◌≡◌, [], map, length, sym, subst, ◌∙◌}
 use Rattle.fq_lanes.specs.Inlet.{opened, DrainsOne}
-use Rattle.fq_lanes.specs.Lists.{Each}
+use Rattle.fq_lanes.specs.Beside.{Each}
 use Rattle.fq_lanes.specs.Sink.{file_count}
 use Rattle.fq_lanes.specs.declared.hub.Hub.{Hub}
 use Rattle.fq_lanes.proofs.InletLemmas.{gave_none, gave_drains}
-use Rattle.fq_lanes.proofs.StartLemmas.{begins, drains_open, no_offers, stops_at_once}
+use Rattle.fq_lanes.proofs.NothingReadLemmas.{begins, drains_open, no_offers, stops_at_once}
 use Rattle.fq_lanes.proofs.rounds.run_rounds.Goals as goal
 
 pub returns-in-Err-clause-stopped : goal.returns-in-Err-clause-stopped

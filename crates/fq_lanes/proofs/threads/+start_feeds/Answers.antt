@@ -4,7 +4,7 @@ use Rattle.std.proofs.lemmas.List.Elements.{All-tail}
 use Rattle.std.specs.Vec.Iter.{into_iter_items}
 use Rattle.fq_lanes.specs.Lane.{put_items}
 use Rattle.fq_lanes.specs.FeedThread.{Scanned, Began}
-use Rattle.fq_lanes.specs.Lists.{Each}
+use Rattle.fq_lanes.specs.Beside.{Each}
 use Rattle.std.proofs.lemmas.List.{append-nil, map-append, nil_from_length}
 use Rattle.fq_lanes.proofs.ThreadLemmas.{list_moves, new_feeds_push}
 use Rattle.std.proofs.lemmas.Result.{on_ok_weaker}

@@ -6,15 +6,15 @@ use Rattle.fq_lanes.specs.FeedLane.{feed_name, feed_view, feed_views}
 use Rattle.fq_lanes.specs.Sink.{file_count}
 use Rattle.fq_lanes.specs.HubView.{told_in}
 use Rattle.fq_lanes.specs.Turns.{BlamesTold}
-use Rattle.fq_lanes.specs.Window.{IsNear}
+use Rattle.fq_lanes.specs.FileWindow.{IsNear}
 use Rattle.fq_lanes.specs.declared.events.Event.{Event}
 use Rattle.fq_lanes.specs.declared.events.Event.TheVariants.{Close}
 use Rattle.fq_lanes.specs.declared.job.Job.{Job}
 use Rattle.fq_lanes.specs.declared.messages.FromFeed.TheVariants.{Item}
 use Rattle.fq_lanes.proofs.LaneLemmas.{prefix_by, prefix_is, workers_same}
-use Rattle.fq_lanes.proofs.ListLemmas.{get_or_place}
+use Rattle.fq_lanes.proofs.BesideLemmas.{get_or_place}
 use Rattle.fq_lanes.proofs.SlotLemmas.{not_far}
-use Rattle.fq_lanes.proofs.StepLemmas.{step_nothing, step_item, step_halts, worker_grows, step_blames, step_close, step_on, step_stops}
+use Rattle.fq_lanes.proofs.HubStepLemmas.{step_nothing, step_item, step_halts, worker_grows, step_blames, step_close, step_on, step_stops}
 use Rattle.fq_lanes.proofs.turns.hear_feed.Goals as goal
 
 pub close-requires : goal.close-requires

@@ -4,8 +4,8 @@ use Rattle.fq_lanes.specs.WorkerLanes.{worker_name, worker_view, worker_views}
 use Rattle.fq_lanes.specs.declared.events.Event.{Event}
 use Rattle.fq_lanes.specs.declared.events.Event.TheVariants.{Offer}
 use Rattle.fq_lanes.proofs.LaneLemmas.{worker_received}
-use Rattle.fq_lanes.proofs.ListLemmas.{get_or_place}
-use Rattle.fq_lanes.proofs.StepLemmas.{worker_grows, step_on, step_stops, step_idle, step_offer, step_fails}
+use Rattle.fq_lanes.proofs.BesideLemmas.{get_or_place}
+use Rattle.fq_lanes.proofs.HubStepLemmas.{worker_grows, step_on, step_stops, step_idle, step_offer, step_fails}
 use Rattle.fq_lanes.proofs.turns.hear_worker.Goals as goal
 
 pub offer-requires : goal.offer-requires

@@ -1,5 +1,5 @@
 use Rattle.std.proofs.Common.{sym, ◌∙◌}
-use Rattle.fq_lanes.proofs.StepLemmas.{step_settles}
+use Rattle.fq_lanes.proofs.HubStepLemmas.{step_settles}
 use Rattle.fq_lanes.proofs.turns.run_turns.Goals as goal
 
 pub returns-then-are_idle-clause-done : goal.returns-then-are_idle-clause-done

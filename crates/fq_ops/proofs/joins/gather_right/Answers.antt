@@ -7,7 +7,7 @@ use Rattle.fq_column.specs.declared.cells.Cell.TheVariants.{Null}
 use Rattle.fq_column.specs.Frame.{Fields, Name, column_at, has_name, names_of, value_at}
 use Rattle.fq_ops.specs.Pairs.{Pair, right_value}
 use Rattle.fq_ops.specs.Picks.{columns_of, picks_from}
-use Rattle.fq_ops.proofs.FieldLemmas.{field-at}
+use Rattle.fq_ops.proofs.JudgedFieldLemmas.{field-at}
 use Rattle.fq_ops.proofs.PickLemmas.{column-by, field-of_name, gathered-more, gathered-same}
 use Rattle.fq_ops.proofs.joins.gather_right.Goals as goal
 use Rattle.fq_ops.proofs.joins.gather_right.Goals.{then-not-contains+in_ok-gather_optional+in_ok-push, else-not-contains}

@@ -5,7 +5,7 @@ use Rattle.std.proofs.lemmas.Result.{err_from_is_err_and}
 use Rattle.fq_column.specs.Frame.{Fields}
 use Rattle.fq_expr.specs.Front.{NumberedSteps}
 use Rattle.fq_expr.specs.Kinds.{steps_schema}
-use Rattle.fq_expr.specs.Meaning.{step_of}
+use Rattle.fq_expr.specs.ExpressionData.{step_of}
 use Rattle.fq_expr.specs.declared.steps.RowStep.{RowStep}
 use Rattle.fq_expr.specs.Steps.{fields_after_all}
 use Rattle.fq_plan.specs.Judged.{IsPlaceOf, checked, judged_steps, source_refusal}
@@ -17,7 +17,7 @@ use Rattle.fq_plan.specs.declared.faults.Place.{Place}
 use Rattle.fq_plan.specs.declared.stages.CheckedSource.{CheckedSource}
 use Rattle.fq_plan.proofs.StageLemmas.{fields-after-all}
 use Rattle.fq_plan.proofs.SplitLemmas.{few-split, length-split}
-use Rattle.fq_plan.proofs.StartLemmas.{join-count, wanted-is}
+use Rattle.fq_plan.proofs.RunStartLemmas.{join-count, wanted-is}
 use Rattle.fq_plan.proofs.checks.check_plan.Goals as goal
 use Rattle.fq_plan.proofs.checks.check_plan.Goals.{In_ok-joins, In_ok-leading, In_ok-schema, In_ok-stages}
 
@@ -61,7 +61,7 @@ returns-in_err-schema-clause-refused c =
       | inl e ↦ inl (
           ap checked (sym c.plan.view_is ∙ ap of_sources (sym c.in_ok-joins.ensures.sources))
           ∙ leading-refuses sources c.pop.new.self.items c.in-Some.main parts steps (map step_of c.in_ok-leading.leading.items) c.in_ok-leading.ensures.leading _ passed
-          (λ joins rest. ap (λ (ss : List RowStep). judged_steps joins 0 c.in-Some.main.schema (map row_wise (map step_of ss) ++ rest)) (sym c.as_slice.ensures.value) ∙ e joins rest))
+          (λ joins rest. ap (λ (ss : List RowStep). judged_steps joins 0 c.in-Some.main.layout.schema (map row_wise (map step_of ss) ++ rest)) (sym c.as_slice.ensures.value) ∙ e joins rest))
       | inr memory ↦ inr memory
     ])
 
@@ -75,7 +75,7 @@ returns-in_err-stages-clause-refused c =
     let parts = c.pop.ensures.items ∙ ap (λ (o : Option CheckedSource). c.pop.new.self.items ++ option_to_list o) c.in-Some.is in
     let of_sources : List Source → Query = λ ss. record { sources = ss; steps = steps } in
     let passed = ap (source_refusal 0) c.in_ok-joins.ensures.sources ∙ c.in_ok-joins.ensures.passed in
-    let to_mid = ap (λ (ss : List RowStep). steps_schema c.in-Some.main.schema (map step_of ss)) (sym c.as_slice.ensures.value) ∙ c.in_ok-schema.ensures.ok in
+    let to_mid = ap (λ (ss : List RowStep). steps_schema c.in-Some.main.layout.schema (map step_of ss)) (sym c.as_slice.ensures.value) ∙ c.in_ok-schema.ensures.ok in
     let count : length leading ≡ c.len.result = omega (arith, length-map c.in_ok-leading.leading.items step_of, c.in_ok-leading.leading.ok.0, c.len.ensures) in
     rw (exit.1, exit.2) (elim c.in_err-stages.ensures.refused [
       | inl e ↦ inl (
@@ -87,7 +87,7 @@ returns-in_err-stages-clause-refused c =
     ])
 
 front_of : goal.In_ok-front → NumberedSteps
-front_of c = record { steps = map step_of c.in_ok-leading.leading.items; fields = c.in-Some.main.schema; first = 0 }
+front_of c = record { steps = map step_of c.in_ok-leading.leading.items; fields = c.in-Some.main.layout.schema; first = 0 }
 
 front-is : (c : goal.In_ok-front) → c.in_ok-front.front ≡ front_of c
 unfolding front_of
@@ -98,7 +98,7 @@ front-is c =
 parts_of : (c : goal.In_ok-front) → c.in_ok-joins.joins.items ≡ c.pop.new.self.items ++ c.in-Some.main ∷ []
 parts_of c = c.pop.ensures.items ∙ ap (λ (o : Option CheckedSource). c.pop.new.self.items ++ option_to_list o) c.in-Some.is
 
-is-prepared : (c : goal.In_ok-front) → IsChecked c.in_ok-joins.joins.items (front_of c) c.in_ok-stages.stages.items c.count_files-inputs.result
+is-prepared : (c : goal.In_ok-front) → IsChecked c.in_ok-joins.joins.items (front_of c) c.in_ok-stages.stages.items c.file_count-inputs.result
 unfolding front_of
 is-prepared c =
     let steps = map plan_step_of c.plan.inside.steps.items in
@@ -110,33 +110,33 @@ is-prepared c =
     let of_sources : List Source → Query = λ ss. record { sources = ss; steps = steps } in
     prepared c.in_ok-joins.joins.items c.pop.new.self.items c.in-Some.main (parts_of c) steps leading c.in_ok-leading.ensures.leading
     stages c.in_ok-schema.schema leads.0 (c.in_ok-stages.ensures.steps ∙ c.in_ok-leading.ensures.rest) (ap (source_refusal 0) c.in_ok-joins.ensures.sources ∙ c.in_ok-joins.ensures.passed)
-    (ap (λ (ss : List RowStep). steps_schema c.in-Some.main.schema (map step_of ss)) (sym c.as_slice.ensures.value) ∙ c.in_ok-schema.ensures.ok)
+    (ap (λ (ss : List RowStep). steps_schema c.in-Some.main.layout.schema (map step_of ss)) (sym c.as_slice.ensures.value) ∙ c.in_ok-schema.ensures.ok)
     (subst (λ n. Leads joins n c.in_ok-schema.schema stages leads.0) count leads.1)
-    c.count_files-inputs.result
+    c.file_count-inputs.result
     (subst IsWithinLimits (ap of_sources (sym c.in_ok-joins.ensures.sources)) c.plan.invariant)
-    (c.count_files-inputs.ensures ∙ ap (λ ss. sum_by (λ (s : Source). s.files) (map source_data ss)) c.deref.ensures.value ∙ ap (sum_by (λ (s : Source). s.files)) (sym c.in_ok-joins.ensures.sources))
+    (c.file_count-inputs.ensures ∙ ap (λ ss. sum_by (λ (s : Source). s.files) (map source_data ss)) c.deref.ensures.value ∙ ap (sum_by (λ (s : Source). s.files)) (sym c.in_ok-joins.ensures.sources))
 
 pub overflow_sub-join_files : goal.overflow_sub-join_files
-overflow_sub-join_files c = omega (arith, (is-prepared c).inputs_wanted, wanted-is c.in_ok-joins.joins.items (front_of c) c.in_ok-stages.stages.items c.count_files-inputs.result (is-prepared c) c.pop.new.self.items c.in-Some.main (parts_of c))
+overflow_sub-join_files c = omega (arith, (is-prepared c).inputs_wanted, wanted-is c.in_ok-joins.joins.items (front_of c) c.in_ok-stages.stages.items c.file_count-inputs.result (is-prepared c) c.pop.new.self.items c.in-Some.main (parts_of c))
 
 pub invariant_of-result : goal.invariant_of-result
 unfolding front_of
 invariant_of-result c =
     let sources = c.in_ok-joins.joins.items in
     let stages = c.in_ok-stages.stages.items in
-    let inputs = c.count_files-inputs.result in
+    let inputs = c.file_count-inputs.result in
     let leading = map step_of c.in_ok-leading.leading.items in
     let after = c.in_ok-after_leading.after_leading in
     subst (λ ss. IsChecked ss c.in_ok-front.front stages inputs × (inputs - c.in-Some.main.files ≡ join_files (query_of ss c.in_ok-front.front stages)) × (after ≡ fields_after_all c.in_ok-front.front.fields c.in_ok-front.front.steps)) (parts_of c)
     (subst (λ front. IsChecked sources front stages inputs × (inputs - c.in-Some.main.files ≡ join_files (query_of sources front stages)) × (after ≡ fields_after_all front.fields front.steps)) (sym (front-is c)) (
       is-prepared c,
       join-count sources (front_of c) stages inputs (is-prepared c) c.pop.new.self.items c.in-Some.main (parts_of c),
-      c.in_ok-after_leading.ensures ∙ sym (fields-after-all c.in-Some.main.schema c.in_ok-schema.schema leading
-          (ap (λ (ss : List RowStep). steps_schema c.in-Some.main.schema (map step_of ss)) (sym c.as_slice.ensures.value) ∙ c.in_ok-schema.ensures.ok)),
+      c.in_ok-after_leading.ensures ∙ sym (fields-after-all c.in-Some.main.layout.schema c.in_ok-schema.schema leading
+          (ap (λ (ss : List RowStep). steps_schema c.in-Some.main.layout.schema (map step_of ss)) (sym c.as_slice.ensures.value) ∙ c.in_ok-schema.ensures.ok)),
     ))
 
 passes : (c : goal.In_ok-front) → checked (query_of c.in_ok-joins.joins.items (front_of c) c.in_ok-stages.stages.items) ≡ Ok (query_of c.in_ok-joins.joins.items (front_of c) c.in_ok-stages.stages.items)
-passes c = checked-is c.in_ok-joins.joins.items (front_of c) c.in_ok-stages.stages.items c.count_files-inputs.result (is-prepared c)
+passes c = checked-is c.in_ok-joins.joins.items (front_of c) c.in_ok-stages.stages.items c.file_count-inputs.result (is-prepared c)
 
 pub returns-clause-ok : goal.returns-clause-ok
 unfolding front_of

@@ -1,4 +1,4 @@
-use Rattle.fq_plan.proofs.CutLemmas.{same-rows}
+use Rattle.fq_plan.proofs.FileCutLemmas.{same-rows}
 use Rattle.fq_plan.proofs.laws.meaning_of_cut_files.Goals as goal
 
 pub returns : goal.returns

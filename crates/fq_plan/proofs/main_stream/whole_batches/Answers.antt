@@ -3,7 +3,7 @@ use Rattle.std.proofs.lemmas.List.{map-append}
 use Rattle.fq_plan.specs.Gathering.{gathered_stream}
 use Rattle.fq_plan.specs.Sources.{first_fault}
 use Rattle.fq_plan.specs.declared.gathering.Gathered.{Gathered}
-use Rattle.fq_plan.proofs.FinishLemmas.{fault-found, still-none}
+use Rattle.fq_plan.proofs.SourceFaultLemmas.{fault-found, still-none}
 use Rattle.fq_plan.proofs.main_stream.whole_batches.Goals as goal
 
 pub returns-in-Some-fault-clause-fault : goal.returns-in-Some-fault-clause-fault

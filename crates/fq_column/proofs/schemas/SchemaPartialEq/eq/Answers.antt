@@ -4,25 +4,14 @@ use Rattle.std.specs.Bool.{IsTrue}
 use Rattle.std.specs.Cmp.Lexicographic.{pointwise}
 use Rattle.std.specs.String.{string_eq}
 use Rattle.fq_column.specs.declared.cells.Kind.{Kind}
-use Rattle.fq_column.specs.declared.cells.Kind.TheVariants as kind
 use Rattle.fq_column.specs.contracts.cells.KindPartialEq.TheImpl.{eq-value}
 use Rattle.fq_column.specs.Cell.{same_kind}
 use Rattle.fq_column.specs.Frame.{Fields, same_name}
 use Rattle.fq_column.specs.Schema.{same_fields, fields_of}
 use Rattle.fq_column.specs.SchemaLaws.{same_fields_decides}
+use Rattle.fq_column.proofs.KindLemmas.{derived}
 use Rattle.fq_column.proofs.SchemaLemmas.{same_fields-fields_of}
 use Rattle.fq_column.proofs.schemas.SchemaPartialEq.eq.Goals as goal
-
-derived : (a b : Kind) → eq-value.it a b ≡ same_kind a b
-derived kind.Whole kind.Whole = refl
-derived kind.Whole kind.Text = refl
-derived kind.Whole kind.Truth = refl
-derived kind.Text kind.Whole = refl
-derived kind.Text kind.Text = refl
-derived kind.Text kind.Truth = refl
-derived kind.Truth kind.Whole = refl
-derived kind.Truth kind.Text = refl
-derived kind.Truth kind.Truth = refl
 
 kinds : (ks ls : List Kind) → pointwise eq-value.it ks ls ≡ pointwise same_kind ks ls
 kinds [] [] = refl

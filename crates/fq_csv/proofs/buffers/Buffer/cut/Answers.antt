@@ -1,7 +1,7 @@
 use Rattle.std.proofs.Common.{◌≡◌, ◌∙◌, ap, drop, subst, sym, true}
 use Rattle.fq_csv.specs.Cutting.{CutsRecord, fields_at, next_of}
 use Rattle.fq_csv.proofs.BufferLemmas.{fields-same, took, took-none}
-use Rattle.fq_csv.proofs.CutLemmas.{held-longer}
+use Rattle.fq_csv.proofs.MachineLemmas.{held-longer}
 use Rattle.fq_csv.proofs.buffers.Buffer.cut.Goals as goal
 
 pub returns-in-Some-clause-kept : goal.returns-in-Some-clause-kept

@@ -2,7 +2,7 @@ use Rattle.std.specs.Prelude.{OnOk}
 use Rattle.std.proofs.Common.{◌≡◌, ◌∙◌, ap, subst}
 use Rattle.fq_csv.specs.Cutting.{fields_at}
 use Rattle.fq_csv.proofs.BufferLemmas.{fields-same}
-use Rattle.fq_csv.proofs.CutLemmas.{held-longer}
+use Rattle.fq_csv.proofs.MachineLemmas.{held-longer}
 use Rattle.fq_csv.proofs.buffers.Buffer.take_record.Goals as goal
 use Rattle.fq_csv.proofs.buffers.Buffer.take_record.Goals.{then-not-self+in_ok-begin, else-not-self}
 

@@ -1,7 +1,7 @@
 use Rattle.std.proofs.Common.{◌≡◌, ◌∙◌, ap, arith, map, refl, string_bytes, sym, take_all, true, false}
 use Rattle.std.specs.Str.{bytes_eq}
 use Rattle.fq_csv.specs.Field.{is_one_of}
-use Rattle.fq_csv.proofs.FieldLemmas.{is_one_of-here, is_one_of-more}
+use Rattle.fq_csv.proofs.FieldReadingLemmas.{is_one_of-here, is_one_of-more}
 use Rattle.fq_csv.proofs.layouts.NullValues.has.Goals as goal
 
 pub loop-text-init : goal.loop-text-init

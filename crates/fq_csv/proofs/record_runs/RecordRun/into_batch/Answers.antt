@@ -1,24 +1,29 @@
-use Rattle.std.proofs.Common.{◌∙◌, arith, length, subst, sym}
+use Rattle.std.proofs.Common.{arith, length, subst}
+use Rattle.fq_column.specs.Frame.{kinds_of}
 use Rattle.fq_csv.specs.Taking.{FieldRun, ReadsRun, records_in}
 use Rattle.fq_csv.proofs.CellLemmas.{place-in, reads-run}
-use Rattle.fq_csv.proofs.StepLemmas.{no-fault}
+use Rattle.fq_csv.proofs.HeldRowLemmas.{one-length}
 use Rattle.fq_csv.proofs.TakingLemmas.{length-records_in}
+use Rattle.fq_csv.specs.declared.scanners.TheConstants.{MAX_ROWS}
 use Rattle.fq_csv.proofs.record_runs.RecordRun.into_batch.Goals as goal
 
-pub unreachable-requires : goal.unreachable-requires
-unreachable-requires c =
+pub new-batch-requires-clause-kinds : goal.new-batch-requires-clause-kinds
+new-batch-requires-clause-kinds c = c.in_ok-columns.ensures.rows.held.same_kinds
+
+pub new-batch-requires-clause-lengths : goal.new-batch-requires-clause-lengths
+new-batch-requires-clause-lengths c =
     let held = c.in_ok-columns.ensures.rows in
-    cc (sym (no-fault c.self.inside.layout.schema c.in_ok-columns.columns.items held.rows c.in_ok-columns.ensures.some held.held) ∙ c.in-Err.ensures.refused)
+    one-length (kinds_of c.self.inside.layout.schema) c.in_ok-columns.columns.items held.rows c.in_ok-columns.ensures.some held.held
 
 pub fault_of-requires : goal.fault_of-requires
 fault_of-requires c =
     let many = length-records_in c.self.inside.count (length c.self.inside.layout.schema) c.self.inside.fields in
-    place-in c.self.inside.before 2147483647 c.in_ok-columns.bad c.in_ok-columns.ensures.rows (omega (arith, many, c.self.invariant.1))
+    place-in c.self.inside.before MAX_ROWS c.in_ok-columns.bad c.in_ok-columns.ensures.rows (omega (arith, many, c.self.invariant.1))
 
 pub returns : goal.returns
 returns c =
     let inside = c.self.inside in
     let run : FieldRun = record { file = inside.file; layout = inside.layout; before = inside.before; records = records_in inside.count (length inside.layout.schema) inside.fields } in
-    subst (λ (r : FieldRun). ReadsRun r c.in-Ok.batch c.fault_of.result) c.self.view_is
-    (reads-run run c.in_ok-columns.columns.items c.in_ok-columns.bad c.in-Ok.batch c.fault_of.result c.in_ok-columns.ensures.rows c.in_ok-columns.ensures.some c.in-Ok.ensures.ok c.fault_of.ensures.fault c.fault_of.ensures.cause
+    subst (λ (r : FieldRun). ReadsRun r c.new-batch.result c.fault_of.result) c.self.view_is
+    (reads-run run c.in_ok-columns.columns.items c.in_ok-columns.bad c.new-batch.result c.fault_of.result c.in_ok-columns.ensures.rows c.in_ok-columns.ensures.some c.new-batch.ensures c.fault_of.ensures.fault c.fault_of.ensures.cause
     (let many = length-records_in inside.count (length inside.layout.schema) inside.fields in omega (arith, many, c.self.invariant.1)))

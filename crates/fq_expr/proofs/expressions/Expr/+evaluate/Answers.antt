@@ -9,8 +9,8 @@ use Rattle.fq_column.specs.Frame.{Fields, Name, Row, value_named}
 use Rattle.fq_column.specs.Schema.{kind_named}
 use Rattle.fq_expr.specs.declared.expressions.Expr.{Expr}
 use Rattle.fq_expr.specs.Expression.{Expression, null, whole, text, truth, unary, binary}
-use Rattle.fq_expr.specs.Meaning.{expression_of}
-use Rattle.fq_expr.specs.Outcome.{IsOutcome, IsUnaryOutcome, IsBinaryOutcome}
+use Rattle.fq_expr.specs.ExpressionData.{expression_of}
+use Rattle.fq_expr.specs.Evaluated.{IsOutcome, IsUnaryOutcome, IsBinaryOutcome}
 use Rattle.fq_expr.specs.declared.operands.Outcome.{Outcome}
 use Rattle.fq_expr.proofs.EvaluationLemmas.{map-replicate}
 use Rattle.fq_expr.proofs.OutcomeLemmas.{constant-outcome, column-outcome, outcome-rows-le, unary-outcome, binary-outcome}

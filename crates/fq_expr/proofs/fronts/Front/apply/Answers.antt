@@ -1,13 +1,13 @@
-use Rattle.std.proofs.Common.{◌≡◌, ◌+◌, ◌∙◌, ◌∷◌, List, ℕ, ap, sym, subst, arith, map, drop, Option}
+use Rattle.std.proofs.Common.{◌≡◌, ◌+◌, ◌∙◌, ◌∷◌, List, ap, sym, subst, arith, map, drop}
 use Rattle.std.specs.Prelude.{IsOk}
 use Rattle.fq_column.specs.Frame.{Fields}
 use Rattle.fq_expr.specs.Expression.{Step}
 use Rattle.fq_expr.specs.Front.{fault_at}
 use Rattle.fq_expr.specs.Kinds.{steps_schema}
-use Rattle.fq_expr.specs.Meaning.{step_of}
+use Rattle.fq_expr.specs.ExpressionData.{step_of}
 use Rattle.fq_expr.specs.Steps.{apply_steps, fields_after_all}
-use Rattle.fq_expr.proofs.FrontLemmas.{first-step, later-steps, drop-map, fault_or_end, stream-step}
-use Rattle.fq_expr.proofs.fronts.Front.apply.Goals.{in-Some, in-None, After-index}
+use Rattle.fq_expr.proofs.FrontLemmas.{first-step, later-steps, drop-map, replaced, stream-step}
+use Rattle.fq_expr.proofs.fronts.Front.apply.Goals.{After-index}
 use Rattle.fq_expr.proofs.fronts.Front.apply.Goals as goal
 
 -- the steps that are left: this one, then the others
@@ -27,16 +27,13 @@ loop-i-preserved c = let d = (goal.at.loop-i-preserved c).After-index in
     let f = c.loop-i.piece.batch.fields in
     let P : Fields → Type 0 = λ g. IsOk (steps_schema g rest) in
     let n = c.self.inside.first + c.loop-i.i in
-    let fault : c.match-item.fault ≡ fault_or_end (fault_at n) c.in_ok-batch.field-0.item c.loop-i.piece.fault =
-    elim c.match-item.branch [
-      | in-Some w ↦ w.fault-is ∙ ap (λ (o : Option ℕ). fault_or_end (fault_at n) o c.loop-i.piece.fault) (sym w.in-Some.is)
-      | in-None w ↦ w.fault-is ∙ ap (λ (o : Option ℕ). fault_or_end (fault_at n) o c.loop-i.piece.fault) (sym w.in-None.is)
-    ] in
+    let item = c.in_ok-batch.field-0.item in
+    let fault = c.fault_after-fault.ensures ∙ replaced (fault_at n) item c.loop-i.piece.fault in
     record {
       schemas = subst P (sym c.in_ok-batch.ensures.fields) (later-steps f s rest (schemas d));
       fields = ap (λ g. fields_after_all g rest) c.in_ok-batch.ensures.fields ∙ ap (fields_after_all f) (sym (left d)) ∙ c.loop-i.invariant.fields;
-      stream = ap (λ k. apply_steps fault_at k c.in_ok-batch.field-0.batch.fields rest (record { rows = c.in_ok-batch.field-0.batch.rows; fault = c.match-item.fault })) (let e : c.self.inside.first + (c.loop-i.i + 1) ≡ n + 1 = omega arith in e)
-          ∙ stream-step fault_at n f c.in_ok-batch.field-0.batch.fields s rest c.loop-i.piece.batch.rows c.in_ok-batch.field-0.batch.rows c.loop-i.piece.fault c.match-item.fault c.in_ok-batch.field-0.item
+      stream = ap (λ k. apply_steps fault_at k c.in_ok-batch.field-0.batch.fields rest (record { rows = c.in_ok-batch.field-0.batch.rows; fault = c.fault_after-fault.result })) (let e : c.self.inside.first + (c.loop-i.i + 1) ≡ n + 1 = omega arith in e)
+          ∙ stream-step fault_at n f c.in_ok-batch.field-0.batch.fields s rest c.loop-i.piece.batch.rows c.in_ok-batch.field-0.batch.rows c.loop-i.piece.fault c.fault_after-fault.result c.in_ok-batch.field-0.item
           c.in_ok-batch.ensures.fields c.in_ok-batch.ensures.rows c.in_ok-batch.ensures.item fault
           ∙ ap (λ l. apply_steps fault_at n f l (record { rows = c.loop-i.piece.batch.rows; fault = c.loop-i.piece.fault })) (sym (left d))
           ∙ c.loop-i.invariant.stream;

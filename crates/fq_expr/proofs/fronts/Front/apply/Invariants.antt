@@ -3,7 +3,7 @@ use Rattle.std.specs.Prelude.{IsOk}
 use Rattle.fq_column.specs.Stream.{done}
 use Rattle.fq_expr.specs.Front.{fault_at}
 use Rattle.fq_expr.specs.Kinds.{steps_schema}
-use Rattle.fq_expr.specs.Meaning.{step_of}
+use Rattle.fq_expr.specs.ExpressionData.{step_of}
 use Rattle.fq_expr.specs.Steps.{apply_steps, fields_after_all}
 use Rattle.fq_expr.proofs.fronts.Front.apply.Given as goal
 

@@ -3,7 +3,7 @@ use Rattle.std.specs.Prelude.{IsOk}
 use Rattle.fq_column.specs.Frame.{Fields}
 use Rattle.fq_expr.specs.Expression.{Step}
 use Rattle.fq_expr.specs.Kinds.{steps_schema}
-use Rattle.fq_expr.specs.Meaning.{step_of}
+use Rattle.fq_expr.specs.ExpressionData.{step_of}
 use Rattle.fq_expr.specs.Steps.{fields_after, fields_after_each}
 use Rattle.fq_expr.proofs.FrontLemmas.{first-step, later-steps, drop-map}
 use Rattle.fq_expr.proofs.fronts.Front.schemas.Goals.{After-index}

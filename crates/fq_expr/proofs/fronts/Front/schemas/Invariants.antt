@@ -1,7 +1,7 @@
 use Rattle.std.proofs.Common.{◌≡◌, ◌++◌, map, drop}
 use Rattle.std.specs.Prelude.{IsOk}
 use Rattle.fq_expr.specs.Kinds.{steps_schema}
-use Rattle.fq_expr.specs.Meaning.{step_of}
+use Rattle.fq_expr.specs.ExpressionData.{step_of}
 use Rattle.fq_expr.specs.Steps.{fields_after_each}
 use Rattle.fq_expr.proofs.fronts.Front.schemas.Given as goal
 

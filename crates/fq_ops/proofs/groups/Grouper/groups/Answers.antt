@@ -1,6 +1,5 @@
-use Rattle.std.proofs.Common.{◌≡◌, ◌<◌, ◌-◌, Ok, Some, None, length, subst, sym, ap, ◌∙◌, arith}
-use Rattle.fq_column.specs.declared.faults.BatchFault.{BatchFault}
-use Rattle.fq_column.specs.Batch.{batch_fault, frame_of}
+use Rattle.std.proofs.Common.{◌≡◌, ◌<◌, ◌-◌, Ok, Some, None, length, map, subst, sym, ap, ◌∙◌, arith}
+use Rattle.fq_column.specs.Batch.{frame_of, kind_of_cells}
 use Rattle.fq_column.specs.Frame.{Frame, kinds_of}
 use Rattle.fq_column.specs.Lists.{numbers}
 use Rattle.fq_ops.specs.Accumulated.{first_found, group_picks, out_of_range_in}
@@ -8,11 +7,8 @@ use Rattle.fq_ops.specs.Gathered.{Gathered, HasTakenRows}
 use Rattle.fq_ops.specs.Group.{grouped}
 use Rattle.fq_ops.specs.Picks.{columns_of}
 use Rattle.fq_ops.proofs.GroupedLemmas.{picks-count, picks-kinds, taken-fits, taken-not}
-use Rattle.fq_ops.proofs.PickLemmas.{frame-picked, no-fault}
+use Rattle.fq_ops.proofs.PickLemmas.{OneLength, frame-picked, kinds-of-picks, lengths-picked}
 use Rattle.fq_ops.proofs.groups.Grouper.groups.Goals as goal
-
-apart : (f : BatchFault) → Some f ≡ None → ⊥
-apart f e = cc
 
 pub returns-in-Some-clause-fault : goal.returns-in-Some-clause-fault
 returns-in-Some-clause-fault c = λ names outputs rows h.
@@ -22,16 +18,25 @@ returns-in-Some-clause-fault c = λ names outputs rows h.
     (λ i. first_found (out_of_range_in (sym c.as_slice.ensures.value i)) (numbers (length (sym c.as_slice-keys.ensures.keys i)))) ∙ sym c.in-Some.ensures.found in
     ap (λ (g : Gathered). grouped g.fields names outputs rows) (sym c.self.view_is) ∙ taken-not _ names outputs rows own c.in-Some.item found
 
-pub unreachable-requires : goal.unreachable-requires
-unreachable-requires c =
+pub new-requires-clause-kinds : goal.new-requires-clause-kinds
+new-requires-clause-kinds c =
+    let output = c.self.inside.output in
+    let accumulators = c.as_slice-2.result.now in
+    let seen = c.as_slice-keys.result.now in
+    let places = length output - length accumulators in
+    let picks = group_picks places seen accumulators (kinds_of output) (length output) in
+    ap (map kind_of_cells) c.in_ok-columns.ensures ∙ kinds-of-picks (numbers (length seen)) picks
+    ∙ sym (ap kinds_of c.in_ok-output.ensures ∙ picks-kinds places seen accumulators output)
+
+pub new-requires-clause-lengths : goal.new-requires-clause-lengths
+new-requires-clause-lengths c =
     let output = c.self.inside.output in
     let accumulators = c.as_slice-2.result.now in
     let seen = c.as_slice-keys.result.now in
     let places = length output - length accumulators in
     let picks = group_picks places seen accumulators (kinds_of output) (length output) in
     let some : 0 < length picks = omega (arith, picks-count places seen accumulators output, c.self.invariant.width, c.self.invariant.some) in
-    let none = no-fault (numbers (length seen)) output picks (picks-kinds places seen accumulators output) some in
-    apart c.in-Err.field-0.0 (sym c.in-Err.ensures.refused ∙ (λ i. batch_fault (c.in_ok-output.ensures i) (c.in_ok-columns.ensures i)) ∙ none)
+    subst OneLength (sym c.in_ok-columns.ensures) (lengths-picked (numbers (length seen)) picks some)
 
 pub returns-clause-rows : goal.returns-clause-rows
 returns-clause-rows c = λ names outputs rows h.
@@ -49,6 +54,6 @@ returns-clause-rows c = λ names outputs rows h.
     c.in_ok-columns.ensures ∙ (λ i. columns_of (group_picks (length output - length (c.as_slice-2.ensures.value i)) (c.as_slice-keys.ensures.keys i) (c.as_slice-2.ensures.value i) (kinds_of output) (length output)) (numbers (length (c.as_slice-keys.ensures.keys i)))) in
     ap (λ (g : Gathered). grouped g.fields names outputs rows) (sym c.self.view_is)
     ∙ taken-fits _ names outputs rows own none
-    ∙ ap Ok (sym (ap (λ (f : Frame). f.rows) c.in-Ok.ensures.ok
+    ∙ ap Ok (sym (ap (λ (f : Frame). f.rows) c.new.ensures
     ∙ (λ i. (frame_of (c.in_ok-output.ensures i) (columns i)).rows)
     ∙ frame-picked (numbers (length seen)) output picks some))

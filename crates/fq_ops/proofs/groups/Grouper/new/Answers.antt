@@ -7,7 +7,7 @@ use Rattle.fq_column.specs.Refusal.{IsJudgement}
 use Rattle.fq_ops.specs.Accumulated.{Accumulated, IsAccumulator}
 use Rattle.fq_ops.specs.Gathered.{fresh}
 use Rattle.fq_ops.specs.Group.{group_schema, grouped_fields}
-use Rattle.fq_ops.specs.Meaning.{outputs_of}
+use Rattle.fq_ops.specs.AggregateData.{outputs_of}
 use Rattle.fq_ops.proofs.AcceptedLemmas.{group-known, group-output, group-some, length-grouped, some-column}
 use Rattle.fq_ops.proofs.GatherLemmas.{all-fresh, fresh-empty}
 use Rattle.fq_ops.proofs.PlaceLemmas.{length-places}

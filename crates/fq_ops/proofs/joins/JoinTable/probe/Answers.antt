@@ -1,10 +1,9 @@
-use Rattle.std.proofs.Common.{◌≡◌, ℕ, List, Ok, Some, None, Option, map, length, string_bytes, subst, sym, ap, ◌∙◌, inl, inr}
+use Rattle.std.proofs.Common.{◌≡◌, ℕ, List, Ok, Option, map, length, string_bytes, subst, sym, ap, ◌∙◌, inl, inr}
 use Rattle.std.specs.Prelude.{IsOk}
 use Rattle.std.specs.List.{AllPass}
 use Rattle.fq_column.specs.declared.cells.Cell.{Cell}
 use Rattle.fq_ops.specs.declared.joins.How.{How}
-use Rattle.fq_column.specs.declared.faults.BatchFault.{BatchFault}
-use Rattle.fq_column.specs.Batch.{batch_fault, frame_of}
+use Rattle.fq_column.specs.Batch.{frame_of, kind_of_cells}
 use Rattle.fq_column.specs.Frame.{Fields, Frame, Name, has_name, kinds_of, names_of}
 use Rattle.fq_column.specs.Lists.{numbers}
 use Rattle.fq_column.specs.Refusal.{IsJudgement}
@@ -15,7 +14,7 @@ use Rattle.fq_ops.specs.Pairs.{Pair, matches_of, named_key, pairs_of, pairs_with
 use Rattle.fq_ops.specs.Picks.{columns_of, row_of}
 use Rattle.fq_ops.specs.Table.{Table}
 use Rattle.fq_ops.proofs.JoinLemmas.{join-by_place}
-use Rattle.fq_ops.proofs.PickLemmas.{no-fault, frame-picked}
+use Rattle.fq_ops.proofs.PickLemmas.{OneLength, frame-picked, kinds-of-picks, lengths-picked}
 use Rattle.fq_ops.proofs.PlaceLemmas.{keys-named}
 use Rattle.fq_ops.proofs.ProbeLemmas.{AllIn, map-in, ArePlaces, pairs-inside, join-kinds, pair-row, picks-some}
 use Rattle.fq_ops.proofs.RefusalLemmas.{join-known, join-output}
@@ -29,9 +28,6 @@ judged how left right on l r o s e f g ok (inl h) =
     cc
 judged how left right on l r o s e f g ok (inr h) = absurd (cc)
 
-apart : (f : BatchFault) → Some f ≡ None → ⊥
-apart f e = cc
-
 pub positions-requires : goal.positions-requires
 positions-requires c =
     let left = c.args.left.now in
@@ -41,18 +37,26 @@ positions-requires c =
     subst (λ fields. AllPass (has_name (names_of fields)) (map string_bytes c.as_slice-on.result.now)) (sym c.schema-3.ensures)
     (subst (λ names. AllPass (has_name (names_of left.fields)) (map string_bytes names)) (sym c.as_slice-on.ensures.value) (join-known c.args.how left.fields right.fields on ok))
 
-pub unreachable-requires : goal.unreachable-requires
-unreachable-requires c =
+pub new-requires-clause-kinds : goal.new-requires-clause-kinds
+new-requires-clause-kinds c =
     let left = c.args.left.now in
     let right = c.self.inside.right in
     let on = map string_bytes c.self.inside.on.items in
     let ok = subst (λ (t : Table). IsOk (join_schema c.args.how left.fields t.fields t.on)) (sym c.self.view_is) c.requires in
     let names : map string_bytes c.as_slice-on.result.now ≡ on = ap (map string_bytes) c.as_slice-on.ensures.value in
     let out = judged c.args.how left.fields right.fields on c.schema.result.now c.schema-2.result.now (map string_bytes c.as_slice-on.result.now) c.in-Ok.schema c.schema.ensures c.schema-2.ensures names ok c.in-Ok.ensures in
-    let picks = join_picks c.args.how left right on in
-    let none = no-fault c.in_ok-pairs.pairs c.in-Ok.schema picks (ap kinds_of out ∙ join-kinds c.args.how left right on) (picks-some c.args.how left right on c.in_ok-pairs.ensures.frame c.self.invariant.frame) in
     let columns = c.in_ok-columns.ensures ∙ ap (λ os. columns_of (join_picks c.args.how left right os) c.in_ok-pairs.pairs) names in
-    apart c.in-Err.field-0.0 (sym c.in-Err.ensures.refused ∙ ap (batch_fault c.in-Ok.schema) columns ∙ none)
+    ap (map kind_of_cells) columns ∙ kinds-of-picks c.in_ok-pairs.pairs (join_picks c.args.how left right on) ∙ sym (ap kinds_of out ∙ join-kinds c.args.how left right on)
+
+pub new-requires-clause-lengths : goal.new-requires-clause-lengths
+new-requires-clause-lengths c =
+    let left = c.args.left.now in
+    let right = c.self.inside.right in
+    let on = map string_bytes c.self.inside.on.items in
+    let names : map string_bytes c.as_slice-on.result.now ≡ on = ap (map string_bytes) c.as_slice-on.ensures.value in
+    let picks = join_picks c.args.how left right on in
+    let columns = c.in_ok-columns.ensures ∙ ap (λ os. columns_of (join_picks c.args.how left right os) c.in_ok-pairs.pairs) names in
+    subst OneLength (sym columns) (lengths-picked c.in_ok-pairs.pairs picks (picks-some c.args.how left right on c.in_ok-pairs.ensures.frame c.self.invariant.frame))
 
 pub returns-clause-fields : goal.returns-clause-fields
 returns-clause-fields c =
@@ -61,7 +65,7 @@ returns-clause-fields c =
     let on = map string_bytes c.self.inside.on.items in
     let ok = subst (λ (t : Table). IsOk (join_schema c.args.how left.fields t.fields t.on)) (sym c.self.view_is) c.requires in
     let names : map string_bytes c.as_slice-on.result.now ≡ on = ap (map string_bytes) c.as_slice-on.ensures.value in
-    ap (λ (f : Frame). f.fields) c.in-Ok-from_columns.ensures.ok
+    ap (λ (f : Frame). f.fields) c.new.ensures
     ∙ judged c.args.how left.fields right.fields on c.schema.result.now c.schema-2.result.now (map string_bytes c.as_slice-on.result.now) c.in-Ok.schema c.schema.ensures c.schema-2.ensures names ok c.in-Ok.ensures
     ∙ ap (λ (t : Table). joined_fields c.args.how left.fields t.fields t.on) c.self.view_is
 
@@ -84,8 +88,8 @@ returns-clause-rows c =
     let picks = join_picks c.args.how left right on in
     let some = picks-some c.args.how left right on c.in_ok-pairs.ensures.frame c.self.invariant.frame in
     let columns = c.in_ok-columns.ensures ∙ ap (λ os. columns_of (join_picks c.args.how left right os) pairs) names in
-    subst (λ (t : Table). c.in-Ok-from_columns.batch.rows ≡ (join_rows c.args.how t.nulls_equal left.fields t.fields t.on t.rows c.args.room left.rows).rows) c.self.view_is
-    (ap (λ (f : Frame). f.rows) c.in-Ok-from_columns.ensures.ok
+    subst (λ (t : Table). c.new.result.rows ≡ (join_rows c.args.how t.nulls_equal left.fields t.fields t.on t.rows c.args.room left.rows).rows) c.self.view_is
+    (ap (λ (f : Frame). f.rows) c.new.ensures
     ∙ ap (λ cs. (frame_of c.in-Ok.schema cs).rows) columns
     ∙ frame-picked pairs c.in-Ok.schema picks some
     ∙ map-in (ArePlaces (length left.rows) (length right.rows)) (row_of picks) (pair_row c.args.how left.fields right.fields on right.rows left.rows)

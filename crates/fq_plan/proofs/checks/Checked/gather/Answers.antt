@@ -2,7 +2,7 @@ use Rattle.std.proofs.Common.{◌≡◌, ◌≤◌, ◌-◌, ◌++◌, ◌∷◌
 use denote.Param.Send.{IsSync, sendable}
 use Rattle.std.proofs.Crossing.{crosses}
 use Rattle.fq_expr.proofs.expressions.Expr.TheLaws.TheKnot as knot
-use Rattle.fq_plan.specs.contracts.workers.LeadingSteps.{the_row}
+use Rattle.fq_plan.specs.contracts.leading_steps.LeadingSteps.{the_row}
 use Rattle.std.specs.Prelude.{All, IfOk}
 use Rattle.std.proofs.lemmas.Result.{err_from_is_err_and}
 use Rattle.fq_column.specs.Frame.{Fields}
@@ -15,15 +15,15 @@ use Rattle.fq_plan.specs.Feeding.{Feeding, MayCome}
 use Rattle.fq_plan.specs.GatheredRun.{HasGathered}
 use Rattle.fq_plan.specs.Plan.{Query, files_wanted}
 use Rattle.fq_plan.specs.Run.{IsEngineFault, engine_fault}
-use Rattle.fq_plan.specs.Stages.{checked_layout, query_of, Leads}
+use Rattle.fq_plan.specs.Stages.{query_of, Leads}
 use Rattle.fq_plan.specs.Standing.{TailTakes}
 use Rattle.fq_plan.specs.Working.{work_on}
 use Rattle.fq_plan.specs.declared.gathering.Gathered.{Gathered}
 use Rattle.fq_plan.specs.declared.stages.CheckedSource.{CheckedSource}
 use Rattle.fq_plan.specs.declared.stages.Stage.{Stage}
 use Rattle.fq_plan.proofs.GatheredLemmas.{has-gathered}
-use Rattle.fq_plan.proofs.OutcomeLemmas.{leads-over}
-use Rattle.fq_plan.proofs.StartLemmas.{count-layouts, join-count, length-opened, opened-open}
+use Rattle.fq_plan.proofs.CheckedOutcomeLemmas.{leads-over}
+use Rattle.fq_plan.proofs.RunStartLemmas.{count-layouts, join-count, length-opened, opened-open}
 use Rattle.fq_plan.proofs.checks.Checked.gather.Given.{Over}
 use Rattle.fq_plan.proofs.checks.Checked.gather.Goals as goal
 use Rattle.fq_plan.proofs.checks.Checked.gather.Goals.{After-as_slice, In_ok-outcome}
@@ -31,7 +31,7 @@ use Rattle.fq_plan.proofs.checks.Checked.gather.Goals.{After-as_slice, In_ok-out
 pub open_feeds-requires-clause-one_each : goal.open_feeds-requires-clause-one_each
 open_feeds-requires-clause-one_each g c =
     let s = c.self.inside in
-    let layouts = c.in_ok-layouts.ensures ∙ ap (λ (js : List CheckedSource). flat_map (λ (s : CheckedSource). replicate s.files (checked_layout s)) (js ++ c.self.inside.main ∷ [])) c.as_slice-joins.ensures.value in
+    let layouts = c.in_ok-layouts.ensures ∙ ap (λ (js : List CheckedSource). flat_map (λ (s : CheckedSource). replicate s.files s.layout) (js ++ c.self.inside.main ∷ [])) c.as_slice-joins.ensures.value in
     let count = ap length layouts ∙ count-layouts (s.joins.items ++ s.main ∷ []) s.leading.front s.stages.items s.inputs c.self.invariant.0 ∙ ap files_wanted c.self.view_is in
     omega (arith, count, c.requires.inputs, c.in_ok-layouts.layouts.ok.0)
 
@@ -65,8 +65,8 @@ finished g c =
     (subst (λ (r : Result Report RunFault). IfOk r (Done s.leading.join_files)) c.in_ok-outcome.was c.run_lanes-tail.ensures.done)
 
 -- the sources before the main one, of which nothing was taken
-sources-are : (g : Over) (c : After-as_slice g) → c.in_ok-sources.sources.items ≡ map (λ (s : CheckedSource). no_rows s.files s.schema) c.self.inside.joins.items
-sources-are g c = c.in_ok-sources.ensures ∙ ap (map (λ (s : CheckedSource). no_rows s.files s.schema)) c.as_slice-joins.ensures.value
+sources-are : (g : Over) (c : After-as_slice g) → c.in_ok-sources.sources.items ≡ map (λ (s : CheckedSource). no_rows s.files s.layout.schema) c.self.inside.joins.items
+sources-are g c = c.in_ok-sources.ensures ∙ ap (map (λ (s : CheckedSource). no_rows s.files s.layout.schema)) c.as_slice-joins.ensures.value
 
 pub new-waiting-requires : goal.new-waiting-requires
 new-waiting-requires g c =
@@ -94,7 +94,7 @@ returns-clause-gathered g c =
     (has-gathered (s.joins.items ++ s.main ∷ []) s.leading.front s.stages.items s.inputs checked joins main refl g.R.Read.remaining c.args.inputs.items c.args.batch_size c.in_ok-feeds.feeds.items
     c.new-tail.result c.run_lanes-tail.result.0 c.in_ok-outcome.field-0.trace.items
     (omega (arith, c.requires.batch_size.0)) count
-    (c.in_ok-feeds.ensures ∙ ap (λ fss. opened (g.R.Read.remaining) c.args.batch_size 0 fss c.args.inputs.items) (c.in_ok-layouts.ensures ∙ ap (λ (js : List CheckedSource). flat_map (λ (s : CheckedSource). replicate s.files (checked_layout s)) (js ++ c.self.inside.main ∷ [])) c.as_slice-joins.ensures.value))
+    (c.in_ok-feeds.ensures ∙ ap (λ fss. opened (g.R.Read.remaining) c.args.batch_size 0 fss c.args.inputs.items) (c.in_ok-layouts.ensures ∙ ap (λ (js : List CheckedSource). flat_map (λ (s : CheckedSource). replicate s.files s.layout) (js ++ c.self.inside.main ∷ [])) c.as_slice-joins.ensures.value))
     (c.new-tail.ensures.files ∙ c.self.invariant.1)
     (c.new-tail.ensures.waits s.stages.items _ _ (record {
       sources = c.new-waiting.ensures ∙ (λ i. record { joins = sources-are g (goal.at.returns-clause-gathered g c).After-as_slice i; before = (c.in_ok-before.ensures ∙ c.self.invariant.2) i; stages = c.as_slice.ensures.value i });

@@ -10,7 +10,7 @@ use Rattle.fq_plan.specs.Run.{IsOfMeaning, IsRunFault, Tell}
 use Rattle.fq_plan.specs.Sources.{file_streams}
 use Rattle.fq_plan.specs.declared.faults.Fault.{Fault}
 use Rattle.fq_plan.specs.declared.printed_text.PrintedText.{PrintedText}
-use Rattle.fq_plan.proofs.OutcomeLemmas.{sound-outcome}
+use Rattle.fq_plan.proofs.CheckedOutcomeLemmas.{sound-outcome}
 use Rattle.fq_plan.proofs.checks.Checked.outcome.Given.{Over}
 use Rattle.fq_plan.proofs.checks.Checked.outcome.Goals as goal
 use Rattle.fq_plan.proofs.checks.Checked.outcome.Goals.{In_ok-text}

@@ -2,7 +2,7 @@ use Rattle.std.proofs.Common.{◌≡◌, ◌++◌, ◌∷◌, [], suc, ◌+◌, 
 use Rattle.std.proofs.lemmas.List.{length-map, length-take-le, map-append}
 use Rattle.std.proofs.lemmas.Result.{err_from_is_err_and}
 use Rattle.fq_expr.specs.Kinds.{step_schema, steps_schema}
-use Rattle.fq_expr.specs.Meaning.{step_of}
+use Rattle.fq_expr.specs.ExpressionData.{step_of}
 use Rattle.fq_plan.specs.Judged.{judged_steps, refused_at}
 use Rattle.fq_plan.specs.Plan.{row_wise}
 use Rattle.fq_plan.specs.declared.faults.Place.TheVariants as place

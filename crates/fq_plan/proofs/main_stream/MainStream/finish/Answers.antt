@@ -3,7 +3,7 @@ use Rattle.std.proofs.lemmas.Result.{err_from_is_err_and}
 use Rattle.fq_column.specs.Frame.{Row}
 use Rattle.fq_csv.specs.Printed.{printed_rows}
 use Rattle.fq_plan.specs.Pipelines.{HasFinished, HasRun, PlanPart}
-use Rattle.fq_plan.specs.Running.{rows_in}
+use Rattle.fq_plan.specs.RunningOperators.{rows_in}
 use Rattle.fq_plan.specs.Streaming.{Streaming}
 use Rattle.fq_plan.proofs.OutcomeOfPipeline.{frame-at-end, fault-at-end}
 use Rattle.fq_plan.proofs.StandingLemmas.{printed-more}

@@ -6,7 +6,7 @@ use Rattle.fq_plan.specs.PrintedText.{text_of}
 use Rattle.fq_plan.specs.Pipelines.{HasRun, PlanPart}
 use Rattle.fq_plan.specs.Stages.{Leads, stage_steps}
 use Rattle.fq_plan.specs.declared.gathering.Gathered.{Gathered}
-use Rattle.fq_plan.proofs.FinishLemmas.{over-batches}
+use Rattle.fq_plan.proofs.SourceFaultLemmas.{over-batches}
 use Rattle.fq_plan.proofs.main_stream.MainStream.start.Goals as goal
 use Rattle.fq_plan.proofs.main_stream.MainStream.start.Goals.{In_ok-text}
 

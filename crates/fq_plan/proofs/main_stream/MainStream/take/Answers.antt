@@ -5,7 +5,7 @@ use Rattle.fq_column.specs.Stream.{Stream, done, then_stream}
 use Rattle.fq_csv.specs.Printed.{printed_rows}
 use Rattle.fq_plan.specs.Gathering.{added_stream}
 use Rattle.fq_plan.specs.Pipelines.{HasPushed, HasRun, PlanPart, meant}
-use Rattle.fq_plan.specs.Running.{IsUnder, passed_stream, rows_in}
+use Rattle.fq_plan.specs.RunningOperators.{IsUnder, passed_stream, rows_in}
 use Rattle.fq_plan.specs.Streaming.{Streaming}
 use Rattle.fq_plan.specs.declared.faults.Fault.{Fault}
 use Rattle.fq_plan.proofs.main_stream.MainStream.take.Goals as goal

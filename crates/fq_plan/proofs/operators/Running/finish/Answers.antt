@@ -1,5 +1,5 @@
 use Rattle.std.proofs.Common.{◌++◌, sym}
-use Rattle.fq_plan.specs.Running.{rows_in}
+use Rattle.fq_plan.specs.RunningOperators.{rows_in}
 use Rattle.fq_plan.proofs.PipelineLemmas.{group-kept}
 use Rattle.fq_plan.proofs.operators.Running.finish.Goals as goal
 

@@ -1,7 +1,7 @@
 use Rattle.std.proofs.Common.{None, ap, map, refl, string_bytes, subst}
 use Rattle.fq_column.specs.Frame.{Frame}
 use Rattle.fq_column.specs.Stream.{Stream}
-use Rattle.fq_ops.specs.Meaning.{outputs_of}
+use Rattle.fq_ops.specs.AggregateData.{outputs_of}
 use Rattle.fq_plan.specs.Stages.{Turns}
 use Rattle.fq_plan.specs.declared.faults.Fault.{Fault}
 use Rattle.fq_plan.specs.declared.stages.Operator.{Operator}

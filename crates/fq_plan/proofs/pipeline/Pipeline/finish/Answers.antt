@@ -1,7 +1,7 @@
 use Rattle.std.proofs.Common.{◌+◌, List, drop, get_or, arith, sym, subst, None}
 use Rattle.fq_plan.specs.declared.operators.Running.{Running}
 use Rattle.fq_plan.proofs.PipelineLemmas.{EndedSoFar, end-can, ended-all, ended-next, ended-start, split-next}
-use Rattle.fq_plan.proofs.RunningLemmas.{run-finished}
+use Rattle.fq_plan.proofs.PipelineStepLemmas.{run-finished}
 use Rattle.fq_plan.proofs.pipeline.Pipeline.finish.Goals as goal
 
 pub loop-running-init : goal.loop-running-init

@@ -1,7 +1,7 @@
 use Rattle.std.proofs.Common.{List, drop}
 use Rattle.fq_column.specs.Frame.{Fields, Row}
 use Rattle.fq_plan.specs.Transforms.{Chain, Transform}
-use Rattle.fq_plan.specs.Running.{HaveTaken}
+use Rattle.fq_plan.specs.RunningOperators.{HaveTaken}
 use Rattle.fq_plan.proofs.PipelineLemmas.{EndedSoFar}
 use Rattle.fq_plan.proofs.pipeline.Pipeline.finish.Given as goal
 

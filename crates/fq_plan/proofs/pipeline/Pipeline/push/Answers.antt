@@ -1,8 +1,8 @@
 use Rattle.std.proofs.Common.{◌+◌, List, [], take, drop, get_or, arith, sym, subst}
 use Rattle.fq_plan.specs.declared.operators.Running.{Running}
-use Rattle.fq_plan.specs.Running.{HavePassed}
+use Rattle.fq_plan.specs.RunningOperators.{HavePassed}
 use Rattle.fq_plan.proofs.PipelineLemmas.{PushedSoFar, kept-all, next-can, pushed-all, pushed-next, pushed-start, split-next}
-use Rattle.fq_plan.proofs.RunningLemmas.{run-can, run-pushed}
+use Rattle.fq_plan.proofs.PipelineStepLemmas.{run-can, run-pushed}
 use Rattle.fq_plan.proofs.pipeline.Pipeline.push.Goals as goal
 
 pub loop-running-init : goal.loop-running-init

@@ -1,7 +1,7 @@
 use Rattle.std.proofs.Common.{List, take, drop}
 use Rattle.fq_column.specs.Frame.{Fields, Row}
 use Rattle.fq_plan.specs.Transforms.{Transform}
-use Rattle.fq_plan.specs.Running.{CanTake}
+use Rattle.fq_plan.specs.RunningOperators.{CanTake}
 use Rattle.fq_plan.proofs.PipelineLemmas.{PushedSoFar}
 use Rattle.fq_plan.proofs.pipeline.Pipeline.push.Given as goal
 

@@ -1,10 +1,10 @@
 use Rattle.std.proofs.Common.{◌≡◌, List, length, map, arith, ap, sym, ◌∙◌, subst}
 use Rattle.fq_column.specs.Frame.{Fields}
-use Rattle.fq_csv.proofs.StepLemmas.{written-back}
+use Rattle.fq_column.proofs.BatchLemmas.{written}
 use Rattle.fq_plan.specs.Gathering.{taken_in}
 use Rattle.fq_plan.specs.Stages.{Leads}
 use Rattle.fq_plan.specs.declared.gathering.Gathered.{Gathered}
-use Rattle.fq_plan.proofs.RunLemmas.{columns-taken, length-taken}
+use Rattle.fq_plan.proofs.KeptSourceLemmas.{columns-taken, length-taken}
 use Rattle.fq_plan.proofs.waiting.Waiting.take.Goals as goal
 
 pub invariant_of-result : goal.invariant_of-result
@@ -14,7 +14,7 @@ invariant_of-result c =
     let new = c.take_in.new.sources in
     let now : new ≡ taken_in c.args.file c.args.item s.joins.items = c.in_ok-take_in.ensures ∙ ap (taken_in c.args.file c.args.item) c.as_mut_slice.ensures.value in
     let long : length new ≡ length s.joins.items = ap length now ∙ length-taken c.args.file c.args.item s.joins.items in
-    let whole = written-back s.joins.items new s.joins.len long (omega arith) in (
+    let whole = written s.joins.len new s.joins.items long (omega arith) in (
       i.0,
       (
         i.1.0,

@@ -8,9 +8,9 @@ use Rattle.fq_column.specs.Frame.{Fields, Frame, Row, put_named, names_of, posit
 use Rattle.fq_column.specs.Lists.{before_missing, first_missing, zip_with}
 use Rattle.fq_column.specs.Schema.{kind_named}
 use Rattle.fq_ops.specs.Roll.{rolled}
-use Rattle.fq_ops.proofs.FieldLemmas.{kind-found}
+use Rattle.fq_column.proofs.NameLemmas.{kind_named-at}
 use Rattle.fq_plan.specs.Transforms.{Transform}
-use Rattle.fq_plan.specs.Running.{HasSummed}
+use Rattle.fq_plan.specs.RunningOperators.{HasSummed}
 use Rattle.fq_plan.specs.declared.faults.Fault.TheVariants.{RollRange}
 use Rattle.fq_plan.proofs.StageLemmas.{roll-accepted}
 use Rattle.fq_plan.proofs.OperatorLemmas.{further, height-of-more, not-faulted, summed-kept, summed-next}
@@ -21,7 +21,7 @@ pub take-requires-clause-kind : goal.take-requires-clause-kind
 take-requires-clause-kind c =
     let m = c.requires.0 in let h = c.requires.1.1.2 in let s = c.args.self.now in
     let place : position_of h.column (names_of c.args.batch.fields) ≡ Some s.place = ap (λ (fs : Fields). position_of h.column (names_of fs)) (sym c.requires.1.1.0) ∙ h.place in
-    let found : kind_named c.args.batch.fields h.column ≡ Ok c.column.result.now.kind = kind-found c.args.batch.fields h.column s.place c.column.result.now.kind place c.column.ensures.kind in
+    let found : kind_named c.args.batch.fields h.column ≡ Ok c.column.result.now.kind = kind_named-at c.args.batch.fields h.column s.place c.column.result.now.kind place c.column.ensures.kind in
     let whole : kind_named c.args.batch.fields h.column ≡ Ok Whole = ap (λ (fs : Fields). kind_named fs h.column) (sym c.requires.1.1.0) ∙ (roll-accepted m.takes h.column s.rolling.window s.rolling.min_samples s.name.now h.accepted).kind in
     cc
 

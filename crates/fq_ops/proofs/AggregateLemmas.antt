@@ -1,0 +1,146 @@
+-- The running values of a group's rows are its aggregates, and values of their kinds.
+use Rattle.std.proofs.Common.{◌≡◌, ℕ, zero, suc, ◌-◌, Bool, true, false, List, [], ◌∷◌, fold, get_or, length, map, ℤ, pos, Option, Some, None, Result, Ok, Err, unwrap_or, refl, sym, ap, subst, ◌∙◌, true≢false, if◌then◌else◌}
+use Rattle.std.specs.Option.{option_map, option_map_or}
+use Rattle.std.specs.Ordering.{is_lt, is_gt}
+use Rattle.std.proofs.lemmas.Bool.{and_parts}
+use Rattle.std.proofs.lemmas.List.{length-map}
+use Rattle.fq_column.specs.declared.cells.Cell.{Cell}
+use Rattle.fq_column.specs.declared.cells.Cell.TheVariants.{Null, Whole}
+use Rattle.fq_column.specs.declared.cells.Kind.{Kind}
+use Rattle.fq_column.specs.declared.cells.Kind.TheVariants as kind
+use Rattle.fq_column.specs.declared.faults.StepFault.{StepFault}
+use Rattle.fq_column.specs.Cell.{cell_cmp, fits, fitted, has_kind, is_null, same_cell}
+use Rattle.fq_column.specs.Frame.{Fields, Name, Row, column_at, names_of, position_of, row_fits, same_name, value_at, value_named}
+use Rattle.fq_column.specs.Refusal.{and_then}
+use Rattle.fq_column.specs.Schema.{kind_named}
+use Rattle.fq_ops.specs.Aggregate.{Aggregate, sum_of, min_of, max_of, count_of, len, first_of_all, last_of_all, unique_of, aggregated, count, first_seen, greatest, int_sum, least, values, wholes}
+use Rattle.fq_ops.specs.Gathered.{place_named, running_of}
+use Rattle.fq_ops.specs.Group.{aggregate_kind, must_be_whole}
+use Rattle.fq_ops.specs.Running.{finished}
+use Rattle.fq_column.proofs.NameLemmas.{position-here, position-past, unnamed}
+use Rattle.fq_ops.proofs.JudgedFieldLemmas.{TellsName, tells-name}
+use Rattle.fq_ops.proofs.ProbeLemmas.{AllIn, AllIn-map}
+use Rattle.fq_ops.proofs.RunningLemmas.{best-all, count-finished, first-finished, last-finished, len-finished, max-finished, min-finished, sum-finished, unique-finished}
+
+-- ---- the column of a name
+
+module _ (fields : Fields) (n : Name) (k : Kind) (known : kind_named fields n ≡ Ok k) where
+  pub column-named : (rows : List Row) → column_at (place_named fields n) rows ≡ map (value_named fields n) rows
+  column-named rows = by (position_of n (names_of fields)) refl
+    where
+      by : (o : Option ℕ) → position_of n (names_of fields) ≡ o → column_at (place_named fields n) rows ≡ map (value_named fields n) rows
+      by (Some p) e = ap (λ o. map (value_at (unwrap_or o 0)) rows) e ∙ sym (ap (λ o. map (λ row. option_map_or (λ i. value_at i row) o Null) rows) e)
+      by None e = absurd (true≢false (sym (subst (TellsName fields n) known (tells-name fields n)) ∙ unnamed fields n e))
+
+-- the value of a row that fits is of its column's kind
+pub named-fits : (fields : Fields) (n : Name) (k : Kind) → kind_named fields n ≡ Ok k → (row : Row) → row_fits fields row ≡ true → has_kind k (value_named fields n row) ≡ true
+named-fits [] n k known row e = absurd (cc)
+named-fits (f ∷ fields) n k known [] e = absurd (true≢false (sym e))
+named-fits (f ∷ fields) n k known (c ∷ row) e = by (same_name n f.0) refl (λ h. named-fits fields n k h row both.1)
+  where
+    both : (has_kind f.1 c ≡ true) × (row_fits fields row ≡ true)
+    both = let p = and_parts (has_kind f.1 c) (row_fits fields row) e in (p.0, p.1)
+
+    later : (o : Option ℕ) → has_kind k (option_map_or (λ i. value_at i row) o Null) ≡ true → has_kind k (option_map_or (λ i. value_at i (c ∷ row)) (option_map suc o) Null) ≡ true
+    later None h = h
+    later (Some i) h = h
+
+    by : (b : Bool) → same_name n f.0 ≡ b → (kind_named fields n ≡ Ok k → has_kind k (value_named fields n row) ≡ true) → has_kind k (value_named (f ∷ fields) n (c ∷ row)) ≡ true
+    by true s rest =
+        let same : Ok f.1 ≡ Ok k = ap (λ b. if b then Ok f.1 else kind_named fields n) (sym s) ∙ known in
+        let here : f.1 ≡ k = cc in
+        ap (λ o. has_kind k (option_map_or (λ i. value_at i (c ∷ row)) o Null)) (position-here (same_name n) f.0 (names_of fields) s)
+        ∙ ap (λ l. has_kind l c) (sym here) ∙ both.0
+    by false s rest =
+        ap (λ o. has_kind k (option_map_or (λ i. value_at i (c ∷ row)) o Null)) (position-past (same_name n) f.0 (names_of fields) s)
+        ∙ later (position_of n (names_of fields)) (rest (ap (λ b. if b then Ok f.1 else kind_named fields n) (sym s) ∙ known))
+
+-- ---- running values are aggregates
+
+then-known : {X Y : Type 0} (r : Result X StepFault) (next : X → Result Y StepFault) (y : Y) → and_then r next ≡ Ok y → (x : X) × (r ≡ Ok x)
+then-known (Ok x) next y e = (x, refl)
+then-known (Err f) next y e = absurd (cc)
+
+pub running-is : (fields : Fields) (a : Aggregate) (k : Kind) → aggregate_kind fields a ≡ Ok k → (rows : List Row) → finished (running_of fields a rows) ≡ aggregated fields a rows
+running-is fields (sum_of n) k e rows =
+    let known = then-known (kind_named fields n) must_be_whole k e in
+    sum-finished (column_at (place_named fields n) rows) ∙ ap (λ cells. fitted (int_sum (wholes cells))) (column-named fields n known.0 known.1 rows)
+running-is fields (min_of n) k e rows = min-finished (column_at (place_named fields n) rows) ∙ ap (λ cells. Some (least cells)) (column-named fields n k e rows)
+running-is fields (max_of n) k e rows = max-finished (column_at (place_named fields n) rows) ∙ ap (λ cells. Some (greatest cells)) (column-named fields n k e rows)
+running-is fields (count_of n) k e rows =
+    let known = then-known (kind_named fields n) _ k e in
+    count-finished (column_at (place_named fields n) rows) ∙ ap (λ cells. Some (count (values cells))) (column-named fields n known.0 known.1 rows)
+running-is fields len k e rows = len-finished (column_at 0 rows) ∙ ap (λ m. Some (Whole (pos m))) (length-map rows (value_at 0))
+running-is fields (first_of_all n) k e rows = first-finished (column_at (place_named fields n) rows) ∙ ap (λ cells. Some (get_or cells 0 Null)) (column-named fields n k e rows)
+running-is fields (last_of_all n) k e rows =
+    last-finished (column_at (place_named fields n) rows) ∙ ap (λ m. Some (get_or (column_at (place_named fields n) rows) (m - 1) Null)) (length-map rows (value_at (place_named fields n)))
+    ∙ ap (λ cells. Some (get_or cells (length rows - 1) Null)) (column-named fields n k e rows)
+running-is fields (unique_of n) k e rows =
+    let known = then-known (kind_named fields n) _ k e in
+    unique-finished (column_at (place_named fields n) rows) ∙ ap (λ cells. Some (count (first_seen same_cell cells))) (column-named fields n known.0 known.1 rows)
+
+-- ---- aggregates are of their kinds
+
+abbrev Fitting : Kind → Cell → Type 0
+Fitting k c = has_kind k c ≡ true
+
+fitting-at : (k : Kind) (cells : List Cell) → AllIn (Fitting k) cells → (i : ℕ) → has_kind k (get_or cells i Null) ≡ true
+fitting-at k [] h i = refl
+fitting-at k (c ∷ cells) h zero = h.0
+fitting-at k (c ∷ cells) h (suc i) = fitting-at k cells h.1 i
+
+one-of : (k : Kind) (b : Bool) (x y : Cell) → Fitting k x → Fitting k y → Fitting k (if b then x else y)
+one-of k true x y h g = h
+one-of k false x y h g = g
+
+module _ (wins : Cell → Cell → Bool) where
+  abbrev picked : Cell → Cell → Cell
+  picked best cell = if is_null cell then best else if is_null best then cell else if wins cell best then cell else best
+
+  picked-fits : (k : Kind) (best : Cell) (cells : List Cell) → Fitting k best → AllIn (Fitting k) cells → Fitting k (fold picked best cells)
+  picked-fits k best [] b h = b
+  picked-fits k best (c ∷ cells) b h =
+      let pick = one-of k (is_null c) best (if is_null best then c else if wins c best then c else best) b
+      (one-of k (is_null best) c (if wins c best then c else best) h.0 (one-of k (wins c best) c best h.0 b)) in
+      picked-fits k (picked best c) cells pick h.1
+
+fitted-fits : (z : ℤ) → has_kind kind.Whole (unwrap_or (fitted z) Null) ≡ true
+fitted-fits z = by (fits z) refl
+  where
+    by : (b : Bool) → fits z ≡ b → has_kind kind.Whole (unwrap_or (fitted z) Null) ≡ true
+    by true e = ap (λ b. has_kind kind.Whole (unwrap_or (if b then Some (Whole z) else None) Null)) e
+    by false e = ap (λ b. has_kind kind.Whole (unwrap_or (if b then Some (Whole z) else None) Null)) e
+
+whole-only : (j k : Kind) → must_be_whole j ≡ Ok k → k ≡ kind.Whole
+whole-only kind.Whole k e = let same : Ok kind.Whole ≡ Ok k = e in cc
+whole-only kind.Text k e = absurd (cc)
+whole-only kind.Truth k e = absurd (cc)
+
+then-whole : (r : Result Kind StepFault) (k : Kind) → and_then r (λ j. Ok kind.Whole) ≡ Ok k → k ≡ kind.Whole
+then-whole (Ok j) k e = let same : Ok kind.Whole ≡ Ok k = e in cc
+then-whole (Err f) k e = absurd (cc)
+
+then-must : (r : Result Kind StepFault) (k : Kind) → and_then r must_be_whole ≡ Ok k → k ≡ kind.Whole
+then-must (Ok j) k e = whole-only j k e
+then-must (Err f) k e = absurd (cc)
+
+module _ (fields : Fields) (rows : List Row) (fit : AllIn (λ row. row_fits fields row ≡ true) rows) where
+  column-fits : (n : Name) (k : Kind) → kind_named fields n ≡ Ok k → AllIn (Fitting k) (map (value_named fields n) rows)
+  column-fits n k e = AllIn-map (Fitting k) (λ row. row_fits fields row ≡ true) (value_named fields n) (λ row h. named-fits fields n k e row h) rows fit
+
+  whole-fits : (k : Kind) (c : Cell) → k ≡ kind.Whole → has_kind kind.Whole c ≡ true → has_kind k c ≡ true
+  whole-fits k c e h = ap (λ l. has_kind l c) e ∙ h
+
+  pub aggregated-fits : (a : Aggregate) (k : Kind) → aggregate_kind fields a ≡ Ok k → has_kind k (unwrap_or (aggregated fields a rows) Null) ≡ true
+  aggregated-fits (sum_of n) k e = whole-fits k (unwrap_or (aggregated fields (sum_of n) rows) Null) (then-must (kind_named fields n) k e) (fitted-fits (int_sum (wholes (map (value_named fields n) rows))))
+  aggregated-fits (min_of n) k e =
+      let cells = map (value_named fields n) rows in
+      ap (has_kind k) (sym (best-all (λ a b. is_lt (cell_cmp a b)) cells)) ∙ picked-fits (λ a b. is_lt (cell_cmp a b)) k Null cells refl (column-fits n k e)
+  aggregated-fits (max_of n) k e =
+      let cells = map (value_named fields n) rows in
+      ap (has_kind k) (sym (best-all (λ a b. is_gt (cell_cmp a b)) cells)) ∙ picked-fits (λ a b. is_gt (cell_cmp a b)) k Null cells refl (column-fits n k e)
+  aggregated-fits (count_of n) k e = whole-fits k (unwrap_or (aggregated fields (count_of n) rows) Null) (then-whole (kind_named fields n) k e) refl
+  aggregated-fits len k e = let same : Ok kind.Whole ≡ Ok k = e in let is : k ≡ kind.Whole = cc in whole-fits k (unwrap_or (aggregated fields len rows) Null) is refl
+  aggregated-fits (first_of_all n) k e = fitting-at k (map (value_named fields n) rows) (column-fits n k e) 0
+  aggregated-fits (last_of_all n) k e = fitting-at k (map (value_named fields n) rows) (column-fits n k e) (length rows - 1)
+  aggregated-fits (unique_of n) k e = whole-fits k (unwrap_or (aggregated fields (unique_of n) rows) Null) (then-whole (kind_named fields n) k e) refl
