@@ -34,7 +34,7 @@ pub trait Spelled: Drop {
         ensures { IfOk result (λ o. option_map part_of o ≡ spelled_by version (view value.now)) };
 }
 
-/// The part that an object's member spells, or `None` if there is no such member, or if it is not a spelling of one.
+/// The part that an object's member spells. `None` if the object has no such member, or if its value is no spelling of a part.
 pub fn read_member<T: Spelled>(
     alloc: Global,
     version: Version,
