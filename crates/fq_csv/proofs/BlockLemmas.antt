@@ -7,16 +7,16 @@ use Rattle.std.proofs.lemmas.List.{get_or-drop, get_or-map, get_or_past, length-
 use Rattle.std.proofs.lemmas.Bool.{false_from_ne_true}
 use Rattle.std.proofs.lemmas.Nat.Bits.{bit_at_or}
 use Rattle.std.proofs.lemmas.Simd.{bit_mask_l, get_or-chunk}
-use Rattle.fq_csv.specs.Cutting.{NoQuote, NoneEnds, ends_field}
+use Rattle.fq_csv.specs.Cutting.{NoQuote, NoneStops, stops}
 
 pub le-or-lt : (i j : ℕ) → (i ≤ j) ⊎ (j < i)
 le-or-lt zero j = inl (omega arith)
 le-or-lt (suc i) zero = inr (omega arith)
 le-or-lt (suc i) (suc j) = elim (le-or-lt i j) [ inl l ↦ inl (omega (arith, l)) | inr l ↦ inr (omega (arith, l)) ]
 
--- the bits of the bytes that end a field
+-- the bits of the bytes that stop a search
 abbrev pub marks : List ℕ → ℕ
-marks xs = bit_or (bit_or (mask_l (map (λ b. b == 44) xs)) (mask_l (map (λ b. b == 13) xs))) (mask_l (map (λ b. b == 10) xs))
+marks xs = bit_or (bit_or (mask_l (map (λ b. b == 34) xs)) (mask_l (map (λ b. b == 13) xs))) (mask_l (map (λ b. b == 10) xs))
 
 any : (a b c : Bool) → max (max (cond a 1 0) (cond b 1 0)) (cond c 1 0) ≡ cond (a || (b || c)) 1 0
 any true true true = refl
@@ -28,21 +28,21 @@ any false true false = refl
 any false false true = refl
 any false false false = refl
 
-bit-marks : (xs : List ℕ) (k : ℕ) → bit_at (marks xs) k ≡ cond (get_or (map (λ b. b == 44) xs) k false || (get_or (map (λ b. b == 13) xs) k false || get_or (map (λ b. b == 10) xs) k false)) 1 0
+bit-marks : (xs : List ℕ) (k : ℕ) → bit_at (marks xs) k ≡ cond (get_or (map (λ b. b == 34) xs) k false || (get_or (map (λ b. b == 13) xs) k false || get_or (map (λ b. b == 10) xs) k false)) 1 0
 bit-marks xs k =
-    bit_at_or (bit_or (mask_l (map (λ b. b == 44) xs)) (mask_l (map (λ b. b == 13) xs))) (mask_l (map (λ b. b == 10) xs)) k
-    ∙ ap (λ n. max n (bit_at (mask_l (map (λ b. b == 10) xs)) k)) (bit_at_or (mask_l (map (λ b. b == 44) xs)) (mask_l (map (λ b. b == 13) xs)) k)
-    ∙ ap (λ n. max (max n (bit_at (mask_l (map (λ b. b == 13) xs)) k)) (bit_at (mask_l (map (λ b. b == 10) xs)) k)) (bit_mask_l (map (λ b. b == 44) xs) k)
-    ∙ ap (λ n. max (max (cond (get_or (map (λ b. b == 44) xs) k false) 1 0) n) (bit_at (mask_l (map (λ b. b == 10) xs)) k)) (bit_mask_l (map (λ b. b == 13) xs) k)
-    ∙ ap (λ n. max (max (cond (get_or (map (λ b. b == 44) xs) k false) 1 0) (cond (get_or (map (λ b. b == 13) xs) k false) 1 0)) n) (bit_mask_l (map (λ b. b == 10) xs) k)
-    ∙ any (get_or (map (λ b. b == 44) xs) k false) (get_or (map (λ b. b == 13) xs) k false) (get_or (map (λ b. b == 10) xs) k false)
+    bit_at_or (bit_or (mask_l (map (λ b. b == 34) xs)) (mask_l (map (λ b. b == 13) xs))) (mask_l (map (λ b. b == 10) xs)) k
+    ∙ ap (λ n. max n (bit_at (mask_l (map (λ b. b == 10) xs)) k)) (bit_at_or (mask_l (map (λ b. b == 34) xs)) (mask_l (map (λ b. b == 13) xs)) k)
+    ∙ ap (λ n. max (max n (bit_at (mask_l (map (λ b. b == 13) xs)) k)) (bit_at (mask_l (map (λ b. b == 10) xs)) k)) (bit_mask_l (map (λ b. b == 34) xs) k)
+    ∙ ap (λ n. max (max (cond (get_or (map (λ b. b == 34) xs) k false) 1 0) n) (bit_at (mask_l (map (λ b. b == 10) xs)) k)) (bit_mask_l (map (λ b. b == 13) xs) k)
+    ∙ ap (λ n. max (max (cond (get_or (map (λ b. b == 34) xs) k false) 1 0) (cond (get_or (map (λ b. b == 13) xs) k false) 1 0)) n) (bit_mask_l (map (λ b. b == 10) xs) k)
+    ∙ any (get_or (map (λ b. b == 34) xs) k false) (get_or (map (λ b. b == 13) xs) k false) (get_or (map (λ b. b == 10) xs) k false)
 
-here : (xs : List ℕ) (k : ℕ) → k < length xs → bit_at (marks xs) k ≡ cond (ends_field (get_or xs k 0)) 1 0
+here : (xs : List ℕ) (k : ℕ) → k < length xs → bit_at (marks xs) k ≡ cond (stops (get_or xs k 0)) 1 0
 here xs k lt =
     bit-marks xs k
-    ∙ ap (λ b. cond (b || (get_or (map (λ b. b == 13) xs) k false || get_or (map (λ b. b == 10) xs) k false)) 1 0) (get_or-map (λ b. b == 44) xs k 0 false lt)
-    ∙ ap (λ b. cond ((get_or xs k 0 == 44) || (b || get_or (map (λ b. b == 10) xs) k false)) 1 0) (get_or-map (λ b. b == 13) xs k 0 false lt)
-    ∙ ap (λ b. cond ((get_or xs k 0 == 44) || ((get_or xs k 0 == 13) || b)) 1 0) (get_or-map (λ b. b == 10) xs k 0 false lt)
+    ∙ ap (λ b. cond (b || (get_or (map (λ b. b == 13) xs) k false || get_or (map (λ b. b == 10) xs) k false)) 1 0) (get_or-map (λ b. b == 34) xs k 0 false lt)
+    ∙ ap (λ b. cond ((get_or xs k 0 == 34) || (b || get_or (map (λ b. b == 10) xs) k false)) 1 0) (get_or-map (λ b. b == 13) xs k 0 false lt)
+    ∙ ap (λ b. cond ((get_or xs k 0 == 34) || ((get_or xs k 0 == 13) || b)) 1 0) (get_or-map (λ b. b == 10) xs k 0 false lt)
 
 past : (p : ℕ → Bool) (xs : List ℕ) (k : ℕ) → length xs ≤ k → get_or (map p xs) k false ≡ false
 past p xs k low = get_or_past (map p xs) k false (omega (arith, low, length-map xs p))
@@ -50,7 +50,7 @@ past p xs k low = get_or_past (map p xs) k false (omega (arith, low, length-map 
 gone : (xs : List ℕ) (k : ℕ) → length xs ≤ k → bit_at (marks xs) k ≡ 0
 gone xs k low =
     bit-marks xs k
-    ∙ ap (λ b. cond (b || (get_or (map (λ b. b == 13) xs) k false || get_or (map (λ b. b == 10) xs) k false)) 1 0) (past (λ b. b == 44) xs k low)
+    ∙ ap (λ b. cond (b || (get_or (map (λ b. b == 13) xs) k false || get_or (map (λ b. b == 10) xs) k false)) 1 0) (past (λ b. b == 34) xs k low)
     ∙ ap (λ b. cond (b || get_or (map (λ b. b == 10) xs) k false) 1 0) (past (λ b. b == 13) xs k low)
     ∙ ap (λ b. cond b 1 0) (past (λ b. b == 10) xs k low)
 
@@ -65,29 +65,29 @@ set : (b : Bool) → bit_of b ≡ 1 → b ≡ true
 set true e = refl
 set false e = absurd (cc e)
 
-pub none-marked : (xs : List ℕ) → length xs ≡ 16 → marks xs ≡ 0 → NoneEnds xs 0 16
-none-marked xs size e i low high = unset (ends_field (get_or xs i 0)) (sym (here xs i (omega (arith, high, size))) ∙ ap (λ n. bit_at n i) e ∙ bit_mask_l [] i)
+pub none-marked : (xs : List ℕ) → length xs ≡ 16 → marks xs ≡ 0 → NoneStops xs 0 16
+none-marked xs size e i low high = unset (stops (get_or xs i 0)) (sym (here xs i (omega (arith, high, size))) ∙ ap (λ n. bit_at n i) e ∙ bit_mask_l [] i)
 
-pub first-marked : (xs : List ℕ) (i : ℕ) → length xs ≡ 16 → bit_at (marks xs) i ≡ 1 → ((k : ℕ) → k < i → bit_at (marks xs) k ≡ 0) → (i < 16) × NoneEnds xs 0 i × (ends_field (get_or xs i 0) ≡ true)
+pub first-marked : (xs : List ℕ) (i : ℕ) → length xs ≡ 16 → bit_at (marks xs) i ≡ 1 → ((k : ℕ) → k < i → bit_at (marks xs) k ≡ 0) → (i < 16) × NoneStops xs 0 i × (stops (get_or xs i 0) ≡ true)
 first-marked xs i size one before =
     let lt : i < length xs = elim (le-or-lt (length xs) i) [ inl ge ↦ absurd (cc (sym one ∙ gone xs i ge)) | inr l ↦ l ] in (
       omega (arith, lt, size),
-      λ k low high. unset (ends_field (get_or xs k 0)) (sym (here xs k (omega (arith, lt, high))) ∙ before k high),
-      set (ends_field (get_or xs i 0)) (sym (here xs i lt) ∙ one),
+      λ k low high. unset (stops (get_or xs k 0)) (sym (here xs k (omega (arith, lt, high))) ∙ before k high),
+      set (stops (get_or xs i 0)) (sym (here xs i lt) ∙ one),
     )
 
 -- no byte more ends the field
-pub none-more : (text : List ℕ) (from at n : ℕ) → n ≤ 16 → NoneEnds text from at → NoneEnds (chunk at 16 text) 0 n → NoneEnds text from (at + n)
+pub none-more : (text : List ℕ) (from at n : ℕ) → n ≤ 16 → NoneStops text from at → NoneStops (chunk at 16 text) 0 n → NoneStops text from (at + n)
 none-more text from at n few before more i low high = elim (le-or-lt at i) [
   | inr l ↦ before i low l
   | inl ge ↦
       let e : at + (i - at) ≡ i = omega (arith, ge) in
       let lt : i - at < n = omega (arith, high, ge) in
-      ap (λ k. ends_field (get_or text k 0)) (sym e) ∙ ap ends_field (sym (get_or-chunk at 16 text (i - at) 0 (omega (arith, lt, few)))) ∙ more (i - at) (omega arith) lt
+      ap (λ k. stops (get_or text k 0)) (sym e) ∙ ap stops (sym (get_or-chunk at 16 text (i - at) 0 (omega (arith, lt, few)))) ∙ more (i - at) (omega arith) lt
 ]
 
-pub ends-there : (text : List ℕ) (at i : ℕ) → i < 16 → ends_field (get_or (chunk at 16 text) i 0) ≡ true → ends_field (get_or text (at + i) 0) ≡ true
-ends-there text at i lt e = ap ends_field (sym (get_or-chunk at 16 text i 0 lt)) ∙ e
+pub stops-there : (text : List ℕ) (at i : ℕ) → i < 16 → stops (get_or (chunk at 16 text) i 0) ≡ true → stops (get_or text (at + i) 0) ≡ true
+stops-there text at i lt e = ap stops (sym (get_or-chunk at 16 text i 0 lt)) ∙ e
 
 -- ---- a search for a quote
 

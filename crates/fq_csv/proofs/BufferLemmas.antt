@@ -1,26 +1,22 @@
 -- Bytes that are read at the end of a text.
-use Rattle.std.specs.Prelude.{if◌then◌else◌, option_map, MatchBool, Result, Ok, Err, IfOk, OnOk}
+use Rattle.std.specs.Prelude.{option_map, Result, Ok, Err, IfOk}
 use Rattle.std.specs.List.{starts_with}
 use Rattle.std.proofs.lemmas.Bool.{cases_Bool}
 use Rattle.std.proofs.lemmas.Bool.Decides.{nat_tests}
-use Rattle.std.proofs.Common.{◌≡◌, ◌≤◌, ◌+◌, ◌-◌, ◌++◌, ◌∙◌, All, ◌⊎◌, inl, inr, ◌==◌, ◌&&◌, Bool, true, false, ℕ, zero, suc, List, [], ◌∷◌, length, take, drop, Option, Some, None, refl, sym, ap, subst, arith, append-nil, append_assoc}
-use Rattle.std.proofs.lemmas.List.{drop-append-le, length-append, length-drop, map-append, take-append-le, take_all}
+use Rattle.std.proofs.Common.{◌≡◌, ◌<◌, ◌≤◌, ◌+◌, ◌-◌, ◌++◌, ◌∙◌, ◌⊎◌, inl, inr, ◌==◌, ◌&&◌, Bool, true, false, ℕ, List, [], ◌∷◌, length, take, drop, Option, Some, None, refl, sym, ap, subst, arith, append-nil, append_assoc}
+use Rattle.std.proofs.lemmas.List.{drop-append-le, drop_all, length-append, length-drop, take-append-drop, take-append-le, take-take, take_all}
 use Rattle.std.proofs.Math.Seq.{take-append-add}
 use Rattle.csv.specs.Reading.{default_config, is_bom, records as records_of, strip_bom}
-use Rattle.fq_csv.proofs.RecordLemmas.{first-record, mapped, none-record}
-use Rattle.fq_csv.specs.Buffer.{KeepsFields, TakesNone, TakesRecord, unread_of}
+use Rattle.csv.specs.Machine.{next_record}
+use Rattle.csv.specs.declared.parser.State.TheVariants as st
+use Rattle.fq_csv.proofs.CuttingLemmas.{between-start, no-byte}
+use Rattle.fq_csv.proofs.RecordLemmas.{left-some, mapped, none-record, option-case}
+use Rattle.fq_csv.specs.Buffer.{Finds, TakesText, unread_of}
 use Rattle.fq_csv.specs.File.{Record}
-use Rattle.fq_csv.specs.Records.{IsOver, Takes, Unread, upcoming_of}
+use Rattle.fq_csv.specs.Records.{Takes, upcoming_of}
 use Rattle.fq_csv.specs.declared.buffers.Buffer.{Buffer}
-use Rattle.fq_csv.specs.Cutting.{CutsRecord, IsInside, between, field_at, fields_at, next_of, without_quotes}
-use Rattle.fq_csv.specs.declared.cutting.Place.{Place}
+use Rattle.fq_csv.specs.Cutting.{AreLast, AreRecords, between, next_of}
 use Rattle.std.specs.Io.KnownBytes.{Consumes, IsAtEnd, Keeps, prepend_known}
-
-take-within : (m n : ℕ) (xs : List ℕ) → m ≤ n → take m (take n xs) ≡ take m xs
-take-within zero n xs low = refl
-take-within (suc m) zero xs low = absurd (omega (arith, low))
-take-within (suc m) (suc n) [] low = refl
-take-within (suc m) (suc n) (x ∷ xs) low = ap (λ ys. x ∷ ys) (take-within m n xs (omega (arith, low)))
 
 -- a text with room after it begins as before
 pub front-grown : (old room : List ℕ) (len more : ℕ) → len ≡ length old → take len (take (len + more) old ++ room) ≡ old
@@ -33,7 +29,7 @@ front-grown old room len more n =
 pub front-read : (old front buffer after rest : List ℕ) (len count most : ℕ) → front ≡ old → len ≡ length old → count ≤ length buffer → len + count ≤ most →
     take (len + count) (take most ((front ++ (buffer ++ after)) ++ rest)) ≡ old ++ take count buffer
 front-read old front buffer after rest len count most e n fits low =
-    take-within (len + count) most ((front ++ (buffer ++ after)) ++ rest) low
+    take-take (len + count) most ((front ++ (buffer ++ after)) ++ rest) low
     ∙ ap (λ xs. take (len + count) ((xs ++ (buffer ++ after)) ++ rest)) e
     ∙ ap (λ k. take (k + count) ((old ++ (buffer ++ after)) ++ rest)) n
     ∙ ap (take (length old + count)) (append_assoc old (buffer ++ after) rest)
@@ -47,27 +43,17 @@ front-kept old front buffer after rest len most e n low =
     ∙ append-nil old
 
 -- the bytes that are left after a read are the same
-pub left-read : (old bytes : List ℕ) (at : ℕ) (known after : Option (List ℕ)) → at ≤ length old → Consumes known after bytes → Keeps (prepend_known (drop at old) known) (prepend_known (drop at (old ++ bytes)) after)
-left-read old bytes at None after low h = tt
-left-read old bytes at (Some xs) None low h = absurd h
-left-read old bytes at (Some xs) (Some ys) low h =
-    ap (λ zs. zs ++ ys) (drop-append-le at old bytes low) ∙ append_assoc (drop at old) bytes ys ∙ ap (λ zs. drop at old ++ zs) (sym h)
+pub left-read : (old bytes : List ℕ) (known after : Option (List ℕ)) → Consumes known after bytes → Keeps (prepend_known old known) (prepend_known (old ++ bytes) after)
+left-read old bytes None after h = tt
+left-read old bytes (Some xs) None h = absurd h
+left-read old bytes (Some xs) (Some ys) h = append_assoc old bytes ys ∙ ap (λ zs. old ++ zs) (sym h)
 
--- ---- places in a longer text
+-- ---- parts of a longer text
 
-between-same : (text more : List ℕ) (start end : ℕ) → start ≤ end → end ≤ length text → between (text ++ more) start end ≡ between text start end
+pub between-same : (text more : List ℕ) (start end : ℕ) → start ≤ end → end ≤ length text → between (text ++ more) start end ≡ between text start end
 between-same text more start end low high =
     ap (take (end - start)) (drop-append-le start text more (omega (arith, low, high)))
     ∙ take-append-le (end - start) (drop start text) more (omega (arith, length-drop start text, low, high))
-
-field-same : (text more : List ℕ) (p : Place) → IsInside (length text) p → field_at (text ++ more) p ≡ field_at text p
-field-same text more p h = ap (λ bytes. if p.is_raw then without_quotes bytes else bytes) (between-same text more p.start p.end h.0 h.1)
-
-pub fields-same : (text more : List ℕ) (ps : List Place) → All (IsInside (length text)) ps → fields_at (text ++ more) ps ≡ fields_at text ps
-fields-same text more [] h = refl
-fields-same text more (p ∷ ps) h =
-    ap (λ f. f ∷ fields_at (text ++ more) ps) (field-same text more p (h 0 p (omega arith)))
-    ∙ ap (λ fs. field_at text p ∷ fs) (fields-same text more ps (λ k d l. h (suc k) d (omega (arith, l))))
 
 -- ---- a byte order mark
 
@@ -127,55 +113,110 @@ module _ (old : Option (List ℕ)) (text : List ℕ) (known : Option (List ℕ))
   pub mark-not-there : has_mark text ≡ false → (3 ≤ length text) ⊎ IsAtEnd known → Keeps (option_map strip_bom old) (prepend_known text known)
   mark-not-there e h = subst (λ k. Keeps (option_map strip_bom old) k) (mark-missing text known e h) (strip-keeps old (prepend_known text known) kept)
 
--- ---- the record that is cut
+-- ---- the records that were found
 
--- the first bytes that are left are a record
-pub took : (old : Option (List ℕ)) (text : List ℕ) (at next : ℕ) (known : Option (List ℕ)) (is_last : Bool) (before after : List Place) → Keeps old (prepend_known (drop at text) known) → (is_last ≡ true → IsAtEnd known) →
-    (cut : CutsRecord text at is_last before next after) → (bytes : List ℕ) → old ≡ Some bytes →
-    (rest : List ℕ) × (prepend_known (drop next text) known ≡ Some rest) × (records_of default_config bytes ≡ fields_at text cut.places ∷ records_of default_config rest)
-took None text at next known is_last before after kept end cut bytes e = cc e
-took (Some b) text at next None is_last before after kept end cut bytes e = absurd kept
-took (Some b) text at next (Some more) is_last before after kept end cut bytes e =
-    let r = cut.record_is more end in
-    let same : bytes ≡ drop at text ++ more = (let z : bytes ≡ b = cc in z) ∙ sym kept in
-    (drop next text ++ more, refl, ap (records_of default_config) same ∙ first-record (drop at text ++ more) (drop next text ++ more) (fields_at text cut.places) r.0 r.1 r.2)
+module _ (rest : List ℕ) (end wanted count : ℕ) (is_last : Bool) (rs : List Record) (high : end ≤ length rest) (number : length rs ≡ count) (whole : AreRecords (between rest 0 end) rs) where
+  first : AreRecords (take end rest) rs
+  first = subst (λ xs. AreRecords xs rs) (between-start rest end) whole
 
--- no byte that is left starts a record
-pub took-none : (old : Option (List ℕ)) (text : List ℕ) (at : ℕ) (known : Option (List ℕ)) → Keeps old (prepend_known (drop at text) known) → IsAtEnd known → next_of (drop at text) ≡ None →
-    (bytes : List ℕ) → old ≡ Some bytes → records_of default_config bytes ≡ []
-took-none None text at known kept end none bytes e = cc e
-took-none (Some b) text at None kept end none bytes e = absurd kept
-took-none (Some b) text at (Some more) kept end none bytes e =
-    let same : bytes ≡ drop at text = (let z : bytes ≡ b = cc in z) ∙ sym kept ∙ ap (λ xs. drop at text ++ xs) end ∙ append-nil (drop at text) in
-    ap (records_of default_config) same ∙ none-record (drop at text) none
+  -- as many as are wanted
+  pub finds-all : count ≡ wanted → Finds rest is_last wanted end count
+  finds-all e = record { high = high; few = omega (arith, e); rs = rs; number = number; are = inl first; last = λ l. absurd (omega (arith, l, e)) }
+
+  -- no other is left
+  pub finds-last : count < wanted → is_last ≡ true → AreLast (drop end rest) false → Finds rest is_last wanted end count
+  finds-last few last none = record { high = high; few = omega (arith, few); rs = rs; number = number; are = inl first; last = λ l. (last, none) }
+
+  -- one more ends with the file
+  pub finds-open : count < wanted → is_last ≡ true → AreLast (drop end rest) true → Finds rest is_last wanted (length rest) (count + 1)
+  finds-open few last one = record {
+    high = omega arith;
+    few = omega (arith, few);
+    rs = rs ++ one.0 ∷ [];
+    number = length-append rs (one.0 ∷ []) ∙ ap (λ n. n + 1) number;
+    are = inr (last, refl, ap (records_of default_config) (sym (take-append-drop end rest)) ∙ first (drop end rest) ∙ ap (λ xs. rs ++ xs) one.1);
+    last = λ l. (last, ap (records_of default_config) (drop_all (length rest) rest (omega arith)) ∙ none-record [] no-byte);
+  }
+
+-- ---- the text of a run
+
+-- no mark begins a line feed
+pub unmarked : (xs : List ℕ) → strip_bom (10 ∷ xs) ≡ 10 ∷ xs
+unfolding strip_bom
+unmarked [] = refl
+unmarked (a ∷ []) = refl
+unmarked (a ∷ b ∷ xs) = refl
+
+line-first : (xs : List ℕ) → next_of (10 ∷ xs) ≡ next_of xs
+unfolding next_record
+line-first xs = refl
+
+-- an empty line is no record
+pub after-line : (xs : List ℕ) → records_of default_config (10 ∷ xs) ≡ records_of default_config xs
+after-line xs = elim (option-case (next_of xs)) [
+  | inl e ↦ none-record (10 ∷ xs) (line-first xs ∙ e) ∙ sym (none-record xs e)
+  | inr (p, e) ↦ left-some st.StartRecord (10 ∷ xs) p (line-first xs ∙ e) ∙ sym (left-some st.StartRecord xs p e)
+]
+
+module _ (rest : List ℕ) (len wanted count : ℕ) (is_last : Bool) (found : Finds rest is_last wanted len count) where
+  -- the records of the part are those that were found
+  pub part-is : records_of default_config (10 ∷ take len rest) ≡ found.rs
+  part-is = after-line (take len rest) ∙ elim found.are [
+    | inl whole ↦
+        ap (records_of default_config) (sym (append-nil (take len rest)))
+        ∙ whole []
+        ∙ ap (λ xs. found.rs ++ xs) (none-record [] no-byte)
+        ∙ append-nil found.rs
+    | inr last ↦ ap (records_of default_config) (take_all len rest (omega (arith, last.1))) ∙ last.2
+  ]
+
+  all-are : (more : List ℕ) → (is_last ≡ true → more ≡ []) → records_of default_config (rest ++ more) ≡ records_of default_config (10 ∷ take len rest) ++ records_of default_config (drop len rest ++ more)
+  all-are more last =
+      (elim found.are [
+        | inl whole ↦
+            ap (λ xs. records_of default_config (xs ++ more)) (sym (take-append-drop len rest))
+            ∙ ap (records_of default_config) (append_assoc (take len rest) (drop len rest) more)
+            ∙ whole (drop len rest ++ more)
+        | inr closed ↦
+            let no-more : more ≡ [] = last closed.0 in
+            let none : drop len rest ++ more ≡ [] = ap (λ xs. xs ++ more) (drop_all len rest (omega (arith, closed.1))) ∙ no-more in
+            ap (λ xs. records_of default_config (rest ++ xs)) no-more
+            ∙ ap (records_of default_config) (append-nil rest)
+            ∙ closed.2
+            ∙ sym (append-nil found.rs)
+            ∙ ap (λ xs. found.rs ++ xs) (sym (none-record [] no-byte) ∙ ap (records_of default_config) (sym none))
+      ])
+      ∙ ap (λ xs. xs ++ records_of default_config (drop len rest ++ more)) (sym part-is)
+
+  pub took : (old known : Option (List ℕ)) → Keeps old (prepend_known rest known) → (is_last ≡ true → IsAtEnd known) → (bytes : List ℕ) → old ≡ Some bytes →
+      (after : List ℕ) × (prepend_known (drop len rest) known ≡ Some after)
+      × (records_of default_config bytes ≡ records_of default_config (10 ∷ take len rest) ++ records_of default_config after)
+      × (count < wanted → records_of default_config after ≡ [])
+  took None known kept last bytes e = cc e
+  took (Some b) None kept last bytes e = absurd kept
+  took (Some b) (Some more) kept last bytes e =
+      let same : bytes ≡ rest ++ more = (let z : bytes ≡ b = cc in z) ∙ sym kept in (
+        drop len rest ++ more,
+        refl,
+        ap (records_of default_config) same ∙ all-are more last,
+        λ few. (let none = found.last few in ap (λ xs. records_of default_config (drop len rest ++ xs)) (last none.0) ∙ ap (records_of default_config) (append-nil (drop len rest)) ∙ none.1),
+      )
 
 -- ---- the records of a buffer
 
-module _ {R : Type 0} (remaining : R → Option (List ℕ)) (old new : Buffer R) (before after : List Place) where
-  abbrev pub seen : Buffer R → List Place → Unread
-  seen b places = record { file = b.file; taken = fields_at b.text.items places; upcoming = upcoming_of remaining b; stopped = b.has_failed }
+pub takes : {R : Type 0} (remaining : R → Option (List ℕ)) (old new : Buffer R) (wanted : ℕ) (text : List ℕ) (count : ℕ) → TakesText remaining old new wanted text count
+    → Takes (record { file = old.file; upcoming = upcoming_of remaining old; stopped = old.has_failed }) wanted text count (record { file = new.file; upcoming = upcoming_of remaining new; stopped = new.has_failed })
+takes remaining old new wanted text count t = record {
+  unmarked = t.unmarked;
+  few = t.few;
+  number = t.number;
+  rest = λ before e.
+      let m = mapped (records_of default_config) (unread_of remaining old) before e in
+      let r = t.rest m.0 m.1 in
+      (records_of default_config r.0, ap (option_map (records_of default_config)) r.1, m.2 ∙ r.2, r.3);
+}
 
-  found : TakesRecord remaining old new before after → KeepsFields old new before → (fields : Record) × Takes (seen old before) fields (seen new after)
-  found t kept =
-      let text = new.text.items in (
-        fields_at text t.places,
-        record {
-          added = ap (fields_at text) t.added ∙ map-append (field_at text) before t.places ∙ ap (λ (fs : Record). fs ++ fields_at text t.places) kept;
-          first = λ records e.
-              let m = mapped (records_of default_config) (unread_of remaining old) records e in
-              let r = t.record_is m.0 m.1 in
-              (records_of default_config r.0, m.2 ∙ r.2, ap (option_map (records_of default_config)) r.1);
-        },
-      )
-
-  over : TakesNone remaining old before after → KeepsFields old new before → IsOver (seen old before) (seen new after)
-  over t kept = record {
-    same = ap (fields_at new.text.items) t.same ∙ kept;
-    none = λ records e. let m = mapped (records_of default_config) (unread_of remaining old) records e in m.2 ∙ t.none m.0 m.1;
-  }
-
-  pub advanced : {E : Type 0} (result : Result Bool E) → IfOk result (λ b. MatchBool b (TakesRecord remaining old new before after) (TakesNone remaining old before after)) → OnOk result (KeepsFields old new before)
-      → IfOk result (λ b. MatchBool b ((fields : Record) × Takes (seen old before) fields (seen new after)) (IsOver (seen old before) (seen new after)))
-  advanced (Ok true) h k = found h k
-  advanced (Ok false) h k = over h k
-  advanced (Err e) h k = tt
+pub taken : {R : Type 0} (remaining : R → Option (List ℕ)) (old new : Buffer R) (wanted : ℕ) {V E : Type 0} (items : V → List ℕ) (result : Result (V × ℕ) E) → IfOk result (λ r. TakesText remaining old new wanted (items r.0) r.1)
+    → IfOk result (λ r. Takes (record { file = old.file; upcoming = upcoming_of remaining old; stopped = old.has_failed }) wanted (items r.0) r.1 (record { file = new.file; upcoming = upcoming_of remaining new; stopped = new.has_failed }))
+taken remaining old new wanted items (Ok r) h = takes remaining old new wanted (items r.0) r.1 h
+taken remaining old new wanted items (Err e) h = tt

@@ -1,9 +1,9 @@
 -- The stream of a file, record by record.
-use Rattle.std.proofs.Common.{◌≡◌, ◌≢◌, ◌<◌, ◌≤◌, ◌+◌, ◌++◌, ℕ, List, [], ◌∷◌, true, false, Option, Ok, Err, length, refl, sym, ap, arith, ◌∙◌}
+use Rattle.std.proofs.Common.{◌≡◌, ◌≢◌, ◌≤◌, ◌+◌, ℕ, List, [], ◌∷◌, true, false, Option, Ok, Err, length, refl, sym, ap, arith, ◌∙◌}
 use Rattle.std.specs.Prelude.{◌==◌, zip, Result}
 use Rattle.std.specs.List.{range_with_len}
-use Rattle.std.proofs.lemmas.List.{append-nil, append_assoc, length-map}
-use Rattle.std.proofs.lemmas.Bool.{le-ltb, lt-ltb}
+use Rattle.std.proofs.lemmas.List.{append-nil, length-map}
+use Rattle.std.proofs.lemmas.Bool.{le-ltb}
 use Rattle.std.proofs.lemmas.Bool.Decides.{nat_tests}
 use Rattle.fq_column.specs.declared.cells.Kind.{Kind}
 use Rattle.fq_column.specs.Column.{Cells}
@@ -15,7 +15,7 @@ use Rattle.fq_csv.specs.File.{Record, row_of, rows_after}
 use Rattle.fq_csv.specs.Rows.{Holds, row_by_kinds}
 use Rattle.fq_csv.specs.declared.layouts.Layout.{Layout}
 use Rattle.fq_csv.specs.declared.faults.ScanFault.{ScanFault}
-use Rattle.fq_csv.specs.declared.faults.ScanFault.TheVariants.{BadCell, TooLong, Width}
+use Rattle.fq_csv.specs.declared.faults.ScanFault.TheVariants.{BadCell, Width}
 
 -- ---- one record
 
@@ -31,10 +31,7 @@ one-fault : {X F : Type 0} (step : X → Result (List Row) F) (x : X) (xs : List
 one-fault step x xs fault e = rw (e, one_by_one) refl
 
 module _ (file : ℕ) (layout : Layout) (limit : ℕ) where
-  row-long : (n : ℕ) (fs : Record) → limit < n → row_of file layout limit n fs ≡ Err (TooLong file)
-  row-long n fs h = rw (lt-ltb limit n h) refl
-
-  row-width : (n : ℕ) (fs : Record) → n ≤ limit → length fs ≢ length layout.schema → row_of file layout limit n fs ≡ Err (Width file n)
+  pub row-width : (n : ℕ) (fs : Record) → n ≤ limit → length fs ≢ length layout.schema → row_of file layout limit n fs ≡ Err (Width file n)
   row-width n fs h w = let e : (length fs == length layout.schema) ≡ false = grind (arith, nat_tests) in rw (le-ltb limit n h, e) refl
 
   pub row-bad : (n : ℕ) (fs : Record) (i : ℕ) → n ≤ limit → length fs ≡ length layout.schema → row_by_kinds layout.nulls (kinds_of layout.schema) fs ≡ Err i → row_of file layout limit n fs ≡ Err (BadCell file n i)
@@ -60,9 +57,6 @@ module _ (file : ℕ) (layout : Layout) (limit : ℕ) where
   after-fault n fs rs fault e = one-fault (λ (p : ℕ × Record). row_of file layout limit p.0 p.1) (n + 1, fs) (zip (range_with_len (n + 1 + 1) (length rs)) rs) fault e
 
 -- ---- rows before a stream
-
-pub then-row : (rows : List Row) (row : Row) (u : Stream ScanFault) → then_stream (done rows) (then_stream (done (row ∷ [])) u) ≡ then_stream (done (rows ++ row ∷ [])) u
-then-row rows row u = ap (λ rs. let v : Stream ScanFault = record { rows = rs; fault = u.fault } in v) (sym (append_assoc rows (row ∷ []) u.rows))
 
 pub then-end : (rows : List Row) (fault : Option ScanFault) → ◌≡◌ {A = Stream ScanFault} (then_stream (done rows) (record { rows = []; fault = fault })) (record { rows = rows; fault = fault })
 then-end rows fault = ap (λ rs. let v : Stream ScanFault = record { rows = rs; fault = fault } in v) (append-nil rows)

@@ -1,11 +1,16 @@
 -- The names of a schema, and the fields of a record.
-use Rattle.std.specs.Prelude.{slice_get, nat_eq}
-use Rattle.std.proofs.Common.{◌≡◌, ◌≢◌, ◌<◌, ℕ, zero, suc, List, [], ◌∷◌, Bool, true, false, Option, Some, length, refl, sym, arith, inl, inr}
+use Rattle.std.specs.Prelude.{slice_get, nat_eq, option_map}
+use Rattle.std.proofs.Common.{◌≡◌, ◌≢◌, ◌<◌, ℕ, zero, suc, ◌++◌, ◌∙◌, ap, List, [], ◌∷◌, Bool, true, false, Option, Some, length, refl, sym, arith, inl, inr}
 use Rattle.std.specs.Prelude.{◌&&◌, not}
 use Rattle.std.specs.Cmp.Lexicographic.{pointwise, bytes_decides}
 use Rattle.std.proofs.lemmas.Bool.{cases_Bool, false_from_ne_true}
 use Rattle.fq_column.specs.Frame.{Name, same_name}
+use Rattle.csv.specs.Reading.{default_config, records}
+use Rattle.fq_column.specs.Frame.{Fields, names_of}
 use Rattle.fq_csv.specs.File.{Record}
+use Rattle.fq_csv.specs.RecordScan.{OpensBy}
+use Rattle.fq_csv.specs.Records.{Takes, Unread}
+use Rattle.fq_csv.specs.Taking.{records_after, records_under_header}
 
 abbrev pub same_names : List Name → Record → Bool
 same_names names fs = pointwise same_name names fs
@@ -42,8 +47,22 @@ bytes-differ x y t e = let h = (bytes_decides x y).1 e in cc (rw h at t)
 pub bytes-same : (x y : List ℕ) → false ≡ not (pointwise nat_eq x y) → x ≡ y
 bytes-same x y t = elim (cases_Bool (pointwise nat_eq x y)) [ inl h ↦ (bytes_decides x y).0 h | inr h ↦ cc (rw h at t) ]
 
--- the name at a place
-pub name-there : (names : List Name) (i : ℕ) → i < length names → (x : List ℕ) × (slice_get names i ≡ Some x)
-name-there [] i h = absurd (omega (arith, h))
-name-there (x ∷ xs) zero h = (x, refl)
-name-there (x ∷ xs) (suc i) h = name-there xs i (omega (arith, h))
+-- ---- the header
+
+pub only-one : (rs : List Record) → length rs ≡ 1 → (r : Record) × (rs ≡ r ∷ [])
+only-one [] e = absurd (omega (arith, e))
+only-one (r ∷ []) e = (r, refl)
+only-one (r ∷ x ∷ rs) e = absurd (omega (arith, e))
+
+pub opens : (fields : Fields) (old new : Unread) (text : List ℕ) (count : ℕ) → Takes old 1 text count new → count ≡ 1 → (is : Bool)
+    → ((r : Record) → records default_config text ≡ r ∷ [] → is ≡ same_names (names_of fields) r) → OpensBy fields old new is
+opens fields old new text count t one true same = λ limit before e.
+    let r = t.rest before e in
+    let first = only-one (records default_config text) (t.number ∙ one) in
+    let all : before ≡ first.0 ∷ r.0 = r.2 ∙ ap (λ xs. xs ++ r.0) first.1 in
+    ap (option_map (records_after old.file limit 0)) r.1 ∙ sym (ap (λ rs. Some (records_under_header old.file fields limit rs)) all ∙ rw (sym (same first.0 first.1)) refl)
+opens fields old new text count t one false same = λ limit before e.
+    let r = t.rest before e in
+    let first = only-one (records default_config text) (t.number ∙ one) in
+    let all : before ≡ first.0 ∷ r.0 = r.2 ∙ ap (λ xs. xs ++ r.0) first.1 in
+    ap (records_under_header old.file fields limit) all ∙ rw (sym (same first.0 first.1)) refl

@@ -1,7 +1,7 @@
 mod DigitLemmas
 pub mod FieldReadingLemmas
 pub mod BufferLemmas
-pub mod MachineLemmas
+pub mod CuttingLemmas
 pub mod BlockLemmas
 pub mod RecordLemmas
 pub mod HeldRowLemmas
@@ -11,8 +11,8 @@ pub mod CellLemmas
 pub mod RecordStepLemmas
 pub mod ScanLemmas
 pub mod HeaderLemmas
-pub mod FieldTextLemmas
 pub mod PrintLemmas
 pub mod FrameLemmas
 pub mod HandedOutLemmas
 pub mod OnLiterals
+pub mod TextRowLemmas

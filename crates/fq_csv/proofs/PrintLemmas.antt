@@ -1,14 +1,12 @@
 -- A record that is written field by field, and rows that are written one after the other.
 use Rattle.std.specs.Prelude.{◌==◌, ◌&&◌, ◌||◌, not, slice_get, slice_index_or}
-use Rattle.std.proofs.Common.{◌≡◌, ◌<◌, ◌+◌, ◌++◌, ◌∙◌, ℕ, zero, suc, List, [], ◌∷◌, Option, Some, length, map, take, get_or, refl, sym, ap, subst, arith, append_assoc, append-nil, length-append}
-use Rattle.std.proofs.lemmas.Bool.{eq-eqb, ne_eqb}
+use Rattle.std.proofs.Common.{◌≡◌, ◌<◌, ◌+◌, ◌++◌, ◌∙◌, ℕ, zero, suc, List, [], ◌∷◌, Option, Some, length, map, take, get_or, refl, sym, ap, subst, arith}
 use Rattle.std.specs.Io.KnownBytes.{Appends}
-use Rattle.csv.specs.Writing.{default_writer, field_text, fields_text, fields_written, has_written, is_blank, next_sep, row_body, row_text, text_written, writer_setup}
-use Rattle.csv.specs.declared.writer.WriterBuilder.{WriterBuilder}
+use Rattle.csv.specs.Writing.{default_writer, field_text, fields_written, has_written, is_blank, next_sep, row_body, text_written, writer_setup}
 use Rattle.csv.specs.declared.writer.Writer.{Writer}
 use Rattle.csv.proofs.WriteFacts.{appends-more, appends-none, blank-step, row-step}
 use Rattle.fq_column.specs.Frame.{Frame, IsFrame, Row, column_at, value_at}
-use Rattle.fq_csv.specs.Printed.{cell_text, record_end}
+use Rattle.fq_csv.specs.Printed.{cell_text}
 use Rattle.fq_csv.specs.Writing.{IsBetween, PutsField}
 use lib.Pointwise.{pointwise_long}
 
@@ -58,37 +56,3 @@ pub cell-of_column : (rows : List Row) (r i : ℕ) → r < length rows → value
 cell-of_column [] r i h = absurd (omega (arith, h))
 cell-of_column (row ∷ rows) zero i h = refl
 cell-of_column (row ∷ rows) (suc r) i h = cell-of_column rows r i (omega (arith, h))
-
--- ---- a record that is appended to a text
-
--- a record shows no byte exactly if its fields and what is between them have none
-blank-body : (cfg : WriterBuilder) (fields : List (List ℕ)) → is_blank cfg fields ≡ (length (row_body cfg fields) == 0)
-unfolding is_blank fields_text
-blank-body cfg [] = refl
-blank-body cfg (field ∷ []) = ap (λ t. length t == 0) (sym (append-nil (field_text cfg field)))
-blank-body cfg (field ∷ next ∷ rest) =
-    let tail = cfg.delimiter ∷ (field_text cfg next ++ fields_text cfg rest) in
-    sym (ne_eqb (length (field_text cfg field ++ tail)) 0 (λ e. absurd (omega (arith, e, length-append (field_text cfg field) tail))))
-
--- one more field
-pub body-more : (old now mid new : List ℕ) (fields : List (List ℕ)) (i : ℕ) (field : List ℕ) → i < length fields → get_or fields i [] ≡ field
-    → now ≡ old ++ row_body default_writer (take i fields) → mid ≡ now ++ next_sep default_writer i → new ≡ mid ++ field_text default_writer field
-    → new ≡ old ++ row_body default_writer (take (i + 1) fields)
-body-more old now mid new fields i field below same body separator text =
-    let done = row_body default_writer (take i fields) in
-    let more = next_sep default_writer i ++ field_text default_writer field in
-    text ∙ ap (λ t. t ++ field_text default_writer field) separator ∙ append_assoc now (next_sep default_writer i) (field_text default_writer field)
-    ∙ ap (λ t. t ++ more) body ∙ append_assoc old done more
-    ∙ ap (λ t. old ++ t) (ap (λ f. done ++ (next_sep default_writer i ++ field_text default_writer f)) (sym same) ∙ sym (row-step default_writer fields i below))
-
-same-length : (n k : ℕ) → (n + k == n) ≡ (k == 0)
-same-length n zero = eq-eqb (n + 0) n (omega arith)
-same-length n (suc k) = ne_eqb (n + suc k) n (λ e. absurd (omega (arith, e))) ∙ sym (ne_eqb (suc k) 0 (λ e. absurd (omega (arith, e))))
-
--- all its fields, and its end
-pub record-ended : (old now new : List ℕ) (fields : List (List ℕ)) (m n : ℕ) → m ≡ length now → n ≡ length old → now ≡ old ++ row_body default_writer fields → new ≡ now ++ record_end (m == n)
-    → new ≡ old ++ row_text default_writer fields
-record-ended old now new fields m n long start body ended =
-    let all = row_body default_writer fields in
-    let none : (m == n) ≡ is_blank default_writer fields = ap (λ k. k == n) (long ∙ ap length body ∙ length-append old all ∙ ap (λ k. k + length all) (sym start)) ∙ same-length n (length all) ∙ sym (blank-body default_writer fields) in
-    ended ∙ ap (λ t. t ++ record_end (m == n)) body ∙ append_assoc old all (record_end (m == n)) ∙ ap (λ b. old ++ (all ++ record_end b)) none

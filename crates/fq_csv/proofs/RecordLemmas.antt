@@ -11,7 +11,7 @@ use Rattle.csv.specs.declared.parser.State.TheVariants as st
 use Rattle.fq_csv.specs.Cutting.{IsBetween, next_of}
 
 -- the records of the bytes that are left, from a state of the parser
-abbrev records_left : State → List ℕ → List (List (List ℕ))
+abbrev pub records_left : State → List ℕ → List (List (List ℕ))
 records_left s bytes = records_from default_config (length bytes + 1) s bytes
 
 -- a record takes bytes, or is the last one of an empty rest
@@ -38,7 +38,7 @@ unfolding records_from next_record
 none-left cfg zero = refl
 none-left cfg (suc n) = refl
 
-option-case : {A : Type 0} (o : Option A) → (o ≡ None) ⊎ ((p : A) × (o ≡ Some p))
+pub option-case : {A : Type 0} (o : Option A) → (o ≡ None) ⊎ ((p : A) × (o ≡ Some p))
 option-case None = inl refl
 option-case (Some p) = inr (p, refl)
 
@@ -57,14 +57,14 @@ enough cfg (suc n) (suc m) s xs a b =
     ]
 
 -- the records that are left, if there is a next one
-left-some : (s : State) (xs : List ℕ) (p : Read) → next_record default_config s [] [] xs ≡ Some p → records_left s xs ≡ p.0 ∷ records_left p.1 p.2
+pub left-some : (s : State) (xs : List ℕ) (p : Read) → next_record default_config s [] [] xs ≡ Some p → records_left s xs ≡ p.0 ∷ records_left p.1 p.2
 unfolding records_from next_record
 left-some s xs p e = rw (add-one, e) (elim (next-shorter default_config s [] [] xs p e) [
   | inl l ↦ ap (λ (t : List (List (List ℕ))). p.0 ∷ t) (enough default_config (length xs) (length p.2 + 1) p.1 p.2 (omega arith) (omega arith))
   | inr z ↦ rw (z.0, z.1, none-left default_config (length xs)) refl
 ])
 
-left-none : (s : State) (xs : List ℕ) → next_record default_config s [] [] xs ≡ None → records_left s xs ≡ []
+pub left-none : (s : State) (xs : List ℕ) → next_record default_config s [] [] xs ≡ None → records_left s xs ≡ []
 unfolding records_from
 left-none s xs e = rw (add-one, e) refl
 

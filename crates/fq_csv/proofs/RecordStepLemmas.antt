@@ -1,22 +1,23 @@
 -- The run that a step makes, and the stream of records that it leaves.
 use Rattle.std.specs.Prelude.{option_map}
-use Rattle.std.proofs.Common.{◌≡◌, ◌<◌, ◌≤◌, ◌+◌, ◌++◌, ◌∙◌, ℕ, List, [], Option, Some, length, take, refl, sym, ap, subst, arith}
+use Rattle.std.proofs.Common.{◌≡◌, ◌<◌, ◌≤◌, ◌+◌, ◌++◌, ◌∙◌, ℕ, List, Option, Some, length, take, refl, sym, ap, subst, arith}
 use Rattle.std.proofs.lemmas.List.{drop_all, take_all}
 use Rattle.fq_column.specs.Frame.{Fields}
+use Rattle.csv.specs.Reading.{default_config, records}
 use Rattle.fq_csv.specs.File.{Record}
-use Rattle.fq_csv.specs.RecordScan.{GivesNoRun, GivesRun, records_left_at}
+use Rattle.fq_csv.specs.RecordScan.{GivesRun, records_left_at}
 use Rattle.fq_csv.specs.Records.{Unread}
 use Rattle.fq_csv.specs.Rows.{EndsAt}
-use Rattle.fq_csv.specs.Taking.{ReadsRecords, RecordStream, RecordsGoOn, records_after, records_in, then_records, without_records}
+use Rattle.fq_csv.specs.Taking.{ReadsRecords, RecordStream, RecordsGoOn, records_after, then_records, without_records}
 use Rattle.fq_csv.specs.declared.layouts.Layout.{Layout}
 use Rattle.fq_csv.specs.declared.spans.Span.{Span}
 use Rattle.fq_csv.specs.declared.file_stages.Stage.{Stage}
 use Rattle.fq_csv.specs.declared.file_stages.Stage.TheVariants as stage
 use Rattle.fq_csv.proofs.RecordLemmas.{mapped}
-use Rattle.fq_csv.proofs.TakingLemmas.{drop-first, length-records_in, take-first}
+use Rattle.fq_csv.proofs.TakingLemmas.{drop-first, take-first}
 
 cut : (after : Stage) (size : ℕ) (rs : List Record) (u : RecordStream) (v : Option RecordStream) (fields : Fields) (limit at : ℕ) (new : Unread)
-    → EndsAt after size (length rs) → RecordsGoOn after rs u v → v ≡ option_map (records_after new.file (length fields) limit at) new.upcoming
+    → EndsAt after size (length rs) → RecordsGoOn after rs u v → v ≡ option_map (records_after new.file limit at) new.upcoming
     → (rs ≡ take size u.records) × (records_left_at fields limit after new at ≡ Some (without_records size u))
 cut stage.Header size rs u v fields limit at new n g e = absurd n
 cut stage.Rows size rs u v fields limit at new n g e =
@@ -32,12 +33,14 @@ cut (stage.Closed fault) size rs u v fields limit at new n g e =
     )
 cut (stage.Failed fault) size rs u v fields limit at new n g e = absurd n
 
-module _ (span : Span) (layout : Layout) (old new : Unread) (after : Stage) (count : ℕ) (fs : Record) where
-  pub gives-run : new.file ≡ old.file → new.stopped ≡ old.stopped → ReadsRecords span (length layout.schema) old new after count fs → 0 < count
-      → GivesRun span layout old new stage.Rows after (record { file = old.file; layout = layout; before = span.from; records = records_in count (length layout.schema) fs })
+module _ (span : Span) (layout : Layout) (old new : Unread) (after : Stage) (text : List ℕ) (count : ℕ) where
+  abbrev rs : List Record
+  rs = records default_config text
+
+  pub gives-run : new.file ≡ old.file → new.stopped ≡ old.stopped → ReadsRecords span old new after text count → 0 < count
+      → GivesRun span layout old new stage.Rows after (record { file = old.file; layout = layout; before = span.from; records = records default_config text })
   gives-run file stopped r some =
-      let rs = records_in count (length layout.schema) fs in
-      let many : length rs ≡ count = length-records_in count (length layout.schema) fs in
+      let many : length rs ≡ count = r.number in
       let ends : EndsAt after span.size (length rs) = subst (λ n. EndsAt after span.size n) (sym many) r.ends in
       record {
         file = refl;
@@ -48,26 +51,8 @@ module _ (span : Span) (layout : Layout) (old new : Unread) (after : Stage) (cou
         count = ends;
         stopped = stopped;
         stream = λ u e.
-            let m = mapped (records_after old.file (length layout.schema) span.limit span.from) old.upcoming u e in
-            let g = subst (λ (w : RecordStream). RecordsGoOn after rs w (option_map (records_after old.file (length layout.schema) span.limit (span.from + count)) new.upcoming)) (sym m.2) (r.goes_on m.0 m.1) in
+            let m = mapped (records_after old.file span.limit span.from) old.upcoming u e in
+            let g = subst (λ (w : RecordStream). RecordsGoOn after rs w (option_map (records_after old.file span.limit (span.from + count)) new.upcoming)) (sym m.2) (r.goes_on m.0 m.1) in
             cut after span.size rs u _ layout.schema span.limit (span.from + length rs) new ends g
-            (ap (λ f. option_map (records_after f (length layout.schema) span.limit (span.from + count)) new.upcoming) (sym file) ∙ ap (λ n. option_map (records_after new.file (length layout.schema) span.limit (span.from + n)) new.upcoming) (sym many));
+            (ap (λ f. option_map (records_after f span.limit (span.from + count)) new.upcoming) (sym file) ∙ ap (λ n. option_map (records_after new.file span.limit (span.from + n)) new.upcoming) (sym many));
       }
-
-  pub gives-none : ReadsRecords span (length layout.schema) old new after count fs → count ≡ 0 → GivesNoRun span layout.schema old new stage.Rows after
-  gives-none r none = go after r.ends (λ before e. subst (λ n. RecordsGoOn after (records_in n (length layout.schema) fs) (records_after old.file (length layout.schema) span.limit span.from before) (option_map (records_after old.file (length layout.schema) span.limit (span.from + n)) new.upcoming)) none (r.goes_on before e))
-    where
-      go : (s : Stage) → EndsAt s span.size count
-          → ((before : List Record) → old.upcoming ≡ Some before → RecordsGoOn s [] (records_after old.file (length layout.schema) span.limit span.from before) (option_map (records_after old.file (length layout.schema) span.limit (span.from + 0)) new.upcoming))
-          → GivesNoRun span layout.schema old new stage.Rows s
-      go stage.Header n g = absurd n
-      go stage.Rows n g = absurd (omega (arith, n, none, span.some))
-      go (stage.Closed fault) n g = (λ e. n.1, λ u e. let m = mapped (records_after old.file (length layout.schema) span.limit span.from) old.upcoming u e in m.2 ∙ g m.0 m.1)
-      go (stage.Failed fault) n g = absurd n
-
--- the fields taken before are forgotten, and those taken were handed out
-pub forgets : (span : Span) (width : ℕ) (old start new last : Unread) (after : Stage) (count : ℕ) (fs : Record) → start ≡ record old { taken = [] } → last ≡ record new { taken = [] }
-    → ReadsRecords span width start new after count fs → ReadsRecords span width old last after count fs
-forgets span width old start new last after count fs e f r =
-    let q : ReadsRecords span width (record old { taken = [] }) new after count fs = subst (λ (u : Unread). ReadsRecords span width u new after count fs) e r in
-    subst (λ (u : Unread). ReadsRecords span width old u after count fs) (sym f) (record { whole = q.whole; in_limit = q.in_limit; ends = q.ends; goes_on = q.goes_on })

@@ -1,5 +1,5 @@
 -- The rows of a stream of records, run by run.
-use Rattle.std.specs.Prelude.{nat_lt, not, ◌==◌, option_map, Result}
+use Rattle.std.specs.Prelude.{nat_lt, option_map, Result}
 use Rattle.std.proofs.Common.{◌≡◌, ◌<◌, ◌≤◌, ◌+◌, ◌-◌, ◌++◌, ◌⊎◌, inl, inr, ◌∙◌, ℕ, zero, suc, List, [], ◌∷◌, false, Option, Some, None, Ok, Err, length, take, drop, refl, sym, ap, subst, arith}
 use Rattle.std.proofs.lemmas.Bool.{cases_Bool}
 use Rattle.std.proofs.lemmas.List.{append-nil, drop_all, length-take, length-take-le, take-append-drop, take_all}
@@ -16,7 +16,7 @@ use Rattle.fq_csv.specs.Stage.{ended, without}
 use Rattle.fq_csv.specs.Taking.{FieldRun, HasNoRow, ReadsRun, RecordStream, over, record_fault, records_after, record_stream, records_under_header, rows_of_records, without_records}
 use Rattle.fq_csv.specs.declared.faults.ScanFault.{ScanFault}
 use Rattle.fq_csv.specs.declared.layouts.Layout.{Layout}
-use Rattle.fq_csv.specs.declared.faults.ScanFault.TheVariants.{TooLong, Width}
+use Rattle.fq_csv.specs.declared.faults.ScanFault.TheVariants.{TooLong}
 use Rattle.fq_csv.proofs.RecordLemmas.{mapped}
 use Rattle.fq_csv.proofs.HeldRowLemmas.{no-item}
 use Rattle.fq_csv.proofs.FileStreamLemmas.{after-fault, after-rows}
@@ -39,14 +39,11 @@ option-case (Some x) = inr (x, refl)
 
 module _ (file : ℕ) (layout : Layout) (limit : ℕ) where
   -- a fault that shows without a cell
-  fault-of-row : (n : ℕ) (r : Record) (fault : ScanFault) → record_fault file (length layout.schema) limit n r ≡ Some fault → row_of file layout limit n r ≡ Err fault
+  fault-of-row : (n : ℕ) (r : Record) (fault : ScanFault) → record_fault file limit n ≡ Some fault → row_of file layout limit n r ≡ Err fault
   fault-of-row n r fault e =
       elim (cases_Bool (nat_lt limit n)) [
         | inl t ↦ let s : TooLong file ≡ fault = (let q = rw t at e in cc q) in rw t (ap Err s)
-        | inr f ↦ elim (cases_Bool (not (length r == length layout.schema))) [
-          | inl t ↦ let s : Width file n ≡ fault = (let q = rw (f, t) at e in cc q) in rw (f, t) (ap Err s)
-          | inr g ↦ let q = rw (f, g) at e in cc q
-        ]
+        | inr f ↦ let q = rw f at e in cc q
       ]
 
   pub rows-split : (n : ℕ) (xs ys : List Record) → rows_after file layout limit n (xs ++ ys) ≡ then_stream (rows_after file layout limit n xs) (rows_after file layout limit (n + length xs) ys)
@@ -64,15 +61,15 @@ module _ (file : ℕ) (layout : Layout) (limit : ℕ) where
             ∙ ap (λ u. then_stream u (rows_after file layout limit (n + suc (length xs)) ys)) (sym (after-fault file layout limit n x xs fault e))
       ]
 
-  pub rows-of-records : (n : ℕ) (rs : List Record) → rows_after file layout limit n rs ≡ rows_of_records file layout limit n (records_after file (length layout.schema) limit n rs)
+  pub rows-of-records : (n : ℕ) (rs : List Record) → rows_after file layout limit n rs ≡ rows_of_records file layout limit n (records_after file limit n rs)
   rows-of-records n [] = refl
   rows-of-records n (r ∷ rs) =
-      elim (option-case (record_fault file (length layout.schema) limit (n + 1) r)) [
+      elim (option-case (record_fault file limit (n + 1))) [
         | inr (fault, e) ↦
             after-fault file layout limit n r rs fault (fault-of-row (n + 1) r fault e)
-            ∙ ap (rows_of_records file layout limit n) (sym (fault-first file (length layout.schema) limit n r rs fault e))
+            ∙ ap (rows_of_records file layout limit n) (sym (fault-first file limit n r rs fault e))
         | inl e ↦
-            let u = records_after file (length layout.schema) limit (n + 1) rs in
+            let u = records_after file limit (n + 1) rs in
             elim (result-case (row_of file layout limit (n + 1) r)) [
               | inl (rows, g) ↦
                   after-rows file layout limit n r rs rows g
@@ -83,7 +80,7 @@ module _ (file : ℕ) (layout : Layout) (limit : ℕ) where
                   after-fault file layout limit n r rs fault g
                   ∙ ap (λ v. then_stream v (ended u.fault)) (sym (after-fault file layout limit n r u.records fault g))
             ]
-            ∙ ap (rows_of_records file layout limit n) (sym (record-first file (length layout.schema) limit n r rs e))
+            ∙ ap (rows_of_records file layout limit n) (sym (record-first file limit n r rs e))
       ]
 
   pub rows-under-header : (rs : List Record) → rows_under_header file layout limit rs ≡ rows_of_records file layout limit 0 (records_under_header file layout.schema limit rs)

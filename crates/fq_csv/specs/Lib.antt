@@ -7,6 +7,8 @@ pub mod Records
 pub mod Rows
 pub mod Scan
 pub mod Stage
+pub mod Readers
+pub mod TextRows
 pub mod Writing
 pub mod HandedOut
 pub mod Taking

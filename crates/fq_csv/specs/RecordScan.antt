@@ -19,19 +19,19 @@ use Rattle.fq_csv.specs.declared.scanners.TheConstants.{MAX_ROWS}
 -- the stream that is left after some rows, if the bytes are known and no read failed
 abbrev pub records_left_at : Fields → ℕ → Stage → Unread → ℕ → Option RecordStream
 records_left_at fields limit stage.Header unread row = option_map (records_under_header unread.file fields limit) unread.upcoming
-records_left_at fields limit stage.Rows unread row = option_map (records_after unread.file (length fields) limit row) unread.upcoming
+records_left_at fields limit stage.Rows unread row = option_map (records_after unread.file limit row) unread.upcoming
 records_left_at fields limit (stage.Closed fault) unread row = Some (over fault)
 records_left_at fields limit (stage.Failed fault) unread row = None
 
 -- the records that a scan gives of those still to come are those of the stream, once the header was read; or there are none
 abbrev pub OpensBy : Fields → Unread → Unread → Bool → Type 0
-OpensBy fields old new true = (limit : ℕ) (before : List Record) → old.upcoming ≡ Some before → option_map (records_after old.file (length fields) limit 0) new.upcoming ≡ Some (records_under_header old.file fields limit before)
+OpensBy fields old new true = (limit : ℕ) (before : List Record) → old.upcoming ≡ Some before → option_map (records_after old.file limit 0) new.upcoming ≡ Some (records_under_header old.file fields limit before)
 OpensBy fields old new false = (limit : ℕ) (before : List Record) → old.upcoming ≡ Some before → records_under_header old.file fields limit before ≡ over (Some (Header old.file))
 
 -- the header was read: the records follow, or there are none
 abbrev pub Opens : Fields → Unread → Unread → Stage → Type 0
 Opens fields old new stage.Header = ⊥
-Opens fields old new stage.Rows = (limit : ℕ) (before : List Record) → old.upcoming ≡ Some before → option_map (records_after old.file (length fields) limit 0) new.upcoming ≡ Some (records_under_header old.file fields limit before)
+Opens fields old new stage.Rows = (limit : ℕ) (before : List Record) → old.upcoming ≡ Some before → option_map (records_after old.file limit 0) new.upcoming ≡ Some (records_under_header old.file fields limit before)
 Opens fields old new (stage.Closed fault) = IsOfText fault × ((limit : ℕ) (before : List Record) → old.upcoming ≡ Some before → records_under_header old.file fields limit before ≡ over fault)
 Opens fields old new (stage.Failed fault) = StopsBy old.file new.stopped fault
 

@@ -1,17 +1,15 @@
 -- The records that a file has still to give.
-use Rattle.std.specs.Prelude.{◌≡◌, ◌++◌, ◌∷◌, ◌⊎◌, ⊤, Bool, true, ℕ, List, [], Option, Some, None, option_map}
-use Rattle.csv.specs.Reading.{default_config, records}
+use Rattle.std.specs.Prelude.{◌≡◌, ◌<◌, ◌≤◌, ◌++◌, ◌⊎◌, ⊤, length, Bool, true, ℕ, List, [], Option, Some, None, option_map}
+use Rattle.csv.specs.Reading.{default_config, records, strip_bom}
 use Rattle.fq_csv.specs.Buffer.{unread_of}
 use Rattle.fq_csv.specs.File.{Record}
 use Rattle.fq_csv.specs.declared.buffers.Buffer.{Buffer}
 use Rattle.fq_csv.specs.declared.faults.ScanFault.{ScanFault}
 use Rattle.fq_csv.specs.declared.faults.ScanFault.TheVariants.{Header, Width, BadCell, TooLong, Read, Memory}
 
--- the file's number, the fields of the records taken and not yet handed out, the records still to come, if the reader tells its
--- bytes, and whether the reader failed
+-- the file's number, the records still to come, if the reader tells its bytes, and whether the reader failed
 pub record Unread : Type 0 where
   pub file : ℕ
-  pub taken : Record
   pub upcoming : Option (List Record)
   pub stopped : Bool
 
@@ -19,15 +17,13 @@ pub record Unread : Type 0 where
 abbrev pub upcoming_of : {R : Type 0} → (R → Option (List ℕ)) → Buffer R → Option (List Record)
 upcoming_of remaining b = option_map (records default_config) (unread_of remaining b)
 
--- the next record, which has these fields, was taken
-pub record Takes (old : Unread) (fields : Record) (new : Unread) : Type 0 where
-  pub added : new.taken ≡ old.taken ++ fields
-  pub first : (before : List Record) → old.upcoming ≡ Some before → (after : List Record) × (before ≡ fields ∷ after) × (new.upcoming ≡ Some after)
-
--- no record is left
-pub record IsOver (old new : Unread) : Type 0 where
-  pub same : new.taken ≡ old.taken
-  pub none : (before : List Record) → old.upcoming ≡ Some before → before ≡ []
+-- the next records were taken as a text that no byte order mark begins, up to so many; fewer only if no other is left
+pub record Takes (old : Unread) (wanted : ℕ) (text : List ℕ) (count : ℕ) (new : Unread) : Type 0 where
+  pub unmarked : strip_bom text ≡ text
+  pub few : count ≤ wanted
+  pub number : length (records default_config text) ≡ count
+  pub rest : (before : List Record) → old.upcoming ≡ Some before
+      → (after : List Record) × (new.upcoming ≡ Some after) × (before ≡ records default_config text ++ after) × (count < wanted → after ≡ [])
 
 -- the reader or an allocation failed
 abbrev pub IsFailure : ℕ → ScanFault → Type 0

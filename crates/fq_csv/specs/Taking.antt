@@ -1,16 +1,14 @@
--- The records of a file that may be rows, before their fields are read as cells: up to the first that is past the limit or has the wrong number of fields.
-use Rattle.std.specs.Prelude.{◌≡◌, ◌<◌, ◌≤◌, ◌+◌, ◌*◌, ◌++◌, ◌==◌, IfSome, ℕ, zero, suc, not, nat_lt, List, [], ◌∷◌, length, take, drop, Option, Some, None, option_map, if◌then◌else◌}
+-- The records of a file that may be rows, before their fields are read: up to the first that is past the limit.
+use Rattle.std.specs.Prelude.{◌≡◌, ◌≤◌, ◌+◌, ◌++◌, ℕ, nat_lt, List, [], ◌∷◌, length, drop, Option, Some, None, option_map, if◌then◌else◌}
 use Rattle.csv.specs.Reading.{default_config, records, strip_bom}
-use Rattle.fq_column.specs.declared.cells.Kind.{Kind}
-use Rattle.fq_column.specs.Column.{Cells}
-use Rattle.fq_column.specs.Frame.{Fields, Frame, Row, kinds_of, names_of, same_name}
+use Rattle.fq_column.specs.Frame.{Fields, Frame, names_of, same_name}
 use Rattle.fq_column.specs.Stream.{Stream, then_stream}
 use Rattle.fq_csv.specs.File.{Record, rows_after}
 use Rattle.fq_csv.specs.Records.{IsOfText, Unread}
-use Rattle.fq_csv.specs.Rows.{EndsAt, Holds}
+use Rattle.fq_csv.specs.Rows.{EndsAt}
 use Rattle.fq_csv.specs.Stage.{ended}
 use Rattle.fq_csv.specs.declared.faults.ScanFault.{ScanFault}
-use Rattle.fq_csv.specs.declared.faults.ScanFault.TheVariants.{Header, Width, BadCell, TooLong}
+use Rattle.fq_csv.specs.declared.faults.ScanFault.TheVariants.{Header, TooLong}
 use Rattle.fq_csv.specs.declared.layouts.Layout.{Layout}
 use Rattle.fq_csv.specs.declared.spans.Span.{Span}
 use Rattle.fq_csv.specs.declared.file_stages.Stage.{Stage}
@@ -35,28 +33,28 @@ then_records rs u = record { records = rs ++ u.records; fault = u.fault }
 abbrev pub without_records : ℕ → RecordStream → RecordStream
 without_records n u = record { records = drop n u.records; fault = u.fault }
 
--- the fault that a record is, by its number and how many fields it has, if it is one
-abbrev pub record_fault : ℕ → ℕ → ℕ → ℕ → Record → Option ScanFault
-record_fault file width limit n r = if nat_lt limit n then Some (TooLong file) else if not (length r == width) then Some (Width file n) else None
+-- the fault that a record is, by its number alone, if it is one
+abbrev pub record_fault : ℕ → ℕ → ℕ → Option ScanFault
+record_fault file limit n = if nat_lt limit n then Some (TooLong file) else None
 
 -- the stream of the records that follow n rows
-abbrev pub records_after : ℕ → ℕ → ℕ → ℕ → List Record → RecordStream
-records_after file width limit n [] = over None
-records_after file width limit n (r ∷ rs) = elim (record_fault file width limit (n + 1) r) [
+abbrev pub records_after : ℕ → ℕ → ℕ → List Record → RecordStream
+records_after file limit n [] = over None
+records_after file limit n (r ∷ rs) = elim (record_fault file limit (n + 1)) [
   | Some fault ↦ over (Some fault)
-  | None ↦ then_records (r ∷ []) (records_after file width limit (n + 1) rs)
+  | None ↦ then_records (r ∷ []) (records_after file limit (n + 1) rs)
 ]
 
 -- the stream of all records of a file
 abbrev pub records_under_header : ℕ → Fields → ℕ → List Record → RecordStream
 records_under_header file fields limit [] = over (Some (Header file))
-records_under_header file fields limit (r ∷ rs) = if pointwise same_name (names_of fields) r then records_after file (length fields) limit 0 rs else over (Some (Header file))
+records_under_header file fields limit (r ∷ rs) = if pointwise same_name (names_of fields) r then records_after file limit 0 rs else over (Some (Header file))
 
 -- the stream of a file's bytes
 abbrev pub record_stream : ℕ → Fields → ℕ → List ℕ → RecordStream
 record_stream file fields limit bytes = records_under_header file fields limit (records default_config (strip_bom bytes))
 
--- the rows that such records are, after n rows: up to the first with a field that is not a cell
+-- the rows that such records are, after n rows: up to the first that is not a row
 abbrev pub rows_of_records : ℕ → Layout → ℕ → ℕ → RecordStream → Stream ScanFault
 rows_of_records file layout limit n u = then_stream (rows_after file layout limit n u.records) (ended u.fault)
 
@@ -69,11 +67,6 @@ pub record FieldRun : Type 0 where
   pub before : ℕ
   pub records : List Record
 
--- n records of this width, whose fields stand one after the other
-abbrev pub records_in : ℕ → ℕ → Record → List Record
-records_in zero width fs = []
-records_in (suc n) width fs = take width fs ∷ records_in n width (drop width fs)
-
 -- ---- records that are read
 
 -- the records are the first of the stream before, which goes on with the stream after them; or they are all of it, with its end
@@ -83,34 +76,26 @@ RecordsGoOn stage.Rows rs before after = (rest : RecordStream) × (after ≡ Som
 RecordsGoOn (stage.Closed fault) rs before after = before ≡ record { records = rs; fault = fault }
 RecordsGoOn (stage.Failed fault) rs before after = ⊥
 
--- so many records after row `from` were read, up to the limit and `size` of them, with these fields, and the file goes on after them
-pub record ReadsRecords (span : Span) (width : ℕ) (old new : Unread) (stage : Stage) (count : ℕ) (fs : Record) : Type 0 where
-  pub whole : length fs ≡ count * width
+-- so many records after row `from` were read, up to the limit and `size` of them, which this text is, and the file goes on after them
+pub record ReadsRecords (span : Span) (old new : Unread) (stage : Stage) (text : List ℕ) (count : ℕ) : Type 0 where
+  pub unmarked : strip_bom text ≡ text
+  pub number : length (records default_config text) ≡ count
   pub in_limit : span.from + count ≤ span.limit
   pub ends : EndsAt stage span.size count
   pub goes_on : (before : List Record) → old.upcoming ≡ Some before
-      → RecordsGoOn stage (records_in count width fs) (records_after old.file width span.limit span.from before) (option_map (records_after old.file width span.limit (span.from + count)) new.upcoming)
+      → RecordsGoOn stage (records default_config text) (records_after old.file span.limit span.from before) (option_map (records_after old.file span.limit (span.from + count)) new.upcoming)
+
+-- the file ends here, since no record is left, or since one is too many
+abbrev pub EndsAtLimit : Unread → Stage → Type 0
+EndsAtLimit old stage.Header = ⊥
+EndsAtLimit old stage.Rows = ⊥
+EndsAtLimit old (stage.Closed None) = (before : List Record) → old.upcoming ≡ Some before → before ≡ []
+EndsAtLimit old (stage.Closed (Some fault)) = (fault ≡ TooLong old.file) × ((before : List Record) → old.upcoming ≡ Some before → (r : Record) × (rs : List Record) × (before ≡ r ∷ rs))
+EndsAtLimit old (stage.Failed fault) = ⊥
 
 -- ---- the rows that a run's records are
 
--- the record number n, of this width, among fields that stand one after the other
-abbrev pub record_at : ℕ → ℕ → Record → Record
-record_at n width fs = take width (drop (n * width) fs)
-
--- the fault of a field that is not a cell, by its row and column, in a run after some rows
-abbrev pub bad_cell : ℕ → ℕ → ℕ × ℕ → ScanFault
-bad_cell file before place = BadCell file (before + place.0 + 1) place.1
-
--- columns hold the rows that records are, where these texts are null, up to the first with a field that is not a cell, at this place
-pub record HoldsRows (nulls : List (List ℕ)) (kinds : List Kind) (rs : List Record) (columns : List Cells) (bad : Option (ℕ × ℕ)) : Type 0 where
-  pub rows : List Row
-  pub held : Holds kinds columns rows
-  pub all : bad ≡ None → length rows ≡ length rs
-  pub place : IfSome bad (λ p. (p.0 ≡ length rows) × (length rows < length rs))
-  pub stream : (file before limit : ℕ) (layout : Layout) → layout.nulls ≡ nulls → kinds_of layout.schema ≡ kinds → before + length rs ≤ limit
-      → rows_after file layout limit before rs ≡ record { rows = rows; fault = option_map (bad_cell file before) bad }
-
--- the rows of a batch are those of a run, up to the first record with a field that is not a cell, which is this fault
+-- the rows of a batch are those of a run, up to the first record that is not a row, which is this fault
 pub record ReadsRun (run : FieldRun) (batch : Frame) (fault : Option ScanFault) : Type 0 where
   pub columns : batch.fields ≡ run.layout.schema
   pub in_limit : run.before + length run.records ≤ MAX_ROWS
@@ -119,7 +104,7 @@ pub record ReadsRun (run : FieldRun) (batch : Frame) (fault : Option ScanFault) 
   pub cause : IsOfText fault
   pub stream : (limit : ℕ) → run.before + length run.records ≤ limit → rows_after run.file run.layout limit run.before run.records ≡ record { rows = batch.rows; fault = fault }
 
--- the first record of a run has a field that is not a cell, which is this fault
+-- the first record of a run is not a row, which is this fault
 pub record HasNoRow (run : FieldRun) (fault : ScanFault) : Type 0 where
   pub cause : IsOfText (Some fault)
   pub stream : (limit : ℕ) → run.before + length run.records ≤ limit → rows_after run.file run.layout limit run.before run.records ≡ ended (Some fault)

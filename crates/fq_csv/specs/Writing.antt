@@ -1,8 +1,12 @@
 -- What a writer does with a field and with a record.
-use Rattle.std.specs.Prelude.{◌≡◌, ◌==◌, ◌+◌, ◌++◌, true, false, not, ℕ, List, length, Option}
+use Rattle.std.specs.Prelude.{◌≡◌, ◌==◌, ◌+◌, ◌++◌, true, false, not, ℕ, List, length, Option, Some, Vec}
 use Rattle.std.specs.Io.KnownBytes.{Appends}
 use Rattle.csv.specs.Writing.{default_writer, field_text, fields_written, has_written, next_sep, row_text, text_written, writer_setup}
 use Rattle.csv.specs.declared.writer.Writer.{Writer}
+
+-- the bytes that a text in memory holds
+abbrev pub held : {A : Type 0} → Vec ℕ A → Option (List ℕ)
+held text = Some text.items
 
 -- a writer with the crate's defaults that stands between two records
 pub record IsBetween {W : Type 0} (writer : Writer W) : Type 0 where

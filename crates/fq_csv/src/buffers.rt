@@ -1,19 +1,17 @@
-//! The bytes of a file, from which records are cut.
-ghost use Rattle.std.specs.Prelude.{◌≡◌, ◌≤◌, ◌<◌, ◌++◌, ℕ, List, All, false, true, length, IfOk, IfErr, OnErr, OnOk};
+//! The bytes of a file, from which runs of records are taken.
+ghost use Rattle.std.specs.Prelude.{◌≡◌, ◌≤◌, ◌<◌, ◌∷◌, take, false, true, length, IfOk, IfErr, OnErr, OnOk};
 ghost use Rattle.std.specs.Io.KnownBytes.{Keeps};
-ghost use Rattle.fq_csv.specs.Buffer.{FailsBy, IsSound, KeepsFields, ReadsOn, TakesNext, left_of, unread_of};
-ghost use Rattle.fq_csv.specs.Cutting.{IsInside};
+ghost use Rattle.fq_csv.specs.Buffer.{FailsBy, Finds, IsSound, ReadsOn, TakesText, left_of, rest_of, unread_of};
 ghost use Rattle.fq_csv.specs.Records.{StopsBy};
 
-use crate::cutting::{Place, cut_record};
+use crate::cutting::whole_records;
 use crate::faults::ScanFault;
 use crate::retrying::Retrying;
 use std::alloc::{AllocError, Global};
 use std::io::Read;
-use std::mem;
 
 // How many bytes to ask a reader for.
-const CHUNK: usize = 32_768;
+const CHUNK: usize = 131_072;
 
 // The byte order mark, U+FEFF in UTF-8.
 const MARK: [u8; 3] = [0xEF, 0xBB, 0xBF];
@@ -54,18 +52,38 @@ impl<R: Read> Buffer<R> {
         }
     }
 
+    // The bytes that were read and not taken.
+    fn rest(&self) -> &[u8]
+        requires { self.now.at ≤ length self.now.text.items }
+        ensures { result.now ≡ rest_of self.now }
+    {
+        &self.text[self.at..]
+    }
+
+    // Moves the bytes that were not taken to the start of the text.
+    fn compact(&mut self)
+        requires { self.old.at ≤ length self.old.text.items }
+        ensures same { self.new ≡ record self.old { text = self.new.text; at = 0 } }
+        ensures text { self.new.text.items ≡ rest_of self.old }
+    {
+        if self.at > 0 {
+            self.text.drain(..self.at);
+            self.at = 0;
+        }
+    }
+
     // Reads once.
     fn read_more(&mut self) -> Result<(), ScanFault>
         requires sound { IsSound R.remaining self.old }
         requires open { self.old.is_last ≡ false }
         ensures sound { IsSound R.remaining self.new }
         ensures file { self.new.file ≡ self.old.file }
-        ensures at { self.new.at ≡ self.old.at }
-        ensures text { OnErr result (self.new.text.items ≡ self.old.text.items) }
+        ensures rest { OnErr result (rest_of self.new ≡ rest_of self.old) }
         ensures failed { IfErr result (FailsBy self.old self.new) }
         ensures reads { OnOk result (ReadsOn R.remaining self.old self.new) }
-        ensures more { OnOk result (self.new.is_last ≡ false → length self.old.text.items < length self.new.text.items) }
+        ensures more { OnOk result (self.new.is_last ≡ false → length (rest_of self.old) < length (rest_of self.new)) }
     {
+        self.compact();
         let filled = self.text.len();
         self.text.resize(filled + CHUNK, 0)?;
         match self.reader.read(&mut self.text.as_mut_slice()[filled..]) {
@@ -82,17 +100,16 @@ impl<R: Read> Buffer<R> {
         }
     }
 
-    // Reads until the text has so many bytes, or the file ends.
+    // Reads until so many bytes were not taken, or the file ends.
     fn read_up_to(&mut self, wanted: usize) -> Result<(), ScanFault>
         requires { IsSound R.remaining self.old }
         ensures sound { IsSound R.remaining self.new }
         ensures file { self.new.file ≡ self.old.file }
-        ensures at { self.new.at ≡ self.old.at }
         ensures failed { IfErr result (StopsBy self.old.file self.new.has_failed) }
         ensures reads { OnOk result (ReadsOn R.remaining self.old self.new) }
-        ensures more { OnOk result (self.new.is_last ≡ false → wanted ≤ length self.new.text.items) }
+        ensures more { OnOk result (self.new.is_last ≡ false → wanted ≤ length (rest_of self.new)) }
     {
-        while !self.is_last && self.text.len() < wanted {
+        while !self.is_last && self.rest().len() < wanted {
             self.read_more()?;
         }
         Ok(())
@@ -106,9 +123,7 @@ impl<R: Read> Buffer<R> {
         ensures file { self.new.file ≡ self.old.file }
         ensures failed { IfErr result (StopsBy self.old.file self.new.has_failed) }
         ensures goes_on { OnOk result (self.new.has_failed ≡ self.old.has_failed) }
-        ensures at { self.old.at ≤ self.new.at }
         ensures begun { OnOk result (self.new.has_begun ≡ true) }
-        ensures text { OnOk result ((bytes : List ℕ) × (self.new.text.items ≡ self.old.text.items ++ bytes)) }
         ensures left { OnOk result (Keeps (unread_of R.remaining self.old) (unread_of R.remaining self.new)) }
     {
         self.read_up_to(MARK.len())?;
@@ -119,64 +134,77 @@ impl<R: Read> Buffer<R> {
         Ok(())
     }
 
-    // Cuts the next record, if there is one, of a file that was begun, and adds the places of its fields.
-    fn cut(&mut self, places: &mut Vec<Place>) -> Result<bool, ScanFault>
-        requires sound { IsSound R.remaining self.old }
-        requires begun { self.old.has_begun ≡ true }
-        requires held { All (IsInside self.old.at) places.old.items }
+    // Finds the next records of a file that was begun, up to so many: how many bytes and how many records they are.
+    fn find(&mut self, wanted: u32) -> Result<(usize, u32), ScanFault>
+        requires { IsSound R.remaining self.old }
         ensures sound { IsSound R.remaining self.new }
-        ensures held { All (IsInside self.new.at) places.new.items }
         ensures file { self.new.file ≡ self.old.file }
         ensures failed { IfErr result (StopsBy self.old.file self.new.has_failed) }
-        ensures goes_on { OnOk result (self.new.has_failed ≡ self.old.has_failed) }
-        ensures kept { OnOk result (KeepsFields self.old self.new places.old.items) }
-        ensures taken { IfOk result (TakesNext R.remaining self.old self.new places.old.items places.new.items) }
+        ensures reads { OnOk result (ReadsOn R.remaining self.old self.new) }
+        ensures found { IfOk result (λ r. Finds (rest_of self.new) self.new.is_last wanted r.0 r.1) }
     {
+        let mut end = 0;
+        let mut count = 0;
         loop {
-            if let Some(next) = cut_record(self.text.as_slice(), self.at, self.is_last, places)? {
-                self.at = next;
-                return Ok(true);
+            let rest = self.rest();
+            let found = whole_records(rest, end, wanted - count);
+            end = found.end;
+            count += found.count;
+            if count == wanted {
+                return Ok((end, count));
             }
+            let len = rest.len();
             if self.is_last {
-                return Ok(false);
+                return Ok(if found.is_open {
+                    (len, count + 1)
+                } else {
+                    (end, count)
+                });
             }
-            let len = self.text.len();
-            let held = len - self.at;
-            self.read_up_to(len + held + 1)?;
+            self.read_up_to(len + (len - end) + 1)?;
         }
     }
 
-    /// Takes the next record, if there is one, and adds the places of its fields to those of others; skips empty lines.
-    pub(crate) fn take_record(&mut self, places: &mut Vec<Place>) -> Result<bool, ScanFault>
+    // A copy of the first bytes that were not taken, after an empty line.
+    fn copy(&self, alloc: Global, len: usize) -> Result<Vec<u8>, AllocError>
+        requires inside { self.now.at ≤ length self.now.text.items }
+        requires high { len ≤ length (rest_of self.now) }
+        ensures { IfOk result (λ text. text.items ≡ 10 ∷ take len (rest_of self.now)) }
+    {
+        let mut text = Vec::with_capacity(alloc, len + 1)?;
+        text.push(b'\n')?;
+        text.extend_from_slice(&self.rest()[..len])?;
+        Ok(text)
+    }
+
+    // The same as `take`, of a file that was begun.
+    fn take_begun(&mut self, alloc: Global, wanted: u32) -> Result<(Vec<u8>, u32), ScanFault>
         requires sound { IsSound R.remaining self.old }
-        requires held { All (IsInside self.old.at) places.old.items }
+        requires begun { self.old.has_begun ≡ true }
         ensures sound { IsSound R.remaining self.new }
-        ensures held { All (IsInside self.new.at) places.new.items }
         ensures file { self.new.file ≡ self.old.file }
         ensures failed { IfErr result (StopsBy self.old.file self.new.has_failed) }
         ensures goes_on { OnOk result (self.new.has_failed ≡ self.old.has_failed) }
-        ensures kept { OnOk result (KeepsFields self.old self.new places.old.items) }
-        ensures taken { IfOk result (TakesNext R.remaining self.old self.new places.old.items places.new.items) }
+        ensures taken { IfOk result (λ r. TakesText R.remaining self.old self.new wanted r.0.items r.1) }
+    {
+        let (len, count) = self.find(wanted)?;
+        let text = self.copy(alloc, len)?;
+        self.at += len;
+        Ok((text, count))
+    }
+
+    /// Takes the next records, up to so many: their text, which begins with an empty line, and how many they are.
+    pub(crate) fn take(&mut self, alloc: Global, wanted: u32) -> Result<(Vec<u8>, u32), ScanFault>
+        requires { IsSound R.remaining self.old }
+        ensures sound { IsSound R.remaining self.new }
+        ensures file { self.new.file ≡ self.old.file }
+        ensures failed { IfErr result (StopsBy self.old.file self.new.has_failed) }
+        ensures goes_on { OnOk result (self.new.has_failed ≡ self.old.has_failed) }
+        ensures taken { IfOk result (λ r. TakesText R.remaining self.old self.new wanted r.0.items r.1) }
     {
         if !self.has_begun {
             self.begin()?;
         }
-        self.cut(places)
-    }
-
-    /// Hands out the text, and keeps of it what follows the records taken.
-    pub(crate) fn take_text(&mut self, alloc: Global) -> Result<Vec<u8>, AllocError>
-        requires { IsSound R.remaining self.old }
-        ensures sound { IsSound R.remaining self.new }
-        ensures file { self.new.file ≡ self.old.file }
-        ensures failed { self.new.has_failed ≡ self.old.has_failed }
-        ensures refused { OnErr result (self.new ≡ self.old) }
-        ensures text { IfOk result (λ text. text.items ≡ self.old.text.items) }
-        ensures left { OnOk result (unread_of R.remaining self.new ≡ unread_of R.remaining self.old) }
-    {
-        let mut rest = Vec::with_capacity(alloc, self.text.len())?;
-        rest.extend_from_slice(&self.text[self.at..])?;
-        self.at = 0;
-        Ok(mem::replace(&mut self.text, rest))
+        self.take_begun(alloc, wanted)
     }
 }

@@ -1,14 +1,18 @@
 //! The header of a file.
-ghost use Rattle.std.specs.Prelude.{◌≡◌, IfErr, IfOk, OnOk};
+ghost use Rattle.std.specs.Prelude.{◌≡◌, ◌∷◌, [], IfErr, IfOk, OnOk, length};
 ghost use Rattle.std.specs.Cmp.Lexicographic.{pointwise};
+ghost use Rattle.csv.specs.Reading.{default_config, records as records_of, strip_bom};
+ghost use Rattle.csv.specs.Records.{fields_of};
 ghost use Rattle.fq_column.specs.Frame.{names_of, same_name};
+ghost use Rattle.fq_csv.specs.File.{Record};
 ghost use Rattle.fq_csv.specs.RecordScan.{Opens, OpensBy};
 ghost use Rattle.fq_csv.specs.Records.{StopsBy};
 
 use crate::faults::ScanFault;
 use crate::file_stages::Stage;
-use crate::raw_fields::RawFields;
+use crate::readers::{next_record, reader_of};
 use crate::records::Records;
+use csv::ByteRecord;
 use fq_column::{Memory, Schema};
 use std::alloc::Global;
 use std::io::Read;
@@ -42,26 +46,41 @@ fn find_header<R: Read>(
     ensures failed { IfErr result (StopsBy records.old.file records.new.stopped) }
     ensures opens { IfOk result (OpensBy schema.now records.old records.new) }
 {
-    records.start_anew(schema.len())?;
-    if !records.advance()? {
+    let (text, count) = records.take(alloc, 1)?;
+    if count == 0 {
         return Ok(false);
     }
-    let row = records.hand_out(alloc)?;
-    Ok(is_header(alloc, schema, &row)?)
+    Ok(is_header(alloc, schema, text.as_slice())?)
 }
 
-// Whether the fields of a record are the schema's names, in their order.
-fn is_header(alloc: Global, schema: &Schema, row: &RawFields) -> Result<bool, Memory>
-    ensures { IfOk result (λ is. is ≡ pointwise same_name (names_of schema.now) row.now) }
+// Whether the fields of a text's one record are the schema's names, in their order.
+fn is_header(alloc: Global, schema: &Schema, text: &[u8]) -> Result<bool, Memory>
+    requires unmarked { strip_bom text.now ≡ text.now }
+    requires one { length (records_of default_config text.now) ≡ 1 }
+    ensures { IfOk result (λ is. (r : Record) → records_of default_config text.now ≡ r ∷ [] → is ≡ pointwise same_name (names_of schema.now) r) }
+{
+    let mut reader = reader_of(alloc, text);
+    let mut row = ByteRecord::new(alloc);
+    if !next_record(&mut reader, &mut row)? {
+        unreachable!()
+    }
+    Ok(has_names(schema, &row))
+}
+
+// Whether a record's fields are the schema's names, in their order.
+fn has_names(schema: &Schema, row: &ByteRecord) -> bool
+    ensures { result ≡ pointwise same_name (names_of schema.now) (fields_of row.now) }
 {
     if row.len() != schema.len() {
-        return Ok(false);
+        return false;
     }
-    let mut unquoted = Vec::new(alloc);
     for i in 0..schema.len() {
-        if row.get(i, &mut unquoted)? != schema.name(i).as_bytes() {
-            return Ok(false);
+        let Some(field) = row.get(i) else {
+            unreachable!()
+        };
+        if field != schema.name(i).as_bytes() {
+            return false;
         }
     }
-    Ok(true)
+    true
 }

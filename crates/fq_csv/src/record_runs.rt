@@ -1,33 +1,35 @@
 //! Runs of records, and the batches that they are.
-ghost use Rattle.std.specs.Prelude.{◌≡◌, ◌≤◌, ◌<◌, ◌+◌, ◌*◌, length, option_map, IfOk, IfSome};
+ghost use Rattle.std.specs.Prelude.{◌≡◌, ◌≤◌, ◌<◌, ◌+◌, length, option_map, IfOk, IfSome};
 ghost use Rattle.fq_column.specs.Frame.{kinds_of};
 ghost use Rattle.fq_csv.specs.Records.{IsOfText};
-ghost use Rattle.fq_csv.specs.Taking.{HoldsRows, ReadsRun, bad_cell, records_in};
+ghost use Rattle.csv.specs.Reading.{default_config, records, strip_bom};
+ghost use Rattle.fq_csv.specs.Taking.{ReadsRun};
+ghost use Rattle.fq_csv.specs.TextRows.{HoldsRowsOf, run_fault};
 ghost use Rattle.fq_csv.specs.declared.scanners.TheConstants.{MAX_ROWS};
 
 use crate::faults::ScanFault;
 use crate::layouts::Layout;
-use crate::raw_fields::RawFields;
-use crate::run_rows::push_rows;
+use crate::text_rows::{NoRow, push_records};
 use fq_column::{Batch, Column, Memory, empty_columns};
 use std::alloc::Global;
 use std::marker::Model;
 
-/// Records of a file, one after the other, each with as many fields as the file has columns.
+/// Records of a file, one after the other, as the text that they are.
 ///
-/// None of the fields was read as a cell yet, so a run may be handed to another thread, which makes a batch of it.
+/// None of their fields was looked at yet, so a run may be handed to another thread, which makes a batch of it.
 #[derive(Drop)]
 pub struct RecordRun {
     pub(crate) file: u16,
     pub(crate) layout: Layout,
     pub(crate) before: u32,
     pub(crate) count: u32,
-    pub(crate) fields: RawFields,
+    pub(crate) text: Vec<u8>,
 }
 
 impl Model for RecordRun {
-    ghost use Rattle.std.specs.Prelude.{◌≡◌, ◌≤◌, ◌*◌, ◌+◌, length};
-    ghost use Rattle.fq_csv.specs.Taking.{FieldRun, records_in};
+    ghost use Rattle.std.specs.Prelude.{◌≡◌, ◌≤◌, ◌+◌, length};
+    ghost use Rattle.csv.specs.Reading.{default_config, records, strip_bom};
+    ghost use Rattle.fq_csv.specs.Taking.{FieldRun};
     ghost use Rattle.fq_csv.specs.declared.scanners.TheConstants.{MAX_ROWS};
 
     ghost Value = { FieldRun };
@@ -36,10 +38,10 @@ impl Model for RecordRun {
       file = a.file;
       layout = a.layout;
       before = a.before;
-      records = records_in a.count (length a.layout.schema) a.fields;
+      records = records default_config a.text.items;
     } };
 
-    ghost invariant = { λ a. (length a.fields ≡ a.count * length a.layout.schema) × (a.before + a.count ≤ MAX_ROWS) };
+    ghost invariant = { λ a. (strip_bom a.text.items ≡ a.text.items) × (length (records default_config a.text.items) ≡ a.count) × (a.before + a.count ≤ MAX_ROWS) };
 }
 
 impl RecordRun {
@@ -50,11 +52,10 @@ impl RecordRun {
         self.count
     }
 
-    /// The rows that the records are, in a batch, and the fault that ends them: `BadCell` at the first record with a field
-    /// that is not a cell of its column.
+    /// The rows that the records are, in a batch, and the fault that ends them: `Width` at the first record with more or fewer
+    /// fields than there are columns, or `BadCell` at one with a field that is not a cell of its column.
     ///
-    /// Allocates for the batch's columns, for texts over 16 bytes, and for one field with doubled quotes. `Memory` if an
-    /// allocation fails.
+    /// Allocates for the batch's columns, for texts over 16 bytes, and for one record. `Memory` if an allocation fails.
     pub fn into_batch(self, alloc: Global) -> Result<(Batch, Option<ScanFault>), Memory>
         ensures { IfOk result (λ r. ReadsRun self r.0 r.1) }
     {
@@ -63,41 +64,41 @@ impl RecordRun {
             layout,
             before,
             count,
-            fields,
+            text,
         } = self;
-        let (columns, bad) = columns_of(alloc, &layout, &fields, count)?;
+        let (columns, bad) = columns_of(alloc, &layout, text.as_slice(), count)?;
         let batch = Batch::new(layout.schema, columns);
         Ok((batch, fault_of(file, before, bad)))
     }
 }
 
-// The columns of the rows that `count` records are, up to the first with a field that is not a cell, and its place.
+// The columns of the rows that the `count` records of a text are, up to the first that is not a row, and its place.
 fn columns_of(
     alloc: Global,
     layout: &Layout,
-    fields: &RawFields,
+    text: &[u8],
     count: u32,
-) -> Result<(Vec<Column>, Option<(u32, u16)>), Memory>
-    requires { length fields.now ≡ count * length layout.now.schema }
-    ensures rows { IfOk result (λ r. HoldsRows layout.now.nulls (kinds_of layout.now.schema) (records_in count (length layout.now.schema) fields.now) r.0.items r.1) }
+) -> Result<(Vec<Column>, Option<(u32, NoRow)>), Memory>
+    requires unmarked { strip_bom text.now ≡ text.now }
+    requires count { length (records default_config text.now) ≡ count }
+    ensures rows { IfOk result (λ r. HoldsRowsOf layout.now.nulls (kinds_of layout.now.schema) (records default_config text.now) r.0.items r.1) }
     ensures some { IfOk result (λ r. 0 < length r.0.items) }
 {
     let mut columns = empty_columns(alloc, &layout.schema, count as usize)?;
-    let bad = push_rows(alloc, columns.as_mut_slice(), fields, count, &layout.nulls)?;
+    let bad = push_records(alloc, columns.as_mut_slice(), text, count, &layout.nulls)?;
     Ok((columns, bad))
 }
 
-// The fault of a field that is not a cell, by its place in a run after some rows.
-fn fault_of(file: u16, before: u32, bad: Option<(u32, u16)>) -> Option<ScanFault>
+// The fault of a record that is not a row, by its place in a run after some rows.
+fn fault_of(file: u16, before: u32, bad: Option<(u32, NoRow)>) -> Option<ScanFault>
     requires { IfSome bad (λ place. before + place.0 + 1 ≤ MAX_ROWS) }
-    ensures fault { result ≡ option_map (bad_cell file before) bad }
+    ensures fault { result ≡ option_map (run_fault file before) bad }
     ensures cause { IsOfText result }
 {
-    match bad {
-        None => None,
-        Some((row, column)) => {
-            let row = before + row + 1;
-            Some(ScanFault::BadCell { file, row, column })
-        }
-    }
+    let (row, why) = bad?;
+    let row = before + row + 1;
+    Some(match why {
+        NoRow::Width => ScanFault::Width { file, row },
+        NoRow::BadCell(column) => ScanFault::BadCell { file, row, column },
+    })
 }

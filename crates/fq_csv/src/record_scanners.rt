@@ -17,10 +17,10 @@ use std::alloc::Global;
 use std::io::Read;
 use std::marker::Model;
 
-/// A scan of a file that hands out its records in runs, and reads no field as a cell.
+/// A scan of a file that hands out its records in runs, as text.
 ///
-/// It judges what needs no cell: the header, how many fields a record has, and how many rows there are.
-/// [`RecordRun::into_batch`] judges the rest, in whatever thread.
+/// It judges the header and how many records there are, and only finds where records end. [`RecordRun::into_batch`] reads them, in
+/// whatever thread, and judges the rest: how many fields a record has, and what they are.
 #[derive(Drop)]
 pub struct RecordScanner<R: Read> {
     alloc: Global,
@@ -112,8 +112,8 @@ impl<R: Read> RecordScanner<R> {
 
     /// The next records of the file; `None` at its end.
     ///
-    /// Each run but the last has `run_size` records, and none is empty. Before `Header`, `Width` and `TooLong` the records
-    /// before that place are handed out. At `Read`, if the reader failed, and at `Memory`, if an allocation failed, those
+    /// Each run but the last has `run_size` records, and none is empty. Before `TooLong` the records up to the limit are handed
+    /// out; at `Header` there are none. At `Read`, if the reader failed, and at `Memory`, if an allocation failed, those
     /// that were read since the last run are dropped. Once the end was answered, each further call answers that same end.
     /// A run allocates; a single record or field does not.
     pub fn next_run(&mut self) -> Result<Option<RecordRun>, ScanFault>

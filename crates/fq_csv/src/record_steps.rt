@@ -12,7 +12,7 @@ use crate::layouts::Layout;
 use crate::record_runs::RecordRun;
 use crate::records::Records;
 use crate::spans::Span;
-use crate::taking::take_records;
+use crate::taking::{Taken, take_records};
 use std::alloc::Global;
 use std::io::Read;
 
@@ -76,11 +76,7 @@ fn try_read_run<R: Read>(
     ensures failed { IfErr result (StopsBy records.old.file records.new.stopped) }
     ensures step { IfOk result (λ step. IsRunStep span layout.now records.old records.new Stage.Rows step.stage step.run) }
 {
-    let width = layout.schema.len();
-    records.start_anew(span.room() * width)?;
-    let taken = take_records(records, width, span)?;
-    let stage = taken.stage;
-    let count = taken.count;
+    let Taken { text, count, stage } = take_records(alloc, records, span)?;
     if count == 0 {
         return Ok(RunStep { run: None, stage });
     }
@@ -89,7 +85,7 @@ fn try_read_run<R: Read>(
         layout: layout.copy(alloc)?,
         before: span.from,
         count,
-        fields: records.hand_out(alloc)?,
+        text,
     };
     Ok(RunStep {
         run: Some(run),

@@ -17,7 +17,7 @@ use Rattle.fq_plan.specs.declared.file_feeds.Scanned.TheVariants as scanned
 use Rattle.fq_plan.specs.declared.leading_steps.Worked.{Worked}
 use Rattle.fq_plan.specs.declared.leading_steps.Worked.TheVariants as worked
 
--- the rows that a run's records are, up to the first with a field that is not a cell
+-- the rows that a run's records are, up to the first that is not a row
 abbrev pub rows_of_run : FieldRun → Stream ScanFault
 rows_of_run run = rows_after run.file run.layout row_limit run.before run.records
 

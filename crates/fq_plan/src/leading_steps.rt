@@ -15,8 +15,8 @@ use std::alloc::Global;
 pub enum Worked {
     /// A batch of the main source after the leading row-wise steps, or one of another source as it is.
     Piece(Piece),
-    /// Such a batch of the rows before a record with a field that is not a cell, and that record's fault, which ends the
-    /// file if no step has faulted before it.
+    /// Such a batch of the rows before a record that is not a row, and that record's fault, which ends the file if no step has
+    /// faulted before it.
     Cut(Piece, ScanFault),
     /// Why a file's records ended before the file did; the last item of the file.
     Ended(ScanFault),

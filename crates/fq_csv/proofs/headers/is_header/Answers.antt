@@ -1,21 +1,22 @@
-use Rattle.std.proofs.Common.{◌≡◌, ◌∙◌, Some, ap, arith, below_more, length, sym}
-use Rattle.std.proofs.lemmas.List.{length-map}
-use Rattle.fq_column.specs.Frame.{names_of}
-use Rattle.fq_csv.proofs.HeaderLemmas.{bytes-differ, bytes-same, names-other, names-same}
+use Rattle.std.specs.Cmp.Lexicographic.{pointwise}
+use Rattle.std.proofs.Common.{◌≡◌, ◌∷◌, ◌∙◌, List, [], ap, arith, length, sym}
+use Rattle.csv.specs.Reading.{default_config, records}
+use Rattle.csv.specs.Records.{fields_of}
+use Rattle.fq_column.specs.Frame.{names_of, same_name}
+use Rattle.fq_csv.specs.File.{Record}
+use Rattle.fq_csv.specs.Readers.{HasLeft}
 use Rattle.fq_csv.proofs.headers.is_header.Goals as goal
 
-pub returns-then-ne : goal.returns-then-ne
-returns-then-ne c =
-    names-other (names_of c.args.schema.now) c.args.row.now c.loop-i.i c.as_bytes.result.now c.in_ok-get.field-0.now (c.name.ensures ∙ ap Some (sym c.as_bytes.ensures.value)) c.in_ok-get.ensures
-    (bytes-differ c.in_ok-get.field-0.now c.as_bytes.result.now c.if-ne.ensures)
-
-pub loop-i-preserved : goal.loop-i-preserved
-loop-i-preserved c =
-    let same = bytes-same c.in_ok-get.field-0.now c.as_bytes.result.now c.if-ne.ensures in
-    below_more _ _ c.loop-i.invariant (c.name.ensures ∙ ap Some (sym (same ∙ c.as_bytes.ensures.value)) ∙ c.in_ok-get.ensures)
+pub unreachable-requires : goal.unreachable-requires
+unreachable-requires c =
+    let rs = records default_config c.args.text.now in
+    let none : rs ≡ [] = rw c.if-not-branch.true at (c.in_ok-next_record.ensures.reads rs c.reader_of-reader.ensures.left) in
+    omega (arith, ap length none, c.requires.one)
 
 pub returns : goal.returns
-returns c =
-    let names = names_of c.args.schema.now in
-    let size : length names ≡ length c.args.schema.now = length-map _ _ in
-    names-same names c.args.row.now (sym c.len.ensures ∙ c.if-len.false ∙ c.len-2.ensures.len ∙ sym size) (λ k l. c.loop-i.invariant k (omega (arith, l, size, c.loop-i-test.false, c.len-i-end.ensures.len)))
+returns c r e =
+    let rs = records default_config c.args.text.now in
+    let fs = fields_of c.next_record.new.row in
+    let step : (rest : List Record) × (rs ≡ fs ∷ rest) × HasLeft c.next_record.new.reader rest = rw c.if-not-branch.false at (c.in_ok-next_record.ensures.reads rs c.reader_of-reader.ensures.left) in
+    let first : fs ≡ r = (let z : fs ∷ step.0 ≡ r ∷ [] = sym step.1 ∙ e in cc) in
+    (c.has_names.ensures ∙ ap (λ x. pointwise same_name (names_of c.args.schema.now) x) first)

@@ -1,5 +1,5 @@
 use Rattle.std.specs.Prelude.{◌+◌, ◌-◌, if◌then◌else◌, length}
-use Rattle.fq_csv.specs.Buffer.{IsSound, ReadsOn}
+use Rattle.fq_csv.specs.Buffer.{IsSound, ReadsOn, rest_of}
 use Rattle.fq_csv.proofs.buffers.Buffer.read_up_to.Given as goal
 
 abbrev pub invariant-loop-self : goal.invariant-loop-self
@@ -9,4 +9,4 @@ invariant-loop-self g l = record {
 }
 
 abbrev pub decreases-loop-self : goal.decreases-loop-self
-decreases-loop-self g l = (l.wanted - length l.self.text.items) + (if l.self.is_last then 0 else 1)
+decreases-loop-self g l = (l.wanted - length (rest_of l.self)) + (if l.self.is_last then 0 else 1)

@@ -1,0 +1,130 @@
+-- The rows that the records of a text are.
+use Rattle.std.specs.Prelude.{◌==◌, MatchBool, slice_get}
+use Rattle.std.specs.Borrow.{Bor}
+use Rattle.std.proofs.Common.{◌≡◌, ◌<◌, ◌≤◌, ◌+◌, ◌++◌, ◌∙◌, ℕ, zero, suc, Bool, true, false, List, [], ◌∷◌, Option, Some, None, Ok, Err, length, refl, sym, ap, arith, append-nil, length-append}
+use Rattle.std.proofs.lemmas.Bool.Decides.{nat_tests}
+use Rattle.csv.specs.Reading.{Reached, ReadRecord, default_config}
+use Rattle.csv.specs.Records.{field_at}
+use Rattle.csv.specs.declared.reader.Reader.{Reader}
+use Rattle.csv.proofs.ReadFacts.{rows-end, rows-more}
+use Rattle.fq_column.specs.declared.cells.Kind.{Kind}
+use Rattle.fq_column.specs.Column.{Cells}
+use Rattle.fq_column.specs.Frame.{Row, kinds_of}
+use Rattle.fq_column.specs.Stream.{Stream, done, then_stream}
+use Rattle.fq_csv.specs.File.{Record, row_of, rows_after}
+use Rattle.fq_csv.specs.Rows.{Holds, kinds_in, row_by_kinds, with_row}
+use Rattle.fq_csv.specs.Readers.{HasLeft, IsPlain, records_left}
+use Rattle.fq_csv.specs.TextRows.{HoldsRowsOf, IsNoRow, fault_by}
+use Rattle.fq_csv.specs.declared.faults.ScanFault.{ScanFault}
+use Rattle.fq_csv.specs.declared.layouts.Layout.{Layout}
+use Rattle.fq_csv.specs.declared.text_rows.NoRow.{NoRow}
+use Rattle.fq_csv.specs.declared.text_rows.NoRow.TheVariants as no
+use Rattle.fq_csv.proofs.HeldRowLemmas.{Holds-more}
+use Rattle.fq_csv.proofs.FileStreamLemmas.{after-fault, after-row, length-columns, row-bad, row-good, row-width, then-end}
+use Rattle.fq_csv.proofs.RecordLemmas.{left-none, left-some}
+use Rattle.fq_csv.proofs.ScanLemmas.{rows-split}
+
+-- ---- a read of a record
+
+-- the bytes that a text has still to give
+abbrev pub told : Bor (List ℕ) → Option (List ℕ)
+told s = Some s.now
+
+pub reads : (a b : Reader (Bor (List ℕ))) (found : Bool) (fields : Record) (rs : List Record) → IsPlain a → ReadRecord told a b found fields → HasLeft a rs →
+    MatchBool found ((rest : List Record) × (rs ≡ fields ∷ rest) × HasLeft b rest) (rs ≡ [])
+unfolding Reached
+reads a b true fields rs plain r left =
+    let m = rows-more told a b fields default_config a.state left.0 left.0 [] plain.2 left.1 (refl, refl) r in
+    let p = m.2.0 in
+    let same : rs ≡ fields ∷ records_left b.state m.0 =
+    left.2 ∙ left-some a.state left.0 p m.2.1 ∙ ap (λ f. f ∷ records_left p.1 p.2) (sym m.2.2) ∙ ap (λ s. fields ∷ records_left s p.2) m.2.3.0 ∙ ap (λ xs. fields ∷ records_left b.state xs) m.2.3.1 in
+    (records_left b.state m.0, same, (m.0, m.1, refl))
+reads a b false fields rs plain r left = left.2 ∙ left-none a.state left.0 (rows-end told a b fields default_config left.0 plain.2 left.1 r)
+
+-- ---- a field of a record
+
+pub field-there : (fs : Record) (i : ℕ) → field_at fs i ≡ slice_get fs i
+unfolding field_at
+field-there [] i = refl
+field-there (f ∷ fs) zero = refl
+field-there (f ∷ fs) (suc i) = field-there fs i
+
+pub field-gone : (fs : Record) (i : ℕ) → i < length fs → field_at fs i ≡ None → ⊥
+unfolding field_at
+field-gone [] i h e = omega (arith, h)
+field-gone (f ∷ fs) zero h e = cc e
+field-gone (f ∷ fs) (suc i) h e = field-gone fs i (omega (arith, h)) e
+
+-- ---- the rows so far
+
+pub record HasRows (nulls : List (List ℕ)) (kinds : List Kind) (rs : List Record) (columns : List Cells) : Type 0 where
+  pub rows : List Row
+  pub number : length rows ≡ length rs
+  pub held : Holds kinds columns rows
+  pub stream : (file before limit : ℕ) (layout : Layout) → layout.nulls ≡ nulls → kinds_of layout.schema ≡ kinds → before + length rs ≤ limit → rows_after file layout limit before rs ≡ done rows
+
+module _ (nulls : List (List ℕ)) (kinds : List Kind) where
+  -- a row more
+  pub HasRows-more : (rs : List Record) (columns : List Cells) (r : Record) (row : Row) → HasRows nulls kinds rs columns → length r ≡ length columns
+      → row_by_kinds nulls (kinds_in columns) r ≡ Ok row → length row ≡ length columns → HasRows nulls kinds (rs ++ r ∷ []) (with_row columns row)
+  HasRows-more rs columns r row h wide good size = record {
+    rows = h.rows ++ row ∷ [];
+    number = simp length-append (omega (arith, h.number));
+    held = Holds-more kinds columns h.rows row h.held size;
+    stream = λ file before limit layout l e room.
+        let at = before + length rs in
+        let n = length-append rs (r ∷ []) in
+        let small : at + 1 ≤ limit = omega (arith, room, n) in
+        let is : row_by_kinds layout.nulls (kinds_of layout.schema) r ≡ Ok row = ap (λ ns. row_by_kinds ns (kinds_of layout.schema) r) l ∙ ap (λ ks. row_by_kinds nulls ks r) (e ∙ sym h.held.same_kinds) ∙ good in
+        let size2 : length r ≡ length layout.schema = wide ∙ length-columns kinds columns h.rows layout.schema h.held e in
+        rows-split file layout limit before rs (r ∷ [])
+        ∙ ap (λ u. then_stream u (rows_after file layout limit at (r ∷ []))) (h.stream file before limit layout l e (omega (arith, room, n)))
+        ∙ ap (then_stream (done h.rows)) (after-row file layout limit at r [] row (row-good file layout limit (at + 1) r row small size2 is));
+  }
+
+  -- a record that is not a row
+  fault-is : (columns : List Cells) (rows : List Row) (file n limit : ℕ) (layout : Layout) (r : Record) (why : NoRow) → Holds kinds columns rows → layout.nulls ≡ nulls → kinds_of layout.schema ≡ kinds → n ≤ limit
+      → IsNoRow nulls columns r why → row_of file layout limit n r ≡ Err (fault_by file n why)
+  fault-is columns rows file n limit layout r no.Width held l e small w =
+      let size : length columns ≡ length layout.schema = length-columns kinds columns rows layout.schema held e in
+      row-width file layout limit n r small (λ same. (let z : (length r == length columns) ≡ true = grind (arith, nat_tests, same, size) in cc (sym w ∙ z)))
+  fault-is columns rows file n limit layout r (no.BadCell i) held l e small w =
+      let is : row_by_kinds layout.nulls (kinds_of layout.schema) r ≡ Err i = ap (λ ns. row_by_kinds ns (kinds_of layout.schema) r) l ∙ ap (λ ks. row_by_kinds nulls ks r) (e ∙ sym held.same_kinds) ∙ w.1 in
+      row-bad file layout limit n r i small (w.0 ∙ length-columns kinds columns rows layout.schema held e) is
+
+  pub HasRows-bad : (all rs rest : List Record) (columns : List Cells) (r : Record) (n : ℕ) (why : NoRow) → all ≡ rs ++ r ∷ rest → length rs ≡ n → HasRows nulls kinds rs columns → IsNoRow nulls columns r why
+      → HoldsRowsOf nulls kinds all columns (Some (n, why))
+  HasRows-bad all rs rest columns r n why split number h w =
+      let many : length all ≡ length rs + suc (length rest) = ap length split ∙ length-append rs (r ∷ rest) in
+      record {
+        rows = h.rows;
+        held = h.held;
+        all = λ e. cc e;
+        place = (sym number ∙ sym h.number, omega (arith, many, h.number));
+        stream = λ file before limit layout l e room.
+            let at = before + length rs in
+            let small : at + 1 ≤ limit = omega (arith, room, many) in
+            ap (rows_after file layout limit before) split
+            ∙ rows-split file layout limit before rs (r ∷ rest)
+            ∙ ap (λ u. then_stream u (rows_after file layout limit at (r ∷ rest))) (h.stream file before limit layout l e (omega (arith, room, many)))
+            ∙ ap (then_stream (done h.rows)) (after-fault file layout limit at r rest (fault_by file (at + 1) why) (fault-is columns h.rows file (at + 1) limit layout r why h.held l e small w))
+            ∙ then-end h.rows (Some (fault_by file (at + 1) why))
+            ∙ ap (λ m. let u : Stream ScanFault = record { rows = h.rows; fault = Some (fault_by file (before + m + 1) why) } in u) number;
+      }
+
+  -- all of them are rows
+  pub HasRows-all : (all rs rest : List Record) (columns : List Cells) → all ≡ rs ++ rest → length rs ≡ length all → HasRows nulls kinds rs columns → HoldsRowsOf nulls kinds all columns None
+  HasRows-all all rs rest columns split number h =
+      let none : rest ≡ [] = nothing rest (omega (arith, ap length split ∙ length-append rs rest, number)) in
+      let same : all ≡ rs = split ∙ ap (λ ys. rs ++ ys) none ∙ append-nil rs in
+      record {
+        rows = h.rows;
+        held = h.held;
+        all = λ e. h.number ∙ number;
+        place = tt;
+        stream = λ file before limit layout l e room. ap (rows_after file layout limit before) same ∙ h.stream file before limit layout l e (omega (arith, room, number));
+      }
+    where
+      nothing : (xs : List Record) → length xs ≡ 0 → xs ≡ []
+      nothing [] e = refl
+      nothing (x ∷ xs) e = absurd (omega (arith, e))

@@ -1,6 +1,0 @@
-use Rattle.fq_column.specs.Frame.{names_of}
-use Rattle.fq_csv.proofs.HeaderLemmas.{SameBelow}
-use Rattle.fq_csv.proofs.headers.is_header.Given as goal
-
-abbrev pub invariant-loop-i : goal.invariant-loop-i
-invariant-loop-i l = SameBelow (names_of l.schema) l.row l.i

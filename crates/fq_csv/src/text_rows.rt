@@ -1,0 +1,86 @@
+//! The rows that the records of a text are.
+ghost use Rattle.std.specs.Prelude.{◌≡◌, ◌<◌, ◌≤◌, All, IfNone, IfOk, IfSome, List, MatchBool, OnOk, Ok, [], ◌∷◌, length};
+ghost use Rattle.csv.specs.Reading.{default_config, records, strip_bom};
+ghost use Rattle.csv.specs.Records.{fields_of};
+ghost use Rattle.fq_column.specs.Column.{Cells};
+ghost use Rattle.fq_column.specs.Frame.{Row};
+ghost use Rattle.fq_csv.specs.File.{Record};
+ghost use Rattle.fq_csv.specs.Rows.{Holds, kinds_in, row_by_kinds, with_row};
+ghost use Rattle.fq_csv.specs.TextRows.{HoldsRowsOf, IsNoRow};
+
+use crate::field_cells::push_field;
+use crate::layouts::NullValues;
+use crate::readers::{next_record, reader_of};
+use csv::ByteRecord;
+use fq_column::{Column, Memory, cut_columns};
+use std::alloc::Global;
+
+/// Why a record is not a row.
+#[derive(Clone, Copy)]
+pub(crate) enum NoRow {
+    /// It has more or fewer fields than there are columns.
+    Width,
+    /// A field is not a cell of its column, whose number this is.
+    BadCell(u16),
+}
+
+// Adds the cells that a record's fields are to columns of `height` cells, one to each.
+//
+// If the record is not a row, the columns are as before.
+fn push_record(
+    columns: &mut [Column],
+    row: &ByteRecord,
+    height: u32,
+    nulls: &NullValues,
+) -> Result<Option<NoRow>, Memory>
+    requires few { length columns.old ≤ 64 }
+    requires height { All (λ (c : Cells). length c.cells ≡ height) columns.old }
+    ensures row { IfOk result (λ why. IfNone why ((cells : Row) × (length (fields_of row.now) ≡ length columns.old)
+        × (row_by_kinds nulls.now (kinds_in columns.old) (fields_of row.now) ≡ Ok cells) × (columns.new ≡ with_row columns.old cells)
+        × (length cells ≡ length columns.old))) }
+    ensures none { IfOk result (λ why. IfSome why (λ w. IsNoRow nulls.now columns.old (fields_of row.now) w × (columns.new ≡ columns.old))) }
+{
+    if row.len() != columns.len() {
+        return Ok(Some(NoRow::Width));
+    }
+    for i in 0..columns.len() {
+        let Some(field) = row.get(i) else {
+            unreachable!()
+        };
+        if !push_field(&mut columns[i], field, nulls)? {
+            cut_columns(columns, height as usize);
+            return Ok(Some(NoRow::BadCell(i as u16)));
+        }
+    }
+    Ok(None)
+}
+
+/// Adds the rows that the `count` records of a text are to empty columns. A field that is one of `nulls` is null.
+///
+/// At the first record that is not a row, the rows before it are in the columns, and the record's number, from 0, and why it is none
+/// are the answer.
+pub(crate) fn push_records(
+    alloc: Global,
+    columns: &mut [Column],
+    text: &[u8],
+    count: u32,
+    nulls: &NullValues,
+) -> Result<Option<(u32, NoRow)>, Memory>
+    requires few { length columns.old ≤ 64 }
+    requires empty { Holds (kinds_in columns.old) columns.old [] }
+    requires unmarked { strip_bom text.now ≡ text.now }
+    requires count { length (records default_config text.now) ≡ count }
+    ensures { IfOk result (λ bad. HoldsRowsOf nulls.now (kinds_in columns.old) (records default_config text.now) columns.new bad) }
+{
+    let mut reader = reader_of(alloc, text);
+    let mut fields = ByteRecord::new(alloc);
+    for row in 0..count {
+        if !next_record(&mut reader, &mut fields)? {
+            unreachable!()
+        }
+        if let Some(why) = push_record(columns, &fields, row, nulls)? {
+            return Ok(Some((row, why)));
+        }
+    }
+    Ok(None)
+}
