@@ -382,6 +382,10 @@ def csv_file(draw, columns, most_rows, care, nulls):
             lines.append(b"")
     ends = draw.choice([[b"\n"], [b"\n"], [b"\r\n"], [b"\r"], [b"\n", b"\r\n", b"\r"]])
     mark = b"\xef\xbb\xbf" if draw.often(3) else b""
+    if len(lines) > 1 and draw.often(3):
+        # a mark that is part of a field, wherever a run of records may begin
+        place = draw.randrange(1, len(lines))
+        lines[place] = b"\xef\xbb\xbf" + lines[place]
     if draw.often(20):
         last = lines.pop()
     else:

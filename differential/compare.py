@@ -3,7 +3,7 @@
 
     differential/compare.py [--cases N] [--seed S] [--version V] [--program PATH]
 
-Each case runs at four settings, one of them random, and, if it has one file, also without arguments. If it has 16 files, the
+Each case runs at five settings, one of them random, and, if it has one file, also without arguments. If it has 16 files, the
 random setting has 16 workers. Output, exit status and the line on standard error are compared byte by byte. At the first
 difference the case is kept in a folder, whose path is printed, and the status is 1. At the end a table says how many cases
 ended in which way.
@@ -21,7 +21,7 @@ import oracle
 
 ROOT = os.path.dirname(os.path.dirname(os.path.abspath(__file__)))
 LONGEST_RUN = 60  # seconds
-SETTINGS = [[], ["--batch", "1", "--workers", "1"], ["--batch", "2", "--workers", "16"]]
+SETTINGS = [[], ["--batch", "1", "--workers", "1"], ["--batch", "2", "--workers", "16"], ["--batch", "3", "--workers", "3"]]
 
 # One run of the program: its arguments, its standard input, and the answer that it is to give.
 Run = namedtuple("Run", "words standard_input expected")
