@@ -111,11 +111,13 @@ def run(words, folder):
 def main():
     words = argparse.ArgumentParser(description="Measures the time and the peak memory that frameq takes.")
     words.add_argument("--megabytes", type=int, action="append", help="size of the large file [100, then 1000]")
-    words.add_argument("--program", default=os.path.join(ROOT, "frameq"), help="the frameq to measure [the one that ./frameq builds]")
+    words.add_argument("--program", help="the frameq to measure [the one that tools/build builds]")
     words.add_argument("--workers", default="2", help="workers [2]")
     words.add_argument("--runs", type=int, default=1, help="runs of each task [1]")
     given = words.parse_args()
-    subprocess.run([given.program, "--help"], check=True, stdout=subprocess.DEVNULL)
+    if not given.program:
+        subprocess.run([os.path.join(ROOT, "tools", "build")], check=True)
+        given.program = os.path.join(ROOT, "crates", "frameq", "out", "frameq")
     exceeded = 0
     with tempfile.TemporaryDirectory() as folder:
         make_products(os.path.join(folder, "products.csv"))

@@ -491,10 +491,10 @@ def print_table(figures):
 
 
 def binary(given: Optional[str]):
-    """The program to time: the one given, or else the one that ./frameq builds."""
+    """The program to time: the one given, or else the one that tools/build builds."""
     if given:
         return os.path.abspath(given)
-    subprocess.run([os.path.join(ROOT, "frameq"), "--help"], stdout=subprocess.DEVNULL, check=True)
+    subprocess.run([os.path.join(ROOT, "tools", "build")], check=True)
     return os.path.join(ROOT, "crates", "frameq", "out", "frameq")
 
 
@@ -503,7 +503,7 @@ def arguments():
     parser.add_argument("--rows", type=int, default=1_000_000, help="rows of each large file but the wide one, which has a sixth [1000000]")
     parser.add_argument("--runs", type=int, default=5, help="timed runs of each program on each task [5]")
     parser.add_argument("--task", action="append", choices=TASKS, help="a task; may be given again [all]")
-    parser.add_argument("--program", help="the frameq to time [the one that ./frameq builds]")
+    parser.add_argument("--program", help="the frameq to time [the one that tools/build builds]")
     parser.add_argument("--beside", help="another frameq to time beside it")
     parser.add_argument("--save", metavar="FILE", help="save the figures as JSON, and draw them as speed.svg and workers.svg in its folder")
     parser.add_argument("--draw", metavar="FILE", help="only draw figures that were saved")

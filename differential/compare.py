@@ -32,10 +32,10 @@ class Difference(Exception):
 
 
 def binary(given):
-    """The program to compare: the one given, or else the one that ./frameq builds."""
+    """The program to compare: the one given, or else the one that tools/build builds."""
     if given:
         return os.path.abspath(given)
-    subprocess.run([os.path.join(ROOT, "frameq"), "--help"], stdout=subprocess.DEVNULL, check=True)
+    subprocess.run([os.path.join(ROOT, "tools", "build")], check=True)
     return os.path.join(ROOT, "crates", "frameq", "out", "frameq")
 
 
@@ -110,7 +110,7 @@ def arguments():
     parser.add_argument("--cases", type=int, default=1000, help="how many cases [1000]")
     parser.add_argument("--seed", type=int, default=1, help="another seed, other cases [1]")
     parser.add_argument("--version", type=int, choices=[1, 2], help="the version of all plans [each with even odds]")
-    parser.add_argument("--program", help="the frameq to compare [the one that ./frameq builds]")
+    parser.add_argument("--program", help="the frameq to compare [the one that tools/build builds]")
     return parser.parse_args()
 
 
