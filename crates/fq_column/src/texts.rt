@@ -28,7 +28,7 @@ enum Storage {
 
 /// A text of a cell. Texts are compared, ordered and hashed by their UTF-8 bytes.
 ///
-/// Up to 16 bytes lie in the value itself; a longer text is allocated.
+/// A copy of up to 16 bytes lies in the value itself, and a longer one is allocated; a text made from a `String` keeps its memory.
 #[derive(Drop, Debug)]
 pub struct Text {
     storage: Storage,
@@ -102,6 +102,19 @@ impl Text {
         ensures { IfOk result (λ t. t ≡ self.now) }
     {
         Text::new(alloc, self.as_str())
+    }
+}
+
+impl From<String> for Text {
+    ghost use Rattle.std.specs.Prelude.{◌≡◌, string_bytes};
+
+    ghost from_gives = { λ string text. text ≡ string_bytes string };
+
+    /// The text of a string, which stays in the string's memory: nothing is allocated or copied.
+    fn from(string: String) -> Text {
+        Text {
+            storage: Storage::Heap(string),
+        }
     }
 }
 

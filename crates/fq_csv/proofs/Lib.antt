@@ -4,6 +4,7 @@ pub mod BufferLemmas
 pub mod CuttingLemmas
 pub mod BlockLemmas
 pub mod RecordLemmas
+pub mod ReaderLemmas
 pub mod HeldRowLemmas
 pub mod FileStreamLemmas
 pub mod TakingLemmas

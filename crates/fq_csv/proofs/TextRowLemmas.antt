@@ -1,19 +1,13 @@
 -- The rows that the records of a text are.
-use Rattle.std.specs.Prelude.{◌==◌, MatchBool, slice_get}
-use Rattle.std.specs.Borrow.{Bor}
-use Rattle.std.proofs.Common.{◌≡◌, ◌<◌, ◌≤◌, ◌+◌, ◌++◌, ◌∙◌, ℕ, zero, suc, Bool, true, false, List, [], ◌∷◌, Option, Some, None, Ok, Err, length, refl, sym, ap, arith, append-nil, length-append}
+use Rattle.std.specs.Prelude.{◌==◌}
+use Rattle.std.proofs.Common.{◌≡◌, ◌≤◌, ◌+◌, ◌++◌, ◌∙◌, ℕ, suc, true, List, [], ◌∷◌, Some, None, Ok, Err, length, refl, sym, ap, arith, append-nil, length-append}
 use Rattle.std.proofs.lemmas.Bool.Decides.{nat_tests}
-use Rattle.csv.specs.Reading.{Reached, ReadRecord, default_config}
-use Rattle.csv.specs.Records.{field_at}
-use Rattle.csv.specs.declared.reader.Reader.{Reader}
-use Rattle.csv.proofs.ReadFacts.{rows-end, rows-more}
 use Rattle.fq_column.specs.declared.cells.Kind.{Kind}
 use Rattle.fq_column.specs.Column.{Cells}
 use Rattle.fq_column.specs.Frame.{Row, kinds_of}
 use Rattle.fq_column.specs.Stream.{Stream, done, then_stream}
 use Rattle.fq_csv.specs.File.{Record, row_of, rows_after}
 use Rattle.fq_csv.specs.Rows.{Holds, kinds_in, row_by_kinds, with_row}
-use Rattle.fq_csv.specs.Readers.{HasLeft, IsPlain, records_left}
 use Rattle.fq_csv.specs.TextRows.{HoldsRowsOf, IsNoRow, fault_by}
 use Rattle.fq_csv.specs.declared.faults.ScanFault.{ScanFault}
 use Rattle.fq_csv.specs.declared.layouts.Layout.{Layout}
@@ -21,39 +15,7 @@ use Rattle.fq_csv.specs.declared.text_rows.NoRow.{NoRow}
 use Rattle.fq_csv.specs.declared.text_rows.NoRow.TheVariants as no
 use Rattle.fq_csv.proofs.HeldRowLemmas.{Holds-more}
 use Rattle.fq_csv.proofs.FileStreamLemmas.{after-fault, after-row, length-columns, row-bad, row-good, row-width, then-end}
-use Rattle.fq_csv.proofs.RecordLemmas.{left-none, left-some}
 use Rattle.fq_csv.proofs.ScanLemmas.{rows-split}
-
--- ---- a read of a record
-
--- the bytes that a text has still to give
-abbrev pub told : Bor (List ℕ) → Option (List ℕ)
-told s = Some s.now
-
-pub reads : (a b : Reader (Bor (List ℕ))) (found : Bool) (fields : Record) (rs : List Record) → IsPlain a → ReadRecord told a b found fields → HasLeft a rs →
-    MatchBool found ((rest : List Record) × (rs ≡ fields ∷ rest) × HasLeft b rest) (rs ≡ [])
-unfolding Reached
-reads a b true fields rs plain r left =
-    let m = rows-more told a b fields default_config a.state left.0 left.0 [] plain.2 left.1 (refl, refl) r in
-    let p = m.2.0 in
-    let same : rs ≡ fields ∷ records_left b.state m.0 =
-    left.2 ∙ left-some a.state left.0 p m.2.1 ∙ ap (λ f. f ∷ records_left p.1 p.2) (sym m.2.2) ∙ ap (λ s. fields ∷ records_left s p.2) m.2.3.0 ∙ ap (λ xs. fields ∷ records_left b.state xs) m.2.3.1 in
-    (records_left b.state m.0, same, (m.0, m.1, refl))
-reads a b false fields rs plain r left = left.2 ∙ left-none a.state left.0 (rows-end told a b fields default_config left.0 plain.2 left.1 r)
-
--- ---- a field of a record
-
-pub field-there : (fs : Record) (i : ℕ) → field_at fs i ≡ slice_get fs i
-unfolding field_at
-field-there [] i = refl
-field-there (f ∷ fs) zero = refl
-field-there (f ∷ fs) (suc i) = field-there fs i
-
-pub field-gone : (fs : Record) (i : ℕ) → i < length fs → field_at fs i ≡ None → ⊥
-unfolding field_at
-field-gone [] i h e = omega (arith, h)
-field-gone (f ∷ fs) zero h e = cc e
-field-gone (f ∷ fs) (suc i) h e = field-gone fs i (omega (arith, h)) e
 
 -- ---- the rows so far
 

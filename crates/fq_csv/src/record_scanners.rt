@@ -1,5 +1,5 @@
 //! Scanners of records: the records of a file, handed out in runs.
-ghost use Rattle.std.specs.Prelude.{◌≡◌, ◌≤◌, Option, Some, None, false, IfOk, option_map};
+ghost use Rattle.std.specs.Prelude.{◌≡◌, ◌≤◌, Option, Some, None, false, IfOk, IsOk, option_map};
 ghost use Rattle.fq_csv.specs.RecordScan.{HandsOutRun, HasRunForm, last_run};
 ghost use Rattle.fq_csv.specs.Taking.{RecordStream, record_stream};
 ghost use Rattle.fq_csv.specs.declared.faults.ScanFault.{ScanFault};
@@ -57,7 +57,7 @@ impl<R: Read> RecordScanner<R> {
     /// [`MAX_BATCH_SIZE`].
     ///
     /// The first record must be the names of the layout's schema. More rows than `limit`, at most [`MAX_ROWS`], are a
-    /// fault. The reader's bytes are buffered here. Nothing is read yet, and nothing is allocated.
+    /// fault. The reader's bytes are buffered here. Nothing is read yet, and nothing is allocated, so there is always a scanner.
     pub fn new(
         alloc: Global,
         reader: R,
@@ -71,6 +71,7 @@ impl<R: Read> RecordScanner<R> {
         requires some { 1 ≤ run_size }
         requires not_too_many { run_size ≤ MAX_BATCH_SIZE }
         requires limit { limit ≤ MAX_ROWS }
+        ensures succeeds { IsOk result }
         ensures scanner { IfOk result (λ s. s ≡ record {
           file = file;
           layout = layout;

@@ -1,5 +1,5 @@
 //! Reads that a signal interrupts.
-ghost use Rattle.std.specs.Prelude.{◌≢◌, IfErr};
+ghost use Rattle.std.specs.Prelude.{◌≡◌, ◌≢◌, IfErr, IfNone, IfSome, IsErrAnd};
 ghost use Rattle.std.specs.Io.{ReadsAtMost};
 ghost use Rattle.std.specs.Io.KnownBytes.{ReadConsumes};
 ghost use Rattle.std.specs.IoError.{error_kind};
@@ -22,15 +22,21 @@ impl<R: Read> Read for Retrying<R> {
         ensures retried { IfErr result (λ error. error_kind error ≢ ErrorKind.Interrupted) }
     {
         for _ in 0..u64::MAX {
-            match self.reader.read(buffer) {
-                Ok(count) => return Ok(count),
-                Err(error) => {
-                    if error.kind() != ErrorKind::Interrupted {
-                        return Err(error);
-                    }
-                }
+            if let Some(answer) = unless_interrupted(self.reader.read(buffer)) {
+                return answer;
             }
         }
         Err(io::Error::from(ErrorKind::Other))
+    }
+}
+
+// The answer of a read as it is, or nothing if a signal interrupted it.
+fn unless_interrupted(answer: io::Result<usize>) -> Option<io::Result<usize>>
+    ensures same { IfSome result (λ a. (a ≡ answer) × IfErr answer (λ error. error_kind error ≢ ErrorKind.Interrupted)) }
+    ensures interrupted { IfNone result (IsErrAnd answer (λ error. error_kind error ≡ ErrorKind.Interrupted)) }
+{
+    match answer {
+        Err(error) if error.kind() == ErrorKind::Interrupted => None,
+        answer => Some(answer),
     }
 }

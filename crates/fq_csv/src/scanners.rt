@@ -1,5 +1,5 @@
 //! Scanners: the rows of a file, handed out in batches.
-ghost use Rattle.std.specs.Prelude.{◌≡◌, ◌≤◌, ◌<◌, ◌⊎◌, Option, Some, None, false, length, IfOk, IfErr, option_map};
+ghost use Rattle.std.specs.Prelude.{◌≡◌, ◌≤◌, ◌<◌, ◌⊎◌, Option, Some, None, false, length, IfOk, IfErr, IsOk, option_map};
 ghost use Rattle.fq_column.specs.Stream.{Stream};
 ghost use Rattle.fq_csv.specs.File.{file_stream};
 ghost use Rattle.fq_csv.specs.Scan.{HandsOut, HasForm};
@@ -59,7 +59,7 @@ impl<R: Read> Scanner<R> {
     ///
     /// The first record must be the schema's names. In each later one a field that is one of `nulls`, byte for byte, is null,
     /// whatever the kind of its column; so is an empty one. More rows than `limit` are a fault. The reader's bytes are buffered
-    /// here, and nothing is read yet.
+    /// here. Nothing is read yet, and nothing is allocated, so there is always a scanner.
     pub fn new(
         alloc: Global,
         reader: R,
@@ -74,6 +74,7 @@ impl<R: Read> Scanner<R> {
         requires some { 1 ≤ batch_size }
         requires not_too_many { batch_size ≤ MAX_BATCH_SIZE }
         requires limit { limit ≤ MAX_ROWS }
+        ensures succeeds { IsOk result }
         ensures scanner { IfOk result (λ s. s ≡ record {
           file = file;
           layout = record { schema = schema; nulls = nulls };

@@ -63,7 +63,7 @@ impl Model for Front {
 impl Front {
     /// The front of these steps on batches of a schema; the list may be empty.
     ///
-    /// Its faults number the steps from `first`. `Memory` if an allocation fails.
+    /// Its faults number the steps from `first`. Nothing is allocated, so there is always a front.
     pub fn new(
         _alloc: Global,
         steps: Vec<RowStep>,
@@ -72,7 +72,8 @@ impl Front {
     ) -> Result<Front, Memory>
         requires schemas { IsOk (steps_schema schema (map step_of steps.items)) }
         requires numbers { first + vec_len steps ≤ 64 }
-        ensures { IfOk result (λ f. f ≡ record { steps = map step_of steps.items; fields = schema; first = first }) }
+        ensures succeeds { IsOk result }
+        ensures front { IfOk result (λ f. f ≡ record { steps = map step_of steps.items; fields = schema; first = first }) }
     {
         Ok(Front {
             steps,

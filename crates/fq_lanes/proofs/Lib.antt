@@ -25,6 +25,7 @@ pub mod SetLemmas
 pub mod WorkerThreadLemmas
 pub mod FeedThreadLemmas
 pub mod ThreadLemmas
+pub mod DrainLemmas
 pub mod LaneLemmas
 pub mod TurnLemmas
 pub mod HubStepLemmas

@@ -1,6 +1,6 @@
 -- What the hub takes from the feeds' lanes and from the workers'.
-use Rattle.std.specs.Prelude.{◌≡◌, ℕ, List, [], ◌∷◌, map, Option, Some, None, Bool, Result}
-use Rattle.std.specs.List.{slice_get}
+use Rattle.std.specs.Prelude.{◌≡◌, ◌||◌, ℕ, List, [], ◌∷◌, drop, length, map, Option, Some, None, Bool, false, Result, is_err}
+use Rattle.std.specs.List.{list_any, slice_get}
 use mathlib.Core.List.{IsPrefix}
 use Rattle.fq_lanes.specs.declared.faults.FeedFault.{FeedFault}
 use Rattle.fq_lanes.specs.declared.faults.Memory.{Memory}
@@ -59,3 +59,13 @@ module _ {X O : Type 0} where
   abbrev pub AllReplied : (ℕ → X → O → Type 0) → List (WorkerView X O) → Type 0
   AllReplied works [] = Unit {0}
   AllReplied works (d ∷ ds) = Replied works d.jobs d.answers × AllReplied works ds
+
+  -- whether work was refused whose answer was taken between two views of a worker
+  abbrev pub refused_between : WorkerView X O → WorkerView X O → Bool
+  refused_between old new = list_any is_err (drop (length old.answers) new.answers)
+
+  -- the same of one of several workers
+  abbrev pub any_refused : List (WorkerView X O) → List (WorkerView X O) → Bool
+  any_refused [] news = false
+  any_refused (d ∷ ds) [] = false
+  any_refused (d ∷ ds) (e ∷ es) = refused_between d e || any_refused ds es

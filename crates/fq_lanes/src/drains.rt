@@ -1,10 +1,11 @@
 //! What still comes after a fault is taken and dropped.
-ghost use Rattle.std.specs.Prelude.{◌≡◌, ◌≤◌, List, length};
+ghost use Rattle.std.specs.Prelude.{◌≡◌, ◌≤◌, List, [], All, length, if◌then◌else◌};
 ghost use mathlib.Core.List.{IsPrefix};
 ghost use Rattle.fq_lanes.specs.WorkerLanes.{worker_names, worker_views};
 ghost use Rattle.fq_lanes.specs.FeedLane.{feed_names, feed_views};
-ghost use Rattle.fq_lanes.specs.HubView.{Grows, WorkerGrows, told_in};
+ghost use Rattle.fq_lanes.specs.HubView.{Grows, WorkerGrows, any_refused, told_in};
 ghost use Rattle.fq_lanes.specs.Turns.{BlamesTold};
+ghost use Rattle.fq_lanes.specs.declared.faults.RunFault.TheVariants as run_fault;
 ghost use Rattle.fq_lanes.specs.declared.messages.FromFeed.{FromFeed};
 
 use crate::faults::{RunFault, first_fault};
@@ -41,6 +42,8 @@ pub(crate) fn drain_workers<R: Wait, X, O: Drop>(
 ) -> RunFault
     ensures names { worker_names workers.new.items ≡ worker_names workers.old.items }
     ensures grows { Grows WorkerGrows (worker_views workers.old.items) (worker_views workers.new.items) }
+    ensures idle { All (λ d. d.outstanding.items ≡ []) workers.new.items }
+    ensures fault { result ≡ (if any_refused (worker_views workers.old.items) (worker_views workers.new.items) then run_fault.Memory else fault) }
     ensures blames { (tolds : List (List (FromFeed X))) → BlamesTold tolds fault → BlamesTold tolds result }
 {
     let mut first = fault;

@@ -27,7 +27,7 @@ pub(crate) struct WorkerLanes<'s, X, O> {
 
 impl<'s, X, O> WorkerLanes<'s, X, O> {
     ghost use Rattle.fq_lanes.specs.WorkerLanes.{worker_name, worker_view};
-    ghost use Rattle.fq_lanes.specs.HubView.{WorkerGrows};
+    ghost use Rattle.fq_lanes.specs.HubView.{WorkerGrows, refused_between};
 
     /// A worker that was given no job.
     pub(crate) fn new(
@@ -88,6 +88,8 @@ impl<'s, X, O> WorkerLanes<'s, X, O> {
         O: Drop,
         ensures name { worker_name self.new ≡ worker_name self.old }
         ensures grows { WorkerGrows (worker_view self.old) (worker_view self.new) }
+        ensures idle { self.new.outstanding.items ≡ [] }
+        ensures refused { result ≡ refused_between (worker_view self.old) (worker_view self.new) }
     {
         let mut refused = false;
         for _ in rt.forever() {

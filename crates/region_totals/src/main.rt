@@ -5,7 +5,7 @@
 //! groups. At the end the groups are printed.
 #![tactic(auto)]
 
-ghost use Rattle.std.specs.Prelude.{◌≡◌, ◌++◌, ℕ, List, [], Some, codes, string_bytes, IfOk, OnOk};
+ghost use Rattle.std.specs.Prelude.{◌≡◌, ◌++◌, ℕ, List, [], Some, None, Err, codes, string_bytes, IfOk, IfSome, OnOk};
 ghost use Rattle.fq_column.specs.Frame.{Frame, Row};
 ghost use Rattle.fq_column.specs.Stream.{Stream};
 ghost use Rattle.fq_csv.specs.File.{file_stream, plain};
@@ -18,10 +18,11 @@ ghost use Rattle.fq_ops.specs.Gathered.{HasTakenRows};
 ghost use Rattle.fq_ops.specs.AggregateData.{outputs_of};
 ghost use Rattle.region_totals.specs.Report.{group_keys, group_outputs, order_steps, orders};
 ghost use Rattle.region_totals.specs.Totals.{AreTotals, HasTotals};
+ghost use Rattle.region_totals.specs.declared.Failure.TheVariants as failure;
 
 use fq_column::{Batch, Kind, Memory, Schema, StepFault};
 use fq_csv::{MAX_ROWS, NullValues, Scan, ScanFault, Scanner, print_frame};
-use fq_expr::{Binary, Expr, Front, RowFault, RowStep, Unary, steps_of_joined_streams};
+use fq_expr::{Binary, Expr, Front, Piece, RowFault, RowStep, Unary, steps_of_joined_streams};
 use fq_ops::{Agg, GroupFault, Grouper, What, group_schema};
 use std::alloc::Global;
 use std::io;
@@ -173,15 +174,23 @@ fn add_batch(
     ensures taken { OnOk result ((rows : List Row) → HasTotals front.now grouper.old rows → HasTotals front.now grouper.new (rows ++ batch.rows)) }
 {
     steps_of_joined_streams::<RowFault>();
-    let piece = front.apply(alloc, batch)?;
-    if let Some(fault) = piece.fault {
-        return Err(Failure::Row(fault));
-    }
-    let rows = piece.batch.rows() as u64;
+    let batch = rows_of(front.apply(alloc, batch)?)?;
+    let rows = batch.rows() as u64;
     if grouper.rows_taken().saturating_add(rows) > MAX_GROUPED_ROWS {
         return Err(Failure::TooManyRows);
     }
-    Ok(grouper.take(alloc, &piece.batch)?)
+    Ok(grouper.take(alloc, &batch)?)
+}
+
+// The rows of a piece, or the fault of the row after them.
+fn rows_of(piece: Piece) -> Result<Batch, Failure>
+    ensures fault { IfSome piece.fault (λ fault. result ≡ Err (failure.Row fault)) }
+    ensures rows { IfOk result (λ batch. (piece.fault ≡ None) × (batch ≡ piece.batch)) }
+{
+    match piece.fault {
+        Some(fault) => Err(Failure::Row(fault)),
+        None => Ok(piece.batch),
+    }
 }
 
 // A name in memory of its own.

@@ -3,7 +3,7 @@ use Rattle.std.proofs.lemmas.List.{length-map}
 use Rattle.csv.specs.Records.{fields_of}
 use Rattle.fq_column.specs.Frame.{names_of}
 use Rattle.fq_csv.proofs.HeaderLemmas.{bytes-differ, bytes-same, names-other, names-same}
-use Rattle.fq_csv.proofs.TextRowLemmas.{field-gone, field-there}
+use Rattle.fq_csv.proofs.ReaderLemmas.{field-gone, field-there}
 use Rattle.fq_csv.proofs.headers.has_names.Goals as goal
 
 pub unreachable-requires : goal.unreachable-requires

@@ -1,5 +1,5 @@
 use Rattle.csv.specs.Records.{fields_of}
-use Rattle.fq_csv.proofs.TextRowLemmas.{reads}
+use Rattle.fq_csv.proofs.ReaderLemmas.{reads}
 use Rattle.fq_csv.proofs.readers.next_record.Goals as goal
 use Rattle.fq_csv.proofs.readers.next_record.Goals.{in-Ok, in-Err}
 

@@ -2,7 +2,7 @@ use Rattle.std.specs.Prelude.{slice_get}
 use Rattle.std.proofs.Common.{◌≡◌, ◌<◌, ◌∙◌, Some, arith, length, sym}
 use Rattle.csv.specs.Records.{fields_of}
 use Rattle.fq_csv.proofs.HeldRowLemmas.{Added-bad, Added-done, Added-more}
-use Rattle.fq_csv.proofs.TextRowLemmas.{field-gone, field-there}
+use Rattle.fq_csv.proofs.ReaderLemmas.{field-gone, field-there}
 use Rattle.fq_csv.proofs.text_rows.push_record.Goals as goal
 
 pub unreachable-requires : goal.unreachable-requires

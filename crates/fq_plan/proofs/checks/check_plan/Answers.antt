@@ -93,7 +93,7 @@ front-is : (c : goal.In_ok-front) → c.in_ok-front.front ≡ front_of c
 unfolding front_of
 front-is c =
     let chain : Fields → NumberedSteps = λ fields. record { steps = map step_of c.in_ok-leading.leading.items; fields = fields; first = 0 } in
-    c.in_ok-front.ensures ∙ ap chain c.in_ok-front_schema.ensures
+    c.in_ok-front.ensures.front ∙ ap chain c.in_ok-front_schema.ensures
 
 parts_of : (c : goal.In_ok-front) → c.in_ok-joins.joins.items ≡ c.pop.new.self.items ++ c.in-Some.main ∷ []
 parts_of c = c.pop.ensures.items ∙ ap (λ (o : Option CheckedSource). c.pop.new.self.items ++ option_to_list o) c.in-Some.is
