@@ -1,99 +1,82 @@
-"""Rows of calls of the libraries (src), in which each allocation fails in turn."""
-import collections
-import errno
+"""Rows of calls of the libraries, in which each allocation fails in turn: the tests of tests/src/refusals.rt.txt."""
 import os
+import re
 import shutil
 import subprocess
 import time
 
-from counts import LONGEST_RUN, together, write
+from counts import LONGEST_RUN, together
 
 HERE = os.path.dirname(os.path.abspath(__file__))
 ROOT = os.path.dirname(HERE)
 KIT = os.path.dirname(os.path.dirname(os.path.realpath(shutil.which("rt") or "/bin/rt")))
-LONGEST_BUILD = 400  # seconds
+LONGEST_BUILD = 900  # seconds
 
-# The rows of src, and how many allocations are enough for each; one that needs more fails.
-CALLS = {"columns": 40, "batches": 40, "scans": 120, "joins": 120, "groups": 140, "rolls": 40, "two-files": 400, "group-sums": 400,
-         "group-sum-out-of-range": 400, "left-join": 400, "inner-join": 400, "rolling-sums": 400}
 FAILED_ALLOCATION = 1000  # the number that fails; the allocations before a row are as many as let it be in the row
-
-
-def copy_crates(room):
-    """Lays out the rows as a program among copies of the crates."""
-    own = f"{room}/crates/faults/src"
-    os.makedirs(own)
-    for name in os.listdir(f"{HERE}/src"):
-        shutil.copy(f"{HERE}/src/{name}", f"{own}/{name.removesuffix('.txt')}")
-    for crate in os.listdir(f"{ROOT}/crates"):
-        for part in ("src", "specs", "proofs"):
-            if os.path.isdir(f"{ROOT}/crates/{crate}/{part}"):
-                shutil.copytree(f"{ROOT}/crates/{crate}/{part}", f"{room}/crates/{crate}/{part}")
-    shutil.copy(f"{ROOT}/HANDLES", room)
-    with open(f"{ROOT}/crates.txt", encoding="utf-8") as file:
-        write(f"{room}/crates.txt", file.read() + "faults: fq_column fq_csv fq_ops fq_plan\n")
+LAST_UNMET = 20  # a row that starts threads has some allocations more or fewer; past its end, as many numbers in a row meet none
 
 
 def build_calls(room):
-    """Builds the program of rows by `rt try`, and gives its path, or what was said if it is not built.
+    """Builds the tests by `rt try`, which runs each of them once. Gives their program, their names, and what was said.
 
-    `rt try` builds anew for each run, so its run is only held, by a pipe that it reads, until the program is copied.
+    `rt try` builds anew for each number, and removes the program at its end. So one number is built in, and the program gets a
+    second name while the tests run.
     """
-    copy_crates(room)
-    pipe, program = f"{room}/pipe", f"{room}/calls"
-    os.mkfifo(pipe)
-    command = ["rt", "try", "--fail-alloc", str(FAILED_ALLOCATION), "--", "hold", pipe]
-    with open(f"{room}/said", "w+b") as said:
-        tried = subprocess.Popen(command, cwd=f"{room}/crates/faults", stdin=subprocess.DEVNULL, stdout=said, stderr=said,
+    os.mkdir(room)
+    subprocess.run([f"{ROOT}/tests/stage", f"{room}/staged"], check=True)
+    program, said = f"{room}/calls", f"{room}/said"
+    command = ["rt", "try", "--test", "--fail-alloc", str(FAILED_ALLOCATION), "--", "refusals::"]
+    with open(said, "wb") as out:
+        tried = subprocess.Popen(command, cwd=f"{room}/staged/crates/fq_tests", stdin=subprocess.DEVNULL, stdout=out, stderr=out,
                                  env={**os.environ, "TMPDIR": room})
-        held, began = None, time.monotonic()
-        while held is None and tried.poll() is None and time.monotonic() - began < LONGEST_BUILD:
-            time.sleep(0.2)
-            try:
-                held = os.open(pipe, os.O_WRONLY | os.O_NONBLOCK)
-            except OSError as error:
-                if error.errno != errno.ENXIO:
-                    raise
-        built = [f"{folder}/program" for folder, _, files in os.walk(room) if "program" in files]
-        if held is not None and built:
-            shutil.copy(built[0], program)
-            os.close(held)
-        else:
-            tried.terminate()
-        tried.wait()
-        said.seek(0)
-        return program if os.path.exists(program) else None, said.read().decode(errors="replace")
+        began = time.monotonic()
+        while tried.poll() is None and time.monotonic() - began < LONGEST_BUILD:
+            time.sleep(0.02)
+            built = [f"{folder}/program" for folder, _, files in os.walk(room) if "program" in files]
+            if built and not os.path.exists(program):
+                try:
+                    os.link(built[0], program)
+                except FileNotFoundError:
+                    pass
+        tried.terminate()
+        status = tried.wait()
+    with open(said, encoding="utf-8", errors="replace") as file:
+        text = file.read()
+    names = re.findall(r"^test (\S+) \.\.\. ok$", text, re.MULTILINE)
+    return program if status == 0 and names and os.path.exists(program) else None, names, text
 
 
 def run_calls(program, name, before):
-    """What the program of rows prints of a row, after so many allocations."""
+    """What a test says of its row after so many allocations, or how it failed."""
     loader = [f"{KIT}/toolchain/lib/ld-linux-x86-64.so.2", "--inhibit-cache", "--library-path", f"{KIT}/toolchain/lib"]
     try:
-        ran = subprocess.run([*loader, program, name, str(before)], stdin=subprocess.DEVNULL, stdout=subprocess.PIPE,
+        ran = subprocess.run([*loader, program, name, str(before)], stdin=subprocess.DEVNULL, stdout=subprocess.DEVNULL,
                              stderr=subprocess.PIPE, timeout=LONGEST_RUN, env={})
     except subprocess.TimeoutExpired:
         return "it did not end"
-    said = ran.stdout.decode(errors="replace").strip()
-    return said if ran.returncode == 0 else f"status {ran.returncode}: {said} {ran.stderr.decode(errors='replace')[-400:]}"
+    said = ran.stderr.decode(errors="replace").strip()
+    return said if ran.returncode == 0 else f"status {ran.returncode}: {said[-400:]}"
+
+
+def try_row(count, program, name):
+    """Makes each allocation of a row fail, from the last one before it on."""
+    kind, unmet = f"calls: {name.removeprefix('refusals::')}", 0
+    for it in range(1, FAILED_ALLOCATION + 1):
+        ending = run_calls(program, name, FAILED_ALLOCATION - it)
+        is_right = ending in ("early", "unmet", "failed", "same") and (ending == "early" or it > 1)
+        count.add(kind, ending if is_right else "wrong", None if is_right else f"allocation {it}: {ending}")
+        unmet = unmet + 1 if ending == "unmet" else 0
+        if unmet == LAST_UNMET:
+            return
+    count.add(kind, "incomplete", f"it needs more than {FAILED_ALLOCATION} allocations")
 
 
 def try_calls(count, pool, room):
     if not shutil.which("rt"):
         print("calls: not run: there is no rt")
         return
-    program, said = build_calls(room)
+    program, names, said = build_calls(room)
     if not program:
-        count.add("calls", "not built", f"the rows are not built:\n{said}")
+        count.add("calls", "not built", f"the rows are not built, or do not pass:\n{said}")
         return
-    said = collections.defaultdict(dict)
-
-    def one(name, before):
-        ending = said[name][before] = run_calls(program, name, before)
-        is_right = ending in ("early", "unmet", "failed", "same")
-        count.add(f"calls: {name}", ending if is_right else "wrong", None if is_right else f"after {before} allocations: {ending}")
-
-    together(((one, name, FAILED_ALLOCATION - it) for name, most in CALLS.items() for it in range(1, most + 1)), pool)
-    for name, most in CALLS.items():
-        # the last allocation of the arguments fails before the row, and the first ones of the longest list after it
-        if said[name][FAILED_ALLOCATION - 1] != "early" or said[name][FAILED_ALLOCATION - most] != "unmet":
-            count.add(f"calls: {name}", "incomplete", f"it needs more than {most} allocations")
+    together(((try_row, count, program, name) for name in names), pool)

@@ -191,6 +191,39 @@ def try_program(count, pool, program, library):
     together(((try_sort, count, *it, library, sort) for it in runs for sort in SORTS), pool)
 
 
+def makes(run, library, sort, number):
+    """Whether a run makes so many calls of a sort. The last of them is refused."""
+    return refuse(run, library, sort, number)[1]
+
+
+def try_setting(count, name, run, library, sort, least, most):
+    """Whether a run makes at least and at most so many calls of a sort."""
+    fits = makes(run, library, sort, least) and not makes(run, library, sort, most + 1)
+    count.add("program, settings", "as asked for" if fits else "otherwise", None if fits else f"{name}: not {least} to {most} calls, {sort}")
+
+
+def try_settings(count, program, library, room):
+    """A run has a thread for each file and for each worker that is asked for, and makes batches of the size that is asked for."""
+    own_plan, rows = plan([source(2, "v int")], ""), "v\n" + "1\n" * 100
+    path, file = write(f"{room}/settings.json", own_plan), write(f"{room}/settings.csv", rows)
+    run = lambda *options: functools.partial(program.run, ["--plan", path, *options, file, file])
+    for workers in (1, 2, 5, 16):
+        try_setting(count, f"{workers} workers", run("--workers", str(workers)), library, "thread", 2 + workers, 2 + workers)
+    try_setting(count, "no number of workers", run(), library, "thread", 4, 4)
+    # two batches in all, or two hundred, each of which takes memory at least five times
+    try_setting(count, "a batch size of 100", run("--batch", "100"), library, "memory", 1, 999)
+    try_setting(count, "no batch size", run(), library, "memory", 1, 999)
+    try_setting(count, "a batch size of 1", run("--batch", "1"), library, "memory", 1000, MOST_CALLS)
+    alone = write(f"{room}/settings.input", f"{plan([source(1, 'v int')], '')}\n{rows}")
+
+    def run_alone(**how):
+        with open(alone, "rb") as input:
+            return program.run([], stdin=input, **how)
+
+    try_setting(count, "standard input", run_alone, library, "thread", 3, 3)
+    try_setting(count, "standard input", run_alone, library, "memory", 1, 499)
+
+
 def try_random_case(count, program, library, room, case, own, draw):
     """A random plan over random files, in which calls that are drawn are refused."""
     os.mkdir(room)
