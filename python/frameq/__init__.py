@@ -1,0 +1,54 @@
+"""Reports over CSV files in Polars' own names, run by frameq.
+
+What these calls write is a plan of frameq, and the program reads, checks and runs it: the answer is the same for any batch size and any
+number of threads, or it is one fault by name.
+
+    import frameq as fq
+
+    report = (
+        fq.scan_csv("orders.csv", schema={"region": fq.String, "units": fq.Int64, "unit_cents": fq.Int64})
+        .with_columns(cents=fq.col("units") * fq.col("unit_cents"))
+        .group_by("region", maintain_order=True)
+        .agg(fq.len().alias("orders"), fq.col("cents").sum())
+        .collect()
+    )
+"""
+from ._expressions import Expr, all, col, lit
+from ._expressions import length as len
+from ._faults import (
+    ArgumentsError,
+    BadCellError,
+    ColumnNotFoundError,
+    DuplicateError,
+    FileError,
+    FrameqError,
+    HeaderError,
+    InputsError,
+    JoinRowsError,
+    MemoryError,
+    MinSamplesError,
+    NoColumnError,
+    NoSuchSourceError,
+    NotBooleanError,
+    OverflowError,
+    PlanError,
+    PlanJsonError,
+    PlanShapeError,
+    ProgramNotFoundError,
+    ReadError,
+    RollingSumRangeError,
+    SumRangeError,
+    TooManyColumnsError,
+    TooManyRowsError,
+    UnsupportedError,
+    WidthError,
+    WindowError,
+    WriteError,
+    WrongKindError,
+)
+from ._frames import GroupBy, LazyFrame, scan_csv
+from ._kinds import Boolean, Int64, Kind, String, Utf8
+from ._program import run_plan
+from ._results import DataFrame
+
+__all__ = [name for name in dir() if not name.startswith("_")]

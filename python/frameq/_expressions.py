@@ -1,0 +1,404 @@
+"""Expressions, by Polars' names, and their form in a plan."""
+from typing import Any, Dict, FrozenSet, Iterable, Iterator, List, NoReturn, Optional, Tuple, Union
+
+from ._faults import ColumnNotFoundError, UnsupportedError, WrongKindError
+from ._kinds import AnyKind, Kind, Schema, kind_of_type
+
+_LEAST, _MOST = -(2**63), 2**63 - 1
+_ARITHMETIC = frozenset({"add", "sub", "mul", "floordiv", "mod"})
+_COMPARISONS = frozenset({"eq", "ne", "lt", "le", "gt", "ge", "eq_missing"})
+
+# What Polars has and the plan language has not, and what to do instead.
+_INSTEAD = {
+    "cast": "there are no casts: give the column its kind in the schema",
+    "mean": "there are no floats: sum() // count() is the mean, rounded down",
+    "median": "there are no quantiles",
+    "std": "there are no floats",
+    "var": "there are no floats",
+    "sort": "the order is that of the files' rows: sort the result",
+    "over": "there are no windows over groups: group, and join the groups from a file",
+    "shift": "there are no neighbours of a row but by rolling_sum",
+    "diff": "there are no neighbours of a row but by rolling_sum",
+    "str": "there are no text functions",
+    "dt": "there are no dates: keep them as texts, the year first, which compare in order",
+    "list": "there are no lists",
+    "is_in": 'write (col("a") == x) | (col("a") == y)',
+    "cum_sum": "a rolling_sum over at most 65,536 rows is what there is",
+    "rolling_mean": "there are no floats: rolling_sum is what there is",
+    "abs": "write it by a filter for each sign, or by a multiplication",
+    "round": "there are no floats",
+}
+
+# A part of an expression: ("col", name), ("cols", names), ("all",), ("lit", kind, value), ("null", kind), (operation, node, ..),
+# ("agg", function, node or None), ("roll", node, window, least).
+Node = Tuple[Any, ...]
+
+
+class Expr:
+    """A column to be computed, as in Polars. It is made by `col`, `lit` and `len`, and by operators and methods on these."""
+
+    __slots__ = ("_node", "_alias")
+    __hash__ = None  # type: ignore[assignment]
+
+    def __init__(self, node: Node, alias: Optional[str] = None) -> None:
+        self._node, self._alias = node, alias
+
+    def __repr__(self) -> str:
+        text = _shown(self._node)
+        return text if self._alias is None else f"{text}.alias({self._alias!r})"
+
+    def __bool__(self) -> NoReturn:
+        raise TypeError("the truth value of an expression is not known: write & for and, | for or, ~ for not")
+
+    def __getattr__(self, name: str) -> NoReturn:
+        if name in _INSTEAD:
+            raise UnsupportedError(f"frameq has no {name}(): {_INSTEAD[name]}")
+        raise AttributeError(f"an expression has no {name!r}")
+
+    def alias(self, name: str) -> "Expr":
+        """This expression under another name."""
+        return Expr(self._node, name)
+
+    def _one(self, operation: str) -> "Expr":
+        return Expr((operation, self._node), self._alias)
+
+    def _two(self, operation: str, other: Any, *, reverse: bool = False) -> "Expr":
+        right = literal(other)
+        if reverse:
+            return Expr((operation, right._node, self._node), right._alias)
+        return Expr((operation, self._node, right._node), self._alias)
+
+    def __neg__(self) -> "Expr":
+        return self._one("neg")
+
+    def __pos__(self) -> "Expr":
+        return self
+
+    def __invert__(self) -> "Expr":
+        return self._one("not")
+
+    def __add__(self, other: Any) -> "Expr":
+        return self._two("add", other)
+
+    def __radd__(self, other: Any) -> "Expr":
+        return self._two("add", other, reverse=True)
+
+    def __sub__(self, other: Any) -> "Expr":
+        return self._two("sub", other)
+
+    def __rsub__(self, other: Any) -> "Expr":
+        return self._two("sub", other, reverse=True)
+
+    def __mul__(self, other: Any) -> "Expr":
+        return self._two("mul", other)
+
+    def __rmul__(self, other: Any) -> "Expr":
+        return self._two("mul", other, reverse=True)
+
+    def __floordiv__(self, other: Any) -> "Expr":
+        return self._two("floordiv", other)
+
+    def __rfloordiv__(self, other: Any) -> "Expr":
+        return self._two("floordiv", other, reverse=True)
+
+    def __mod__(self, other: Any) -> "Expr":
+        return self._two("mod", other)
+
+    def __rmod__(self, other: Any) -> "Expr":
+        return self._two("mod", other, reverse=True)
+
+    def __truediv__(self, other: Any) -> NoReturn:
+        raise UnsupportedError("there are no floats: // divides and rounds down")
+
+    __rtruediv__ = __truediv__
+
+    def __pow__(self, other: Any) -> NoReturn:
+        raise UnsupportedError("there are no powers: multiply")
+
+    __rpow__ = __pow__
+
+    def __eq__(self, other: Any) -> "Expr":  # type: ignore[override]
+        return self._two("eq", other)
+
+    def __ne__(self, other: Any) -> "Expr":  # type: ignore[override]
+        return self._two("ne", other)
+
+    def __lt__(self, other: Any) -> "Expr":
+        return self._two("lt", other)
+
+    def __le__(self, other: Any) -> "Expr":
+        return self._two("le", other)
+
+    def __gt__(self, other: Any) -> "Expr":
+        return self._two("gt", other)
+
+    def __ge__(self, other: Any) -> "Expr":
+        return self._two("ge", other)
+
+    def __and__(self, other: Any) -> "Expr":
+        return self._two("and", other)
+
+    def __rand__(self, other: Any) -> "Expr":
+        return self._two("and", other, reverse=True)
+
+    def __or__(self, other: Any) -> "Expr":
+        return self._two("or", other)
+
+    def __ror__(self, other: Any) -> "Expr":
+        return self._two("or", other, reverse=True)
+
+    neg, not_ = __neg__, __invert__
+    add, sub, mul, floordiv, mod = __add__, __sub__, __mul__, __floordiv__, __mod__
+    eq, ne, lt, le, gt, ge = __eq__, __ne__, __lt__, __le__, __gt__, __ge__
+
+    def and_(self, *others: Any) -> "Expr":
+        """Whether this and all the others are true, by Kleene's logic."""
+        all_of = self
+        for other in others:
+            all_of = all_of & other
+        return all_of
+
+    def or_(self, *others: Any) -> "Expr":
+        """Whether this or one of the others is true, by Kleene's logic."""
+        any_of = self
+        for other in others:
+            any_of = any_of | other
+        return any_of
+
+    def eq_missing(self, other: Any) -> "Expr":
+        """Whether both are equal, with null as a value."""
+        return self._two("eq_missing", other)
+
+    def ne_missing(self, other: Any) -> "Expr":
+        """Whether both differ, with null as a value."""
+        return ~self.eq_missing(other)
+
+    def is_null(self) -> "Expr":
+        """Whether it is null."""
+        return self._one("is_null")
+
+    def is_not_null(self) -> "Expr":
+        """Whether it is not null."""
+        return self._one("is_not_null")
+
+    def is_between(self, lower_bound: Any, upper_bound: Any, closed: str = "both") -> "Expr":
+        """Whether it is between two bounds; a text is the name of a column, as in Polars."""
+        if closed not in ("both", "left", "right", "none"):
+            raise ValueError(f'closed is "both", "left", "right" or "none", not {closed!r}')
+        lower, upper = named(lower_bound), named(upper_bound)
+        above = self >= lower if closed in ("both", "left") else self > lower
+        return above & (self <= upper if closed in ("both", "right") else self < upper)
+
+    def fill_null(self, value: Any = None, strategy: Optional[str] = None, limit: Optional[int] = None) -> "Expr":
+        """This, or the value where it is null."""
+        if strategy is not None or limit is not None or value is None:
+            raise UnsupportedError("fill_null takes a value: there are no strategies")
+        return self._two("fill_null", value)
+
+    def rolling_sum(
+        self, window_size: int, weights: Optional[List[float]] = None, *, min_samples: Optional[int] = None, center: bool = False
+    ) -> "Expr":
+        """The sum of the last `window_size` rows, or null where fewer than `min_samples` of them have a value."""
+        if weights is not None or center or not isinstance(window_size, int):
+            raise UnsupportedError("a rolling sum has no weights, its window is a number of rows, and the last of them is the row itself")
+        return Expr(("roll", self._node, window_size, window_size if min_samples is None else min_samples), self._alias)
+
+    def _aggregate(self, function: str) -> "Expr":
+        return Expr(("agg", function, self._node), self._alias)
+
+    def sum(self) -> "Expr":
+        """The sum of a group; 0 of no values."""
+        return self._aggregate("sum")
+
+    def min(self) -> "Expr":
+        """The least value of a group, or null if it has none."""
+        return self._aggregate("min")
+
+    def max(self) -> "Expr":
+        """The greatest value of a group, or null if it has none."""
+        return self._aggregate("max")
+
+    def count(self) -> "Expr":
+        """How many values a group has that are not null."""
+        return self._aggregate("count")
+
+    def first(self) -> "Expr":
+        """The value of a group's first row, null or not."""
+        return self._aggregate("first")
+
+    def last(self) -> "Expr":
+        """The value of a group's last row, null or not."""
+        return self._aggregate("last")
+
+    def n_unique(self) -> "Expr":
+        """How many different values a group has; null is one of them."""
+        return self._aggregate("n_unique")
+
+    def len(self) -> "Expr":
+        """How many rows a group has."""
+        return self._aggregate("len")
+
+
+def col(name: Union[str, Iterable[str]], *more: str) -> Expr:
+    """The column of this name, or each of several, as in Polars: what is computed of them is computed of each."""
+    names = [name, *more] if isinstance(name, str) else [*name, *more]
+    return Expr(("col", names[0])) if len(names) == 1 else Expr(("cols", tuple(names)))
+
+
+def all() -> Expr:
+    """Each column."""
+    return Expr(("all",))
+
+
+def lit(value: Any, dtype: Optional[AnyKind] = None) -> Expr:
+    """A value that stands in each row; a null needs its kind, as `lit(None, dtype=Int64)`."""
+    kind = None if dtype is None else kind_of_type(dtype)
+    if value is None:
+        if kind is None:
+            raise UnsupportedError("a null has a kind here: write lit(None, dtype=Int64), String or Boolean")
+        return Expr(("null", kind))
+    if isinstance(value, (bool, str)) or (isinstance(value, int) and _LEAST <= value <= _MOST):
+        if kind is not None and kind != _kind_of_value(value):
+            raise WrongKindError(f"{value!r} is no {kind!r}, and there are no casts")
+        return Expr(("lit", _kind_of_value(value), value))
+    raise UnsupportedError(f"{value!r} is no literal: there are whole numbers of 64 bits, texts, and True and False")
+
+
+def length() -> Expr:
+    """How many rows a group has."""
+    return Expr(("agg", "len", None))
+
+
+def literal(value: Any) -> Expr:
+    """An operand: an expression, or the value as a literal."""
+    return value if isinstance(value, Expr) else lit(value)
+
+
+def named(value: Any) -> Expr:
+    """What Polars makes of an input of a step: a text is the name of a column."""
+    return col(value) if isinstance(value, str) else literal(value)
+
+
+def _kind_of_value(value: Union[bool, int, str]) -> Kind:
+    return Kind.BOOL if isinstance(value, bool) else Kind.INT if isinstance(value, int) else Kind.TEXT
+
+
+def _shown(node: Node) -> str:
+    head = node[0]
+    if head == "col":
+        return f"col({node[1]!r})"
+    if head == "cols":
+        return "col(" + ", ".join(map(repr, node[1])) + ")"
+    if head == "lit":
+        return f"lit({node[2]!r})"
+    if head == "null":
+        return f"lit(None, dtype={node[1]!r})"
+    if head == "agg":
+        return "len()" if node[2] is None else f"{_shown(node[2])}.{node[1]}()"
+    if head == "roll":
+        return f"{_shown(node[1])}.rolling_sum({node[2]}, min_samples={node[3]})"
+    return f"{head}(" + ", ".join(map(_shown, node[1:])) + ")"
+
+
+def parts(node: Node) -> Iterator[Node]:
+    """A node and all that it is made of, from left to right."""
+    yield node
+    for part in node[1:]:
+        if isinstance(part, tuple) and part and node[0] not in ("cols", "col", "lit", "null"):
+            yield from parts(part)
+
+
+def has(node: Node, *heads: str) -> bool:
+    """Whether a part of a node is one of these."""
+    return any(part[0] in heads for part in parts(node))
+
+
+def columns_of(node: Node) -> FrozenSet[str]:
+    """The names of the columns that a node reads."""
+    return frozenset(part[1] for part in parts(node) if part[0] == "col")
+
+
+def name_of(expr: Expr) -> str:
+    """The name of an expression: its alias, or as in Polars that of its first column, or `literal`, or `len`."""
+    if expr._alias is not None:
+        return expr._alias
+    for part in parts(expr._node):
+        if part[0] == "col":
+            return part[1]
+        if part[0] in ("lit", "null"):
+            return "literal"
+        if part == ("agg", "len", None):
+            return "len"
+    raise UnsupportedError(f"{expr!r} has no name: write .alias(..)")
+
+
+def replaced(node: Node, swaps: Dict[Node, Node]) -> Node:
+    """A node in which each of these parts is another."""
+    if node in swaps:
+        return swaps[node]
+    if node[0] in ("col", "cols", "lit", "null", "all"):
+        return node
+    return tuple(replaced(part, swaps) if isinstance(part, tuple) else part for part in node)
+
+
+def expanded(expr: Expr, schema: Schema) -> List[Expr]:
+    """An expression of several columns as one of each."""
+    several = {part for part in parts(expr._node) if part[0] in ("cols", "all")}
+    if not several:
+        return [expr]
+    if len(several) > 1:
+        raise UnsupportedError(f"{expr!r} is of several columns more than once: write one expression for each")
+    part = several.pop()
+    names = list(schema) if part[0] == "all" else list(part[1])
+    if expr._alias is not None and len(names) > 1:
+        raise UnsupportedError(f"{expr!r} gives several columns of one name: write one expression for each")
+    return [Expr(replaced(expr._node, {part: ("col", name)}), expr._alias) for name in names]
+
+
+def kind_of(node: Node, schema: Schema) -> Kind:
+    """The kind of a node over these columns. Raises where a column is not there or a part has another kind than it needs."""
+    head = node[0]
+    if head == "col":
+        if node[1] not in schema:
+            raise ColumnNotFoundError(f"there is no column {node[1]!r}; there are {', '.join(map(repr, schema))}")
+        return schema[node[1]]
+    if head in ("lit", "null"):
+        return node[1]
+    if head == "agg":
+        return _kind_of_aggregate(node, schema)
+    kinds = [kind_of(part, schema) for part in node[1:] if isinstance(part, tuple)]
+    if head == "roll":
+        return _wanted(node, kinds, Kind.INT, Kind.INT)
+    if head in _ARITHMETIC or head == "neg":
+        return _wanted(node, kinds, Kind.INT, Kind.INT)
+    if head in ("and", "or", "not"):
+        return _wanted(node, kinds, Kind.BOOL, Kind.BOOL)
+    if head in ("is_null", "is_not_null"):
+        return Kind.BOOL
+    return _wanted(node, kinds, kinds[0], Kind.BOOL if head in _COMPARISONS else kinds[0])
+
+
+def _kind_of_aggregate(node: Node, schema: Schema) -> Kind:
+    kind = Kind.INT if node[2] is None else kind_of(node[2], schema)
+    if node[1] == "sum" and kind != Kind.INT:
+        raise WrongKindError(f"{_shown(node)}: there are sums of an Int64 alone, and this is a {kind!r}")
+    return kind if node[1] in ("min", "max", "first", "last") else Kind.INT
+
+
+def _wanted(node: Node, kinds: List[Kind], wanted: Kind, result: Kind) -> Kind:
+    for kind in kinds:
+        if kind != wanted:
+            raise WrongKindError(f"{_shown(node)}: a {kind!r} where a {wanted!r} stands; there are no casts")
+    return result
+
+
+def written(node: Node) -> Any:
+    """A node without aggregates and rolling sums as the plan language writes it."""
+    head = node[0]
+    if head == "col":
+        return {"col": node[1]}
+    if head == "lit":
+        return node[2]
+    if head == "null":
+        return {"null": node[1].value}
+    return [head, *(written(part) for part in node[1:])]

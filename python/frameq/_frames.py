@@ -1,0 +1,466 @@
+"""Lazy frames, by Polars' names: what is written is a plan."""
+import os
+from typing import Any, Iterable, List, Mapping, NamedTuple, NoReturn, Optional, Sequence, Tuple, Union
+
+from . import _program
+from ._expressions import Expr, Node, columns_of, expanded, has, kind_of, name_of, named, parts, replaced, written
+from ._faults import DuplicateError, NoColumnError, UnsupportedError, WrongKindError
+from ._kinds import AnyKind, Kind, Schema, schema_of
+from ._results import DataFrame
+from ._sql import sql
+
+Path = Union[str, "os.PathLike[str]"]
+Output = Tuple[str, Node]
+
+# What Polars has and the plan language has not, and what to do instead.
+_INSTEAD = {
+    "sort": "the order is that of the files' rows: sort the result",
+    "head": "take the first rows of the result",
+    "limit": "take the first rows of the result",
+    "tail": "take the last rows of the result",
+    "slice": "take the rows of the result",
+    "cast": "there are no casts: give the columns their kinds in the schema",
+    "with_row_index": "a row has no number",
+    "explode": "there are no lists",
+    "pivot": "there are no pivots: group, and turn the result",
+    "unpivot": "there are no pivots",
+    "group_by_dynamic": "there are no dates: group by a text, such as the month",
+    "rolling": "there are no windows by time: rolling_sum counts rows",
+    "join_asof": "a join is on equal keys",
+    "join_where": "a join is on equal keys: filter after it",
+    "concat": "name all the files in one scan_csv",
+    "sink_parquet": "the result is CSV: sink_csv",
+}
+
+
+class Source(NamedTuple):
+    """The files of a scan, with their columns and the texts that are null in them."""
+
+    files: Tuple[str, ...]
+    columns: Tuple[Tuple[str, Kind], ...]
+    null_values: Tuple[str, ...]
+
+    def written(self, version: int) -> dict:
+        """As the plan language writes it."""
+        source = {"files": len(self.files), "columns": [[name, kind.value] for name, kind in self.columns]}
+        if version == 2 and self.null_values:
+            source["null_values"] = list(self.null_values)
+        return source
+
+
+def scan_csv(
+    source: Union[Path, Sequence[Path]],
+    *,
+    schema: Optional[Mapping[str, AnyKind]] = None,
+    null_values: Union[str, Sequence[str], None] = None,
+    has_header: bool = True,
+    separator: str = ",",
+    **others: Any,
+) -> "LazyFrame":
+    """The rows of a CSV file, or of several in this order, as Polars' `scan_csv`.
+
+    Every file begins with a header, which has the names of `schema` in this order. A file may be `-`, which is standard input. An
+    empty field is null, and so is one that is among `null_values`.
+    """
+    if schema is None:
+        raise UnsupportedError("nothing is guessed: name each column and its kind, as schema={'id': Int64, 'name': String}")
+    if others or not has_header or separator != ",":
+        what = ", ".join(others) or ("has_header=False" if not has_header else "separator")
+        raise UnsupportedError(f"scan_csv has no {what}: a file has a header, commas, and quotes as in CSV")
+    files = [source] if isinstance(source, (str, os.PathLike)) else list(source)
+    nulls = [null_values] if isinstance(null_values, str) else list(null_values or [])
+    if isinstance(null_values, Mapping):
+        raise UnsupportedError("null_values are of all columns of a file: give a list")
+    columns = schema_of(schema)
+    scan = Source(tuple(os.fspath(file) for file in files), tuple(columns.items()), tuple(nulls))
+    return LazyFrame(scan, (), (), (), columns)
+
+
+class LazyFrame:
+    """Steps on the rows of a scan, not yet run, as Polars' LazyFrame. It does not change: each method gives another."""
+
+    __slots__ = ("_main", "_rights", "_steps", "_calls", "_schema")
+
+    def __init__(self, main: Source, rights: Tuple[Source, ...], steps: Tuple[dict, ...], calls: Tuple[str, ...], schema: Schema) -> None:
+        self._main, self._rights, self._steps, self._calls, self._schema = main, rights, steps, calls, schema
+
+    def __repr__(self) -> str:
+        return "\n".join([f"scan_csv({list(self._main.files)!r})", *(f"  .{call}" for call in self._calls)])
+
+    def __getattr__(self, name: str) -> NoReturn:
+        if name in _INSTEAD:
+            raise UnsupportedError(f"frameq has no {name}(): {_INSTEAD[name]}")
+        raise AttributeError(f"a lazy frame has no {name!r}")
+
+    def collect_schema(self) -> Schema:
+        """The names and kinds of the columns."""
+        return dict(self._schema)
+
+    def _after(self, step: dict, call: str, schema: Schema) -> "LazyFrame":
+        return LazyFrame(self._main, self._rights, (*self._steps, step), (*self._calls, call), schema)
+
+    # Row-wise steps.
+
+    def filter(self, *predicates: Any, **constraints: Any) -> "LazyFrame":
+        """The rows for which all predicates are true; `name=value` is `col(name) == value`."""
+        call = _call("filter", predicates, constraints)
+        conditions = [expr for given in _flat(predicates) for expr in expanded(named(given), self._schema)]
+        conditions += [named(name) == value for name, value in constraints.items()]
+        if not conditions:
+            return self
+        all_of = conditions[0]
+        for condition in conditions[1:]:
+            all_of = all_of & condition
+        _no_aggregates(all_of, "filter")
+        frame, (node,) = self._hoisted([all_of._node], call)
+        if kind_of(node, frame._schema) != Kind.BOOL:
+            raise WrongKindError(f"a filter takes a Boolean: {all_of!r}")
+        return frame._after({"filter": written(node)}, call, frame._schema)._only(self._schema, call)
+
+    def select(self, *exprs: Any, **named_exprs: Any) -> "LazyFrame":
+        """These columns alone, in this order."""
+        call = _call("select", exprs, named_exprs)
+        outputs = self._outputs(exprs, named_exprs, "select")
+        if not outputs:
+            raise NoColumnError("a select has at least one column")
+        frame, nodes = self._hoisted([node for _, node in outputs], call)
+        return frame._selected([(name, node) for (name, _), node in zip(outputs, nodes)], call)
+
+    def with_columns(self, *exprs: Any, **named_exprs: Any) -> "LazyFrame":
+        """These columns too: one whose name exists stands in its place, and the others last. All see the columns before the call."""
+        call = _call("with_columns", exprs, named_exprs)
+        outputs = self._outputs(exprs, named_exprs, "with_columns")
+        if not outputs:
+            return self
+        if _is_in_order(outputs):
+            return self._with_runs(outputs, call)
+        schema = _with_outputs(self._schema, outputs)
+        frame, nodes = self._hoisted([node for _, node in outputs], call)
+        return frame._with([(name, node) for (name, _), node in zip(outputs, nodes)], call)._only(schema, call)
+
+    def drop(self, *columns: Any) -> "LazyFrame":
+        """All columns but these."""
+        dropped = {name_of(expr) for given in _flat(columns) for expr in expanded(named(given), self._schema)}
+        for name in dropped:
+            kind_of(("col", name), self._schema)
+        return self.select([name for name in self._schema if name not in dropped])
+
+    def rename(self, mapping: Mapping[str, str]) -> "LazyFrame":
+        """The columns under the names that the mapping gives."""
+        for name in mapping:
+            kind_of(("col", name), self._schema)
+        return self.select([named(name).alias(mapping.get(name, name)) for name in self._schema])
+
+    def _outputs(self, exprs: Iterable[Any], named_exprs: Mapping[str, Any], step: str) -> List[Output]:
+        """The names and nodes of the outputs of a step."""
+        each = [expr for given in _flat(exprs) for expr in expanded(named(given), self._schema)]
+        each += [it.alias(name) for name, given in named_exprs.items() for it in expanded(named(given), self._schema)]
+        for expr in each:
+            _no_aggregates(expr, step)
+            kind_of(expr._node, self._schema)
+        outputs = [(name_of(expr), expr._node) for expr in each]
+        _no_doubles([name for name, _ in outputs], step)
+        return outputs
+
+    def _with(self, outputs: Sequence[Output], call: str) -> "LazyFrame":
+        step = {"with_columns": [[name, written(node)] for name, node in outputs]}
+        return self._after(step, call, _with_outputs(self._schema, outputs))
+
+    def _with_runs(self, outputs: Sequence[Output], call: str) -> "LazyFrame":
+        """Outputs one after another: each rolling sum is a step, and so are those between."""
+        frame, run = self, []
+        for name, node in outputs:
+            if node[0] != "roll":
+                run.append((name, node))
+                continue
+            if run:
+                frame, run = frame._with(run, call), []
+            frame = frame._rolled(name, node, call)
+        return frame._with(run, call) if run else frame
+
+    def _rolled(self, name: str, node: Node, call: str) -> "LazyFrame":
+        _, (_, column), window, least = node
+        step = {"column": column, "window": window, "min_samples": least, "name": name}
+        if least == window:
+            del step["min_samples"]
+        return self._after({"rolling_sum": step}, call, {**self._schema, name: Kind.INT})
+
+    def _selected(self, outputs: Sequence[Output], call: str) -> "LazyFrame":
+        step = {"select": [[name, written(node)] for name, node in outputs]}
+        return self._after(step, call, {name: kind_of(node, self._schema) for name, node in outputs})
+
+    def _only(self, schema: Schema, call: str) -> "LazyFrame":
+        """The columns of this schema, if there are others."""
+        if list(self._schema) == list(schema):
+            return self
+        return self._selected([(name, ("col", name)) for name in schema], call)
+
+    def _private(self, count: int) -> List[str]:
+        """So many names that no column has."""
+        names, number = [], 0
+        while len(names) < count:
+            name, number = f"_{number}", number + 1
+            if name not in self._schema:
+                names.append(name)
+        return names
+
+    def _hoisted(self, nodes: Sequence[Node], call: str) -> Tuple["LazyFrame", List[Node]]:
+        """The frame with each rolling sum of these nodes in a column of its own, and the nodes over these columns."""
+        rolls = list(dict.fromkeys(part for node in nodes for part in parts(node) if part[0] == "roll"))
+        if any(has(roll[1], "roll") for roll in rolls):
+            raise UnsupportedError("a rolling sum of a rolling sum: write two with_columns")
+        frame, columns = self._of_columns([roll[1] for roll in rolls], call)
+        swaps = {}
+        for roll, column, name in zip(rolls, columns, frame._private(len(rolls))):
+            frame = frame._rolled(name, ("roll", ("col", column), *roll[2:]), call)
+            swaps[roll] = ("col", name)
+        return frame, [replaced(node, swaps) for node in nodes]
+
+    def _of_columns(self, nodes: Sequence[Node], call: str) -> Tuple["LazyFrame", List[str]]:
+        """The frame with a column of its own for each of these nodes that is none, and the column of each."""
+        computed = list(dict.fromkeys(node for node in nodes if node[0] != "col"))
+        names = dict(zip(computed, self._private(len(computed))))
+        frame = self._with([(name, node) for node, name in names.items()], call) if names else self
+        return frame, [node[1] if node[0] == "col" else names[node] for node in nodes]
+
+    # Joins and groups.
+
+    def join(
+        self,
+        other: "LazyFrame",
+        on: Union[str, Expr, Sequence[Union[str, Expr]], None] = None,
+        how: str = "inner",
+        *,
+        left_on: Any = None,
+        right_on: Any = None,
+        suffix: str = "_right",
+        nulls_equal: bool = False,
+        maintain_order: Optional[str] = None,
+        **others: Any,
+    ) -> "LazyFrame":
+        """A join with a scan, in the order of the left rows, and for each of them in that of the right ones.
+
+        `how` is "inner", "left", "semi" or "anti". Null keys match nothing unless `nulls_equal`.
+        """
+        if how not in ("inner", "left", "semi", "anti"):
+            raise UnsupportedError(f'there is no join {how!r}: "inner", "left", "semi" and "anti" are there')
+        if others or suffix != "_right":
+            raise UnsupportedError(f"a join has no {', '.join(others) or 'suffix'}: rename before it")
+        if maintain_order in ("right", "right_left"):
+            raise UnsupportedError("a join keeps the order of the left rows")
+        if other._steps:
+            raise UnsupportedError("the right side of a join is a scan: do its steps on the left, or join the result of another run")
+        keys = _keys(on, left_on, right_on)
+        schema = self._joined_schema(other, keys, how)
+        rights = self._rights if other._main in self._rights else (*self._rights, other._main)
+        step = {"source": rights.index(other._main), "on": keys, "how": how}
+        if nulls_equal:
+            step["nulls_equal"] = True
+        call = _call("join", (), {"on": keys, "how": how, **({"nulls_equal": True} if nulls_equal else {})})
+        return LazyFrame(self._main, rights, (*self._steps, {"join": step}), (*self._calls, call), schema)
+
+    def _joined_schema(self, other: "LazyFrame", keys: Sequence[str], how: str) -> Schema:
+        for key in keys:
+            if kind_of(("col", key), self._schema) != kind_of(("col", key), other._schema):
+                raise WrongKindError(f"the key {key!r} has another kind on each side; there are no casts")
+        if how in ("semi", "anti"):
+            return self._schema
+        right = [(f"{name}_right" if name in self._schema else name, kind) for name, kind in other._schema.items() if name not in keys]
+        _no_doubles([*self._schema, *(name for name, _ in right)], "join")
+        return {**self._schema, **dict(right)}
+
+    def group_by(self, *by: Any, maintain_order: bool = True, **named_by: Any) -> "GroupBy":
+        """The groups of rows with equal keys, in the order of their first rows, whether that is asked for or not."""
+        keys = self._outputs(by, named_by, "group_by")
+        if not keys:
+            raise NoColumnError("a grouping has at least one key; for totals over all rows, group by a literal such as all=lit(True)")
+        return GroupBy(self, keys, _call("group_by", by, named_by))
+
+    def unique(self, subset: Any = None, *, keep: str = "any", maintain_order: bool = True) -> "LazyFrame":
+        """The first row of those that are equal, in all columns or in these."""
+        if keep not in ("any", "first"):
+            raise UnsupportedError('of equal rows the first is kept: keep="first"')
+        keys = list(self._schema) if subset is None else [name_of(named(it)) for it in _flat((subset,))]
+        rest = [named(name).first() for name in self._schema if name not in keys]
+        return self.group_by(keys).agg(rest)._only(self._schema, "unique()")
+
+    # What is made of it.
+
+    def plan(self) -> dict:
+        """The plan, as the JSON object that it is."""
+        sources = (*self._rights, self._main)
+        version = 2 if any(source.null_values for source in sources) or any(map(_is_of_version_two, self._steps)) else 1
+        return {"version": version, "sources": [source.written(version) for source in sources], "steps": list(self._steps)}
+
+    def files(self) -> List[str]:
+        """The files, in the order in which the plan takes them."""
+        return [file for source in (*self._rights, self._main) for file in source.files]
+
+    def sql(self, dialect: str = "sqlite", tables: Optional[Sequence[str]] = None) -> str:
+        """The plan as one SQL query over a table for each source, in the dialect of "sqlite", "duckdb" or "spark".
+
+        The tables are source0, source1 and so on, or those named, in the order of the plan's sources. Each has the columns of its
+        source, and a column `row` that numbers its rows in the order of the files. The query gives the rows of the plan, in order, where
+        no value leaves 64 bits.
+        """
+        return sql(self.plan(), dialect, tables)
+
+    def explain(self, *, program: Optional[Path] = None) -> str:
+        """What the program says of the plan: the columns after each step, and where it runs."""
+        return _program.explain(self.plan(), self._calls, program)
+
+    def collect(self, *, batch: Optional[int] = None, workers: Optional[int] = None, program: Optional[Path] = None) -> DataFrame:
+        """Runs the plan. `batch` is a number of rows, 1 to 65,536, and `workers` one of threads, 1 to 16; no answer depends on them."""
+        settings = _program.Settings(batch, workers, program)
+        return _program.collect(self.plan(), self.files(), self._schema, self._calls, settings)
+
+    def sink_csv(self, path: Path, *, batch: Optional[int] = None, workers: Optional[int] = None, program: Optional[Path] = None) -> None:
+        """Runs the plan, and writes its result to a file, whole or not at all. The path may be one of the plan's files."""
+        _program.sink(self.plan(), self.files(), os.fspath(path), self._calls, _program.Settings(batch, workers, program))
+
+
+class GroupBy:
+    """Groups whose aggregates are still to be named."""
+
+    __slots__ = ("_frame", "_keys", "_call")
+
+    def __init__(self, frame: LazyFrame, keys: List[Output], call: str) -> None:
+        self._frame, self._keys, self._call = frame, keys, call
+
+    def agg(self, *aggs: Any, **named_aggs: Any) -> LazyFrame:
+        """A row for each group: its keys and these aggregates, or what is computed of aggregates."""
+        call = f"{self._call}.{_call('agg', aggs, named_aggs)}"
+        schema = self._frame._schema
+        each = [expr for given in _flat(aggs) for expr in expanded(named(given), schema)]
+        each += [it.alias(name) for name, given in named_aggs.items() for it in expanded(named(given), schema)]
+        outputs = [(name_of(expr), expr._node) for expr in each]
+        _no_doubles([name for name, _ in (*self._keys, *outputs)], "group_by")
+        for name, node in outputs:
+            _judge_aggregate(name, node, schema)
+        return self._grouped(outputs, call)
+
+    def len(self, name: str = "len") -> LazyFrame:
+        """The number of rows of each group."""
+        return self.agg(Expr(("agg", "len", None), name))
+
+    def _grouped(self, outputs: List[Output], call: str) -> LazyFrame:
+        aggregates = list(dict.fromkeys(part for _, node in outputs for part in parts(node) if part[0] == "agg"))
+        inputs = [part[2] for part in aggregates if part[2] is not None and part[1] != "len"]
+        frame, keys = self._with_keys(call)
+        frame, columns = frame._of_columns(inputs, call)
+        of_inputs = dict(zip(inputs, columns))
+        is_plain = keys == [name for name, _ in self._keys] and all(node[0] == "agg" for _, node in outputs)
+        if is_plain:
+            named_aggs = outputs
+        else:
+            private = [name for name in frame._private(len(aggregates) + len(keys)) if name not in keys]
+            named_aggs = list(zip(private, aggregates))
+        grouped = frame._after(*_group_step(frame._schema, keys, named_aggs, of_inputs, call))
+        if is_plain:
+            return grouped
+        swaps = {node: ("col", name) for name, node in named_aggs}
+        selected = [(name, ("col", key)) for (name, _), key in zip(self._keys, keys)]
+        return grouped._selected([*selected, *((name, replaced(node, swaps)) for name, node in outputs)], call)
+
+    def _with_keys(self, call: str) -> Tuple[LazyFrame, List[str]]:
+        """The frame with a column for each key, and these columns: a computed key under its own name, if no column has it."""
+        frame, names = self._frame, []
+        computed = [(name, node) for name, node in self._keys if node != ("col", name)]
+        new = {name: name if name not in frame._schema else private for (name, _), private in zip(computed, frame._private(len(computed)))}
+        frame, nodes = frame._hoisted([node for _, node in computed], call)
+        if computed:
+            frame = frame._with([(new[name], node) for (name, _), node in zip(computed, nodes)], call)
+        return frame, [new.get(name, name) for name, _ in self._keys]
+
+
+def _is_of_version_two(step: dict) -> bool:
+    """Whether a step is a join that plans of version 1 do not have."""
+    join = step.get("join")
+    return join is not None and ("nulls_equal" in join or join["how"] in ("semi", "anti"))
+
+
+def _group_step(
+    schema: Schema, keys: List[str], outputs: Sequence[Output], of_inputs: Mapping[Node, str], call: str
+) -> Tuple[dict, str, Schema]:
+    """The step of a grouping, its call, and the columns after it."""
+    aggs, after = [], {key: schema[key] for key in keys}
+    for name, (_, function, column) in outputs:
+        is_len = function == "len"
+        aggs.append([name, "len"] if is_len else [name, function, of_inputs[column]])
+        node = ("agg", function, None if is_len else ("col", of_inputs[column]))
+        after[name] = kind_of(node, schema)
+    return {"group_by": {"keys": keys, "aggs": aggs}}, call, after
+
+
+def _judge_aggregate(name: str, node: Node, schema: Schema) -> None:
+    """Raises if an output of a grouping is not made of aggregates alone."""
+    aggregates = [part for part in parts(node) if part[0] == "agg"]
+    if not aggregates:
+        raise UnsupportedError(f"the output {name!r} is no aggregate: there are no lists. Write .first(), or another")
+    if any(part[2] is not None and has(part[2], "agg", "roll") for part in aggregates):
+        raise UnsupportedError(f"the output {name!r} has an aggregate or a rolling sum in an aggregate: do that before, by with_columns")
+    rest = replaced(node, {part: ("null", Kind.INT) for part in aggregates})
+    if columns_of(rest) or has(rest, "roll"):
+        raise UnsupportedError(f"the output {name!r} has a column outside of an aggregate: there are no lists. Write .first(), or another")
+    kind_of(node, schema)
+
+
+def _no_aggregates(expr: Expr, step: str) -> None:
+    if has(expr._node, "agg"):
+        raise UnsupportedError(f"{step} has no aggregates: group first; for totals over all rows, group by a literal such as all=lit(True)")
+
+
+def _no_doubles(names: Sequence[str], step: str) -> None:
+    for name in names:
+        if list(names).count(name) > 1:
+            raise DuplicateError(f"{step} has two columns {name!r}: write .alias(..)")
+
+
+def _with_outputs(schema: Schema, outputs: Sequence[Output]) -> Schema:
+    return {**schema, **{name: kind_of(node, schema) for name, node in outputs}}
+
+
+def _is_in_order(outputs: Sequence[Output]) -> bool:
+    """Whether outputs can be made one after another: rolling sums are of columns, and none reads what one before it wrote."""
+    if not any(has(node, "roll") for _, node in outputs):
+        return True
+    done: set = set()
+    for name, node in outputs:
+        if (has(node, "roll") and not (node[0] == "roll" and node[1][0] == "col")) or columns_of(node) & done:
+            return False
+        done.add(name)
+    return True
+
+
+def _keys(on: Any, left_on: Any, right_on: Any) -> List[str]:
+    """The names of the keys of a join."""
+    if on is None and left_on is not None and _names(left_on) == _names(right_on):
+        on = left_on
+    if on is None or on == [] or (left_on is not None and on is not left_on):
+        raise UnsupportedError("a join takes on=: the keys have the same names on both sides. Rename those of the left side by rename")
+    return _names(on)
+
+
+def _names(keys: Any) -> List[str]:
+    each = [named(it) for it in _flat((keys,))]
+    if any(expr._node[0] != "col" or expr._alias is not None for expr in each):
+        raise UnsupportedError("a key of a join is a column: compute it before, by with_columns")
+    return [expr._node[1] for expr in each]
+
+
+def _flat(given: Iterable[Any]) -> List[Any]:
+    """Inputs, and those of lists among them."""
+    flat: List[Any] = []
+    for it in given:
+        if isinstance(it, (str, Expr)) or not isinstance(it, Iterable):
+            flat.append(it)
+        else:
+            flat.extend(it)
+    return flat
+
+
+def _call(name: str, given: Iterable[Any], named_given: Mapping[str, Any]) -> str:
+    """A call as it was written, at most 80 characters of it."""
+    words = [*(repr(it) for it in given), *(f"{key}={value!r}" for key, value in named_given.items())]
+    text = f"{name}({', '.join(words)})"
+    return text if len(text) <= 80 else text[:77] + "..."

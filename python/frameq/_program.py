@@ -1,0 +1,134 @@
+"""Finds the program, and runs plans by it."""
+import contextlib
+import io
+import json
+import os
+import shutil
+import stat
+import subprocess
+import tempfile
+from typing import IO, Any, Iterator, List, NamedTuple, Optional, Sequence, Union
+
+from ._faults import ProgramNotFoundError, WriteError, fault
+from ._kinds import Schema
+from ._results import DataFrame, read_frame
+
+Path = Union[str, "os.PathLike[str]"]
+
+_REPOSITORY = os.path.dirname(os.path.dirname(os.path.dirname(os.path.abspath(__file__))))
+
+
+class Settings(NamedTuple):
+    """How to run a plan: rows in a batch, threads, and the program, each None for its default."""
+
+    batch: Optional[int] = None
+    workers: Optional[int] = None
+    program: Optional[Path] = None
+
+    def words(self) -> List[str]:
+        """The arguments that say so."""
+        batch = [] if self.batch is None else ["--batch", str(self.batch)]
+        return batch if self.workers is None else [*batch, "--workers", str(self.workers)]
+
+
+def find_program(program: Optional[Path] = None) -> str:
+    """The program: the one given, or that of the variable FRAMEQ, or `frameq` on the path, or that of the repository of this package."""
+    given = program or os.environ.get("FRAMEQ")
+    if given:
+        if not os.access(given, os.X_OK) or os.path.isdir(given):
+            raise ProgramNotFoundError(f"there is no program {os.fspath(given)!r}")
+        return os.path.abspath(given)
+    places = [shutil.which("frameq"), os.path.join(_REPOSITORY, "crates", "frameq", "out", "frameq"), os.path.join(_REPOSITORY, "frameq")]
+    for place in places:
+        if place and os.access(place, os.X_OK) and os.path.isfile(place):
+            return place
+    raise ProgramNotFoundError("there is no program frameq: run ./install in its repository, or set FRAMEQ to where it is")
+
+
+@contextlib.contextmanager
+def _plan_file(plan: dict) -> Iterator[str]:
+    with tempfile.TemporaryDirectory(prefix="frameq-") as room:
+        path = os.path.join(room, "plan.json")
+        with open(path, "w", encoding="utf-8") as file:
+            json.dump(plan, file, ensure_ascii=False)
+        yield path
+
+
+def _words_of_files(files: Sequence[str]) -> List[str]:
+    """Files as arguments: a name that looks like an option is one below this folder."""
+    return [os.path.join(os.curdir, file) if file.startswith("-") and file != "-" else file for file in files]
+
+
+def _run(
+    plan: dict, words: Sequence[str], files: Sequence[str], calls: Sequence[str], settings: Settings, out: Union[int, IO[bytes]]
+) -> bytes:
+    """Runs the program, and gives what it wrote if that is not written elsewhere. Raises its fault."""
+    program = find_program(settings.program)
+    with _plan_file(plan) as path:
+        command = [program, "--plan", path, *settings.words(), *words, *_words_of_files(files)]
+        ran = subprocess.run(command, stdout=out, stderr=subprocess.PIPE, check=False)
+    if ran.returncode != 0:
+        raise fault(ran.stderr.decode("utf-8", "replace"), ran.returncode, plan, files, calls)
+    return ran.stdout or b""
+
+
+def explain(plan: dict, calls: Sequence[str], program: Optional[Path]) -> str:
+    """What the program says of a plan."""
+    return _run(plan, ["--explain"], [], calls, Settings(program=program), subprocess.PIPE).decode("utf-8")
+
+
+def collect(plan: dict, files: Sequence[str], schema: Optional[Schema], calls: Sequence[str], settings: Settings) -> DataFrame:
+    """The frame that a plan makes of files."""
+    with tempfile.TemporaryFile() as out:
+        _run(plan, [], files, calls, settings, out)
+        out.seek(0)
+        with io.TextIOWrapper(out, encoding="utf-8", newline="") as text:
+            return read_frame(text, schema)
+
+
+def sink(plan: dict, files: Sequence[str], path: str, calls: Sequence[str], settings: Settings) -> None:
+    """Writes what a plan makes of files to a new file beside the path, which then takes its name. A device is written directly."""
+    path = os.path.realpath(path)
+    mode = os.stat(path).st_mode if os.path.exists(path) else None
+    if mode is not None and not stat.S_ISREG(mode):
+        with open(path, "wb") as device:
+            _run(plan, [], files, calls, settings, device)
+        return
+    try:
+        out = tempfile.NamedTemporaryFile(dir=os.path.dirname(path), prefix=".frameq-", delete=False)
+    except OSError as error:
+        raise WriteError(f"cannot write {path}: {error.strerror}") from error
+    try:
+        with out:
+            _run(plan, [], files, calls, settings, out)
+            os.fsync(out.fileno())
+            os.fchmod(out.fileno(), _mode_of_new_files() if mode is None else stat.S_IMODE(mode))
+        os.replace(out.name, path)
+    except BaseException:
+        with contextlib.suppress(FileNotFoundError):
+            os.unlink(out.name)
+        raise
+
+
+def _mode_of_new_files() -> int:
+    mask = os.umask(0)
+    os.umask(mask)
+    return 0o666 & ~mask
+
+
+def run_plan(
+    plan: Union[Path, dict],
+    files: Sequence[Path],
+    *,
+    schema: Optional[Schema] = None,
+    batch: Optional[int] = None,
+    workers: Optional[int] = None,
+    program: Optional[Path] = None,
+) -> DataFrame:
+    """Runs a plan that exists, a file or its JSON object, over files. Without the schema of its result each column is a text."""
+    given: Any = plan
+    if not isinstance(given, dict):
+        with open(given, encoding="utf-8") as file:
+            given = json.load(file)
+    names = [os.fspath(file) for file in ([files] if isinstance(files, (str, os.PathLike)) else files)]
+    return collect(given, names, schema, (), Settings(batch, workers, program))
