@@ -1,0 +1,97 @@
+#!/usr/bin/env python3
+"""Times parts of frameq beside plain Rust twins that do the same work.
+
+    bench/parts.py scan [MEGABYTES]     a scan of files; both programs run in turn, and must print the same
+    bench/parts.py groups               groupings; each program prints its own times and sums
+    bench/parts.py joins                joins; each program prints its own times and sums
+
+Each task is a folder here with `program.rt.txt`, the program over the crates. The twin of `scan` is its `twin.rs`, and those of the
+others are in `twins`. All are built first, with the Rattle toolchain and with `rustc` or `cargo`.
+"""
+import os
+import random
+import statistics
+import subprocess
+import sys
+import tempfile
+import time
+
+from staging import HERE, build
+
+RUNS = 5
+
+
+# ---- scan
+
+def csv_file(folder, name, header, row, megabytes):
+    """A file of about so many megabytes, whose rows `row` gives."""
+    path = os.path.join(folder, name)
+    with open(path, "w", encoding="ascii") as file:
+        file.write(header + "\n")
+        while file.tell() < megabytes * 1_000_000:
+            file.write("".join(row() for _ in range(10_000)))
+    return path
+
+
+def scan_inputs(folder, megabytes):
+    draw = random.Random(1)
+    number = lambda: draw.randrange(-1_000_000, 1_000_000)
+    ints = csv_file(folder, "ints.csv", "id,v", lambda: f"{number()},{number()}\n", megabytes)
+    texts = csv_file(folder, "texts.csv", "id,name", lambda: f"{number()},customer {number()}\n", megabytes)
+    return [("two ints", ints, []), ("int and text", texts, ["text"])]
+
+
+def seconds(program, words, path):
+    with open(path, "rb") as file:
+        start = time.perf_counter()
+        answer = subprocess.run([program, *words], stdin=file, stdout=subprocess.PIPE, check=True).stdout
+        return time.perf_counter() - start, answer
+
+
+def scan(folder, megabytes=200):
+    proof = (f"{HERE}/scan/Invariants.antt.txt", "scan/Invariants.antt")
+    own = build(folder, "bench", f"{HERE}/scan/program.rt.txt", ["fq_column", "fq_csv"], proof)
+    twin = f"{folder}/twin"
+    subprocess.run(["rustc", "-O", "-C", "target-cpu=x86-64", "--edition", "2021", "-o", twin, f"{HERE}/scan/twin.rs"], check=True)
+    for name, path, words in scan_inputs(folder, int(megabytes)):
+        times, answers = {own: [], twin: []}, set()
+        for _ in range(RUNS):
+            for program in (own, twin):
+                taken, answer = seconds(program, words, path)
+                times[program].append(taken)
+                answers.add(answer)
+        if len(answers) != 1:
+            sys.exit(f"scan, {name}: the answers differ")
+        best = [min(times[program]) for program in (own, twin)]
+        median = [statistics.median(times[program]) for program in (own, twin)]
+        print(f"scan, {name}: {os.path.getsize(path)} bytes, {answers.pop().decode().strip()} rows; best {best[0]:.2f} s, "
+              f"twin {best[1]:.2f} s, ratio {best[0] / best[1]:.2f}; median {median[0]:.2f} s, twin {median[1]:.2f} s")
+
+
+# ---- groups and joins
+
+def beside_twins(folder, task, proof):
+    proof = (f"{HERE}/{task}/{os.path.basename(proof)}.txt", proof)
+    own = build(folder, "bench", f"{HERE}/{task}/program.rt.txt", ["fq_column", "fq_ops"], proof)
+    subprocess.run(["cargo", "build", "--release", "--offline", "--quiet", "--bin", task], cwd=f"{HERE}/twins", check=True,
+                   env={**os.environ, "CARGO_TARGET_DIR": f"{folder}/twins"})
+    subprocess.run([own], check=True)
+    subprocess.run([f"{folder}/twins/release/{task}"], check=True)
+
+
+def groups(folder):
+    beside_twins(folder, "groups", "time/Invariants.antt")
+
+
+def joins(folder):
+    beside_twins(folder, "joins", "join/Answers.antt")
+
+
+TASKS = {"scan": scan, "groups": groups, "joins": joins}
+
+
+if __name__ == "__main__":
+    if len(sys.argv) < 2 or sys.argv[1] not in TASKS:
+        sys.exit(__doc__)
+    with tempfile.TemporaryDirectory() as room:
+        TASKS[sys.argv[1]](room, *sys.argv[2:])
