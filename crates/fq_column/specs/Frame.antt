@@ -4,6 +4,7 @@ use Rattle.std.specs.List.{AllPass, list_any}
 use Rattle.std.specs.Option.{option_map_or}
 use lib.Pointwise.{pointwise}
 use Rattle.fq_column.specs.declared.cells.Kind.{Kind}
+use Rattle.fq_column.specs.declared.schemas.TheConstants.{MAX_COLUMNS}
 use Rattle.fq_column.specs.declared.cells.Cell.{Cell}
 use Rattle.fq_column.specs.declared.cells.Cell.TheVariants.{Null}
 use Rattle.fq_column.specs.Cell.{has_kind}
@@ -51,7 +52,7 @@ put_all ps xs = fold put_named ps xs
 -- a schema has 1 to 64 columns, whose names differ
 pub record IsSchema (fields : Fields) : Type 0 where
   pub some_column : 1 ≤ length fields
-  pub not_too_many : length fields ≤ 64
+  pub not_too_many : length fields ≤ MAX_COLUMNS
   pub distinct : IsTrue (is_distinct same_name (names_of fields))
 
 -- whether a row has a value of the right kind, or null, for each column

@@ -1,6 +1,7 @@
 -- What contracts see of a schema: its names, each with its kind.
 use Rattle.std.specs.Prelude.{List, [], ◌∷◌, length, zip, nat_lt, ◌==◌, not, ◌&&◌, Bool, Result, Ok, Err, Option, if◌then◌else◌}
 use Rattle.fq_column.specs.declared.cells.Kind.{Kind}
+use Rattle.fq_column.specs.declared.schemas.TheConstants.{MAX_COLUMNS}
 use Rattle.fq_column.specs.declared.faults.StepFault.{StepFault}
 use Rattle.fq_column.specs.declared.faults.StepFault.TheVariants.{NoColumn, TooMany, DoubleName, NoSuchColumn}
 use Rattle.fq_column.specs.Frame.{Field, Fields, Name, same_name}
@@ -11,7 +12,7 @@ use Rattle.fq_column.specs.Refusal.{refuse_if}
 
 -- the refusals of a list of columns, in their order
 abbrev pub schema_checks : List Name → List (Option StepFault)
-schema_checks names = refuse_if (length names == 0) NoColumn ∷ refuse_if (nat_lt 64 (length names)) TooMany ∷ refuse_if (not (is_distinct same_name names)) DoubleName ∷ []
+schema_checks names = refuse_if (length names == 0) NoColumn ∷ refuse_if (nat_lt MAX_COLUMNS (length names)) TooMany ∷ refuse_if (not (is_distinct same_name names)) DoubleName ∷ []
 
 -- the fields of names and kinds
 abbrev pub fields_of : List Name → List Kind → Fields

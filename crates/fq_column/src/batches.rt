@@ -12,7 +12,7 @@ ghost use Rattle.fq_column.specs.Lists.{keep as kept, zip_with};
 use crate::cells::Cell;
 use crate::columns::Column;
 use crate::faults::{BatchFault, Memory};
-use crate::schemas::Schema;
+use crate::schemas::{MAX_COLUMNS, Schema};
 use std::alloc::Global;
 use std::marker::Model;
 use std::vec::IntoIter;
@@ -154,7 +154,7 @@ impl Batch {
     /// If an allocation fails, the batch is as it was.
     pub fn put(&mut self, name: &str, column: Column) -> Result<(), Memory>
         requires height { length column.cells ≡ length self.old.rows }
-        requires room { length (put_named self.old.fields (name.now, column.kind)) ≤ 64 }
+        requires room { length (put_named self.old.fields (name.now, column.kind)) ≤ MAX_COLUMNS }
         ensures ok { OnOk result (self.new ≡ frame_with self.old name.now column) }
         ensures err { OnErr result (self.new ≡ self.old) }
     {
@@ -215,7 +215,7 @@ pub fn put_column(
     column: Column,
 ) -> Result<(), Memory>
     requires width { length columns.old.items ≡ length schema.old }
-    requires room { length (put_named schema.old (name.now, column.kind)) ≤ 64 }
+    requires room { length (put_named schema.old (name.now, column.kind)) ≤ MAX_COLUMNS }
     ensures schema { OnOk result (schema.new ≡ put_named schema.old (name.now, column.kind)) }
     ensures columns { OnOk result (zip (names_of schema.new) columns.new.items
         ≡ put_named (zip (names_of schema.old) columns.old.items) (name.now, column)) }

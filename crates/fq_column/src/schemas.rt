@@ -12,6 +12,9 @@ use crate::faults::{Memory, StepFault};
 use std::alloc::Global;
 use std::marker::Model;
 
+/// The most columns of a schema.
+pub const MAX_COLUMNS: usize = 64;
+
 /// From 1 to 64 names that differ, each with the kind of its column.
 #[derive(Debug, Drop)]
 pub struct Schema {
@@ -46,7 +49,7 @@ impl Schema {
         if names.is_empty() {
             return Err(StepFault::NoColumn);
         }
-        if names.len() > 64 {
+        if names.len() > MAX_COLUMNS {
             return Err(StepFault::TooMany);
         }
         if has_double(names.as_slice()) {
@@ -105,7 +108,7 @@ impl Schema {
     ///
     /// If an allocation fails, the schema is as it was.
     pub fn put(&mut self, name: &str, kind: Kind) -> Result<(), Memory>
-        requires { length (put_named self.old (name.now, kind)) ≤ 64 }
+        requires { length (put_named self.old (name.now, kind)) ≤ MAX_COLUMNS }
         ensures ok { OnOk result (self.new ≡ put_named self.old (name.now, kind)) }
         ensures err { OnErr result (self.new ≡ self.old) }
     {

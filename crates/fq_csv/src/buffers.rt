@@ -1,4 +1,7 @@
 //! The bytes of a file, from which runs of records are taken.
+//!
+//! Bytes that were not taken move to the front only before the next read, so each is copied once, into the text of its run. A record
+//! that is not whole is passed over again once twice as many bytes of it are there, so a long one is passed over twice in all.
 ghost use Rattle.std.specs.Prelude.{◌≡◌, ◌≤◌, ◌<◌, ◌∷◌, take, false, true, length, IfOk, IfErr, OnErr, OnOk};
 ghost use Rattle.std.specs.Io.KnownBytes.{Keeps};
 ghost use Rattle.fq_csv.specs.Buffer.{FailsBy, Finds, IsSound, ReadsOn, TakesText, left_of, rest_of, unread_of};

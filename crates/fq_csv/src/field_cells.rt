@@ -10,7 +10,7 @@ use crate::layouts::NullValues;
 use fq_column::{Column, Kind, Memory};
 use std::str;
 
-/// From how many bytes on a field is tested in steps of 64 bytes.
+/// From how many bytes on a field is tested in steps of 64 bytes, by `simdutf8`; shorter ones it would hand to the standard library.
 const LONG_FIELD: usize = 64;
 
 /// As many digits as write a number within 64 bits, whichever they are.

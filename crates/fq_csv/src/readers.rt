@@ -10,6 +10,9 @@ use fq_column::Memory;
 use std::alloc::Global;
 
 /// A reader of the records of a text that no byte order mark begins, each with as many fields as it has.
+///
+/// It costs some 100,000 instructions for its tables, and each run has its own: a worker shares its work with the others by reference, so
+/// it cannot keep one, and a reader cannot be given another text.
 pub(crate) fn reader_of(alloc: Global, text: &[u8]) -> Reader<&[u8]>
     requires { strip_bom text.now ≡ text.now }
     ensures plain { IsPlain result }

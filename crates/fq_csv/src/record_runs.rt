@@ -10,13 +10,15 @@ ghost use Rattle.fq_csv.specs.declared.scanners.TheConstants.{MAX_ROWS};
 use crate::faults::ScanFault;
 use crate::layouts::Layout;
 use crate::text_rows::{NoRow, push_records};
-use fq_column::{Batch, Column, Memory, empty_columns};
+use fq_column::{Batch, Column, Memory, Piece, empty_columns};
 use std::alloc::Global;
 use std::marker::Model;
 
 /// Records of a file, one after the other, as the text that they are.
 ///
-/// None of their fields was looked at yet, so a run may be handed to another thread, which makes a batch of it.
+/// None of their fields was looked at yet, so a run may be handed to another thread, which makes a batch of it. The text begins with a
+/// line feed: an empty line is no record, and a reader takes a byte order mark off the start of its text, where here the first bytes of a
+/// field may be one.
 #[derive(Drop)]
 pub struct RecordRun {
     pub(crate) file: u16,
@@ -56,8 +58,8 @@ impl RecordRun {
     /// fields than there are columns, or `BadCell` at one with a field that is not a cell of its column.
     ///
     /// Allocates for the batch's columns, for texts over 16 bytes, and for one record. `Memory` if an allocation fails.
-    pub fn into_batch(self, alloc: Global) -> Result<(Batch, Option<ScanFault>), Memory>
-        ensures { IfOk result (λ r. ReadsRun self r.0 r.1) }
+    pub fn into_batch(self, alloc: Global) -> Result<Piece<ScanFault>, Memory>
+        ensures { IfOk result (λ p. ReadsRun self p.batch p.fault) }
     {
         let RecordRun {
             file,
@@ -68,7 +70,10 @@ impl RecordRun {
         } = self;
         let (columns, bad) = columns_of(alloc, &layout, text.as_slice(), count)?;
         let batch = Batch::new(layout.schema, columns);
-        Ok((batch, fault_of(file, before, bad)))
+        Ok(Piece {
+            batch,
+            fault: fault_of(file, before, bad),
+        })
     }
 }
 

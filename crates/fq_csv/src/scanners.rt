@@ -12,7 +12,7 @@ use crate::layouts::{Layout, NullValues};
 use crate::record_runs::RecordRun;
 use crate::record_scanners::RecordScanner;
 use crate::scans::Scan;
-use fq_column::{Batch, Memory, Schema};
+use fq_column::{Memory, Piece, Schema};
 use std::alloc::Global;
 use std::io::Read;
 use std::marker::Model;
@@ -122,14 +122,14 @@ impl<R: Read> Scanner<R> {
         }
         match self.records.next_run() {
             Ok(Some(run)) => match rows_of(self.alloc, run) {
-                Ok((batch, fault)) => {
+                Ok(piece) => {
                     self.serial = serial + 1;
-                    self.rows += batch.rows() as u32;
-                    self.fault = fault;
+                    self.rows += piece.batch.rows() as u32;
+                    self.fault = piece.fault;
                     Scan::Batch {
                         file,
                         serial,
-                        batch,
+                        batch: piece.batch,
                     }
                 }
                 Err(fault) => {
@@ -156,16 +156,16 @@ fn end_of(file: u16, batches: u32, fault: Option<ScanFault>) -> Scan
 
 // The rows of a run, at least one, and the fault that ends them. Answers that fault if there are none, and `Memory` if an
 // allocation failed.
-fn rows_of(alloc: Global, run: RecordRun) -> Result<(Batch, Option<ScanFault>), ScanFault>
+fn rows_of(alloc: Global, run: RecordRun) -> Result<Piece<ScanFault>, ScanFault>
     requires { 0 < length run.records }
-    ensures rows { IfOk result (λ r. ReadsRun run r.0 r.1 × (0 < length r.0.rows)) }
+    ensures rows { IfOk result (λ p. ReadsRun run p.batch p.fault × (0 < length p.batch.rows)) }
     ensures none { IfErr result (λ f. HasNoRow run f ⊎ (f ≡ fault.Memory)) }
 {
-    let (batch, fault) = run.into_batch(alloc)?;
-    if batch.rows() > 0 {
-        return Ok((batch, fault));
+    let piece = run.into_batch(alloc)?;
+    if piece.batch.rows() > 0 {
+        return Ok(piece);
     }
-    match fault {
+    match piece.fault {
         Some(fault) => Err(fault),
         None => unreachable!(),
     }

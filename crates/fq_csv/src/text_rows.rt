@@ -12,7 +12,7 @@ use crate::field_cells::push_field;
 use crate::layouts::NullValues;
 use crate::readers::{next_record, reader_of};
 use csv::ByteRecord;
-use fq_column::{Column, Memory, cut_columns};
+use fq_column::{Column, MAX_COLUMNS, Memory, cut_columns};
 use std::alloc::Global;
 
 /// Why a record is not a row.
@@ -33,7 +33,7 @@ fn push_record(
     height: u32,
     nulls: &NullValues,
 ) -> Result<Option<NoRow>, Memory>
-    requires few { length columns.old ≤ 64 }
+    requires few { length columns.old ≤ MAX_COLUMNS }
     requires height { All (λ (c : Cells). length c.cells ≡ height) columns.old }
     ensures row { IfOk result (λ why. IfNone why ((cells : Row) × (length (fields_of row.now) ≡ length columns.old)
         × (row_by_kinds nulls.now (kinds_in columns.old) (fields_of row.now) ≡ Ok cells) × (columns.new ≡ with_row columns.old cells)
@@ -66,7 +66,7 @@ pub(crate) fn push_records(
     count: u32,
     nulls: &NullValues,
 ) -> Result<Option<(u32, NoRow)>, Memory>
-    requires few { length columns.old ≤ 64 }
+    requires few { length columns.old ≤ MAX_COLUMNS }
     requires empty { Holds (kinds_in columns.old) columns.old [] }
     requires unmarked { strip_bom text.now ≡ text.now }
     requires count { length (records default_config text.now) ≡ count }

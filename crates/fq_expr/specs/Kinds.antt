@@ -3,6 +3,7 @@ use Rattle.std.specs.Prelude.{ℕ, ◌+◌, Bool, not, ◌&&◌, List, [], ◌�
 use Rattle.fq_column.specs.declared.cells.Kind.{Kind}
 use Rattle.fq_column.specs.declared.cells.Kind.TheVariants.{Whole, Text, Truth}
 use Rattle.fq_column.specs.declared.faults.StepFault.{StepFault}
+use Rattle.fq_column.specs.declared.schemas.TheConstants.{MAX_COLUMNS}
 use Rattle.fq_column.specs.declared.faults.StepFault.TheVariants.{WrongKind, DoubleName, NotBool, TooMany, NoColumn}
 use Rattle.fq_column.specs.Cell.{same_kind}
 use Rattle.fq_column.specs.Frame.{Fields, Name, names_of, same_name, has_name, put_all}
@@ -69,12 +70,12 @@ abbrev pub step_schema : Fields → Step → Result Fields StepFault
 step_schema fields (filter_by e) = and_then (kind_of fields e) (λ k.
     unless_refused (refuse_if (not (same_kind k Truth)) NotBool ∷ []) fields)
 step_schema fields (with_columns items) = and_then (item_fields fields items) (λ outputs.
-    unless_refused (refuse_if (nat_lt 64 (length fields + count_new fields (item_names items))) TooMany
+    unless_refused (refuse_if (nat_lt MAX_COLUMNS (length fields + count_new fields (item_names items))) TooMany
     ∷ refuse_if (not (is_distinct same_name (item_names items))) DoubleName ∷ [])
     (put_all fields outputs))
 step_schema fields (select items) = and_then (unless_refused (refuse_if (length items == 0) NoColumn ∷ []) items) (λ items.
     and_then (item_fields fields items) (λ outputs.
-    unless_refused (refuse_if (nat_lt 64 (length items)) TooMany
+    unless_refused (refuse_if (nat_lt MAX_COLUMNS (length items)) TooMany
     ∷ refuse_if (not (is_distinct same_name (item_names items))) DoubleName ∷ [])
     outputs))
 

@@ -17,28 +17,19 @@ ghost use Rattle.fq_expr.specs.Value.{value_of};
 use crate::expressions::Expr;
 use crate::operands::{AnyOperand, Operand};
 use crate::steps::{RowStep, select_schema};
-use fq_column::{Batch, Column, Kind, Memory, Schema, cut_columns, put_column};
+use fq_column::{Batch, Column, Kind, MAX_COLUMNS, Memory, Piece, Schema, cut_columns, put_column};
 use std::alloc::Global;
 use std::vec::IntoIter;
 
-/// What a step made of a batch: the rows before the first that faults, and the lowest item that faults there.
-#[derive(Drop)]
-pub struct Stepped {
-    /// The rows before the first that faults.
-    pub batch: Batch,
-    /// The lowest item that faults on the next row; a filter's is 0.
-    pub item: Option<u16>,
-}
-
 impl RowStep {
-    /// The step on the rows of a batch.
-    pub(crate) fn apply(&self, alloc: Global, batch: Batch) -> Result<Stepped, Memory>
+    /// The step on the rows of a batch. The fault is the lowest item that faults on the row behind them; a filter's is 0.
+    pub(crate) fn apply(&self, alloc: Global, batch: Batch) -> Result<Piece<u16>, Memory>
         requires { IsOk (step_schema batch.fields (step_of self.now)) }
-        ensures fields { IfOk result (λ s. s.batch.fields ≡ fields_after batch.fields (step_of self.now)) }
+        ensures fields { IfOk result (λ p. p.batch.fields ≡ fields_after batch.fields (step_of self.now)) }
         ensures rows { let u = one_by_one (rows_after batch.fields (step_of self.now)) batch.rows in
-            IfOk result (λ s. s.batch.rows ≡ u.rows) }
-        ensures item { let u = one_by_one (rows_after batch.fields (step_of self.now)) batch.rows in
-            IfOk result (λ s. s.item ≡ u.fault) }
+            IfOk result (λ p. p.batch.rows ≡ u.rows) }
+        ensures fault { let u = one_by_one (rows_after batch.fields (step_of self.now)) batch.rows in
+            IfOk result (λ p. p.fault ≡ u.fault) }
     {
         match self {
             RowStep::Filter(predicate) => filter(alloc, predicate, batch),
@@ -49,20 +40,20 @@ impl RowStep {
 }
 
 // The rows for which a predicate is true.
-fn filter(alloc: Global, predicate: &Expr, batch: Batch) -> Result<Stepped, Memory>
+fn filter(alloc: Global, predicate: &Expr, batch: Batch) -> Result<Piece<u16>, Memory>
     requires { IsOk (step_schema batch.fields (filter_by (expression_of predicate.now))) }
-    ensures fields { IfOk result (λ s. s.batch.fields ≡ fields_after batch.fields (filter_by (expression_of predicate.now))) }
+    ensures fields { IfOk result (λ p. p.batch.fields ≡ fields_after batch.fields (filter_by (expression_of predicate.now))) }
     ensures rows { let u = one_by_one (rows_after batch.fields (filter_by (expression_of predicate.now))) batch.rows in
-        IfOk result (λ s. s.batch.rows ≡ u.rows) }
-    ensures item { let u = one_by_one (rows_after batch.fields (filter_by (expression_of predicate.now))) batch.rows in
-        IfOk result (λ s. s.item ≡ u.fault) }
+        IfOk result (λ p. p.batch.rows ≡ u.rows) }
+    ensures fault { let u = one_by_one (rows_after batch.fields (filter_by (expression_of predicate.now))) batch.rows in
+        IfOk result (λ p. p.fault ≡ u.fault) }
 {
     let mask = predicate_mask(alloc, predicate, &batch)?;
     let item = (mask.len() < batch.rows()).then_some(0u16);
     let mut batch = batch;
     batch.cut(mask.len());
     keep_marked(&mut batch, mask.as_slice());
-    Ok(Stepped { batch, item })
+    Ok(Piece { batch, fault: item })
 }
 
 // Whether a predicate is true, for each row before the first that faults.
@@ -119,7 +110,7 @@ struct Outputs {
 // Each item on the rows of a batch before the first on which an item faults.
 fn evaluate_items(alloc: Global, items: &[(String, Expr)], batch: &Batch) -> Result<Outputs, Memory>
     requires kinds { IsOk (all_kinds batch.now.fields (items_of items.now)) }
-    requires bound { length items.now ≤ 64 }
+    requires bound { length items.now ≤ MAX_COLUMNS }
     ensures { IfOk result (λ outputs. AreOutputs batch.now.fields (items_of items.now) batch.now.rows outputs.columns.items outputs.rows outputs.item) }
 {
     let mut columns = Vec::with_capacity(alloc, items.len())?;
@@ -142,33 +133,33 @@ fn evaluate_items(alloc: Global, items: &[(String, Expr)], batch: &Batch) -> Res
 }
 
 // The items alone.
-fn project(alloc: Global, items: &[(String, Expr)], batch: Batch) -> Result<Stepped, Memory>
+fn project(alloc: Global, items: &[(String, Expr)], batch: Batch) -> Result<Piece<u16>, Memory>
     requires { IsOk (step_schema batch.fields (select (items_of items.now))) }
-    ensures fields { IfOk result (λ s. s.batch.fields ≡ fields_after batch.fields (select (items_of items.now))) }
+    ensures fields { IfOk result (λ p. p.batch.fields ≡ fields_after batch.fields (select (items_of items.now))) }
     ensures rows { let u = one_by_one (rows_after batch.fields (select (items_of items.now))) batch.rows in
-        IfOk result (λ s. s.batch.rows ≡ u.rows) }
-    ensures item { let u = one_by_one (rows_after batch.fields (select (items_of items.now))) batch.rows in
-        IfOk result (λ s. s.item ≡ u.fault) }
+        IfOk result (λ p. p.batch.rows ≡ u.rows) }
+    ensures fault { let u = one_by_one (rows_after batch.fields (select (items_of items.now))) batch.rows in
+        IfOk result (λ p. p.fault ≡ u.fault) }
 {
     let outputs = evaluate_items(alloc, items, &batch)?;
     let Ok(schema) = select_schema(alloc, items, batch.schema()) else {
         return Err(Memory);
     };
     let Outputs { columns, item, .. } = outputs;
-    Ok(Stepped {
+    Ok(Piece {
         batch: Batch::new(schema, columns),
-        item,
+        fault: item,
     })
 }
 
 // The rows with the items under their names: in the place of the column of a name, or else last.
-fn add_columns(alloc: Global, items: &[(String, Expr)], batch: Batch) -> Result<Stepped, Memory>
+fn add_columns(alloc: Global, items: &[(String, Expr)], batch: Batch) -> Result<Piece<u16>, Memory>
     requires { IsOk (step_schema batch.fields (with_columns (items_of items.now))) }
-    ensures fields { IfOk result (λ s. s.batch.fields ≡ fields_after batch.fields (with_columns (items_of items.now))) }
+    ensures fields { IfOk result (λ p. p.batch.fields ≡ fields_after batch.fields (with_columns (items_of items.now))) }
     ensures rows { let u = one_by_one (rows_after batch.fields (with_columns (items_of items.now))) batch.rows in
-        IfOk result (λ s. s.batch.rows ≡ u.rows) }
-    ensures item { let u = one_by_one (rows_after batch.fields (with_columns (items_of items.now))) batch.rows in
-        IfOk result (λ s. s.item ≡ u.fault) }
+        IfOk result (λ p. p.batch.rows ≡ u.rows) }
+    ensures fault { let u = one_by_one (rows_after batch.fields (with_columns (items_of items.now))) batch.rows in
+        IfOk result (λ p. p.fault ≡ u.fault) }
 {
     let outputs = evaluate_items(alloc, items, &batch)?;
     let Outputs {
@@ -180,9 +171,9 @@ fn add_columns(alloc: Global, items: &[(String, Expr)], batch: Batch) -> Result<
     batch.cut(rows);
     let (mut schema, mut columns) = batch.into_parts();
     put_columns(items, &mut made.into_iter(), &mut schema, &mut columns)?;
-    Ok(Stepped {
+    Ok(Piece {
         batch: Batch::new(schema, columns),
-        item,
+        fault: item,
     })
 }
 
@@ -194,7 +185,7 @@ fn put_columns(
     columns: &mut Vec<Column>,
 ) -> Result<(), Memory>
     requires width { length columns.old.items ≡ length schema.old }
-    requires room { length (put_all schema.old (zip (item_names (items_of items.now)) (map kind_of_cells (into_iter_items made.old)))) ≤ 64 }
+    requires room { length (put_all schema.old (zip (item_names (items_of items.now)) (map kind_of_cells (into_iter_items made.old)))) ≤ MAX_COLUMNS }
     ensures schema { OnOk result (schema.new
         ≡ put_all schema.old (zip (item_names (items_of items.now)) (map kind_of_cells (into_iter_items made.old)))) }
     ensures columns { OnOk result (zip (names_of schema.new) columns.new.items

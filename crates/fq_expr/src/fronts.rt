@@ -7,7 +7,6 @@ ghost use Rattle.fq_expr.specs.Kinds.{step_schema, steps_schema};
 ghost use Rattle.fq_expr.specs.ExpressionData.{step_of};
 ghost use Rattle.fq_expr.specs.Steps.{apply_steps, fields_after, fields_after_all, fields_after_each};
 
-use crate::application::Stepped;
 use crate::steps::RowStep;
 use fq_column::{Batch, Memory, Schema, StepFault};
 use std::alloc::Global;
@@ -24,14 +23,11 @@ pub struct RowFault {
     pub item: u16,
 }
 
-/// What a front made of a batch: the rows before the first that faults, and that fault.
-#[derive(Debug, Drop)]
-pub struct Piece {
-    /// The rows that the steps made of the rows before the first that faults.
-    pub batch: Batch,
-    /// The fault of that row, or none if no row faults.
-    pub fault: Option<RowFault>,
-}
+/// The rows that steps made of those before the first that faults, and the fault of that row.
+pub type Piece = fq_column::Piece<RowFault>;
+
+/// The most steps of a plan, whose numbers are below it.
+pub const MAX_STEPS: usize = 64;
 
 /// Row-wise steps one after the other, numbered from a first number on.
 #[derive(Debug, Drop)]
@@ -54,10 +50,11 @@ impl Model for Front {
     ghost use Rattle.std.specs.Prelude.{◌+◌, ◌≤◌, map, length, IsOk};
     ghost use Rattle.fq_expr.specs.Kinds.{steps_schema};
     ghost use Rattle.fq_expr.specs.ExpressionData.{step_of};
+    ghost use Rattle.fq_expr.specs.declared.fronts.TheConstants.{MAX_STEPS};
 
     ghost view = { λ f. record { steps = map step_of f.steps.items; fields = f.schema; first = f.first } };
 
-    ghost invariant = { λ f. IsOk (steps_schema f.schema (map step_of f.steps.items)) × (f.first + length f.steps.items ≤ 64) };
+    ghost invariant = { λ f. IsOk (steps_schema f.schema (map step_of f.steps.items)) × (f.first + length f.steps.items ≤ MAX_STEPS) };
 }
 
 impl Front {
@@ -71,7 +68,7 @@ impl Front {
         first: u16,
     ) -> Result<Front, Memory>
         requires schemas { IsOk (steps_schema schema (map step_of steps.items)) }
-        requires numbers { first + vec_len steps ≤ 64 }
+        requires numbers { first + vec_len steps ≤ MAX_STEPS }
         ensures succeeds { IsOk result }
         ensures front { IfOk result (λ f. f ≡ record { steps = map step_of steps.items; fields = schema; first = first }) }
     {
@@ -131,9 +128,11 @@ impl Front {
         let mut piece = Piece { batch, fault: None };
         for i in 0..self.steps.len() {
             let Piece { batch, fault } = piece;
-            let Stepped { batch, item } = self.steps[i].apply(alloc, batch)?;
-            let fault = fault_after(self.first + i as u16, item, fault);
-            piece = Piece { batch, fault };
+            let stepped = self.steps[i].apply(alloc, batch)?;
+            piece = Piece {
+                batch: stepped.batch,
+                fault: fault_after(self.first + i as u16, stepped.fault, fault),
+            };
         }
         Ok(piece)
     }

@@ -31,6 +31,6 @@ mod steps;
 
 pub use evaluation::eval;
 pub use expressions::{Binary, Expr, Unary};
-pub use fronts::{Front, Piece, RowFault};
+pub use fronts::{Front, MAX_STEPS, Piece, RowFault};
 pub use laws::steps_of_joined_streams;
 pub use steps::RowStep;

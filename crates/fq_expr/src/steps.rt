@@ -10,7 +10,7 @@ ghost use Rattle.fq_expr.specs.ExpressionData.{expression_of, items_of, step_of}
 ghost use Rattle.fq_expr.specs.Outputs.{all_kinds};
 
 use crate::expressions::Expr;
-use fq_column::{Kind, Memory, Schema, StepFault};
+use fq_column::{Kind, MAX_COLUMNS, Memory, Schema, StepFault};
 use std::alloc::Global;
 
 /// A step that goes row by row.
@@ -60,7 +60,7 @@ fn with_columns_schema(
     ensures { IsJudgement (step_schema schema.now (with_columns (items_of items.now))) result }
 {
     let kinds = item_kinds(alloc, items, schema)?;
-    if new_columns(items, schema) + schema.len() > 64 {
+    if new_columns(items, schema) + schema.len() > MAX_COLUMNS {
         return Err(StepFault::TooMany);
     }
     if has_double(items) {
@@ -156,7 +156,7 @@ fn with_fields(
     schema: &Schema,
 ) -> Result<Schema, Memory>
     requires kinds { length kinds.now ≡ length items.now }
-    requires room { length (put_all schema.now (fields_of (item_names (items_of items.now)) kinds.now)) ≤ 64 }
+    requires room { length (put_all schema.now (fields_of (item_names (items_of items.now)) kinds.now)) ≤ MAX_COLUMNS }
     ensures { IfOk result (λ s. s ≡ put_all schema.now (fields_of (item_names (items_of items.now)) kinds.now)) }
 {
     let mut after = schema.copy(alloc)?;

@@ -10,6 +10,7 @@ ghost use Rattle.fq_lanes.specs.declared.messages.FromFeed.{FromFeed};
 
 use crate::faults::{RunFault, first_fault};
 use crate::feed_lane::FeedLane;
+use crate::feeds::MAX_FEEDS;
 use crate::worker_lanes::WorkerLanes;
 use std::sync::Wait;
 
@@ -19,7 +20,7 @@ pub(crate) fn drain_lanes<R: Wait, X: Drop>(
     lanes: &mut Vec<FeedLane<'_, X>>,
     fault: RunFault,
 ) -> RunFault
-    requires few { length lanes.old.items ≤ 16 }
+    requires few { length lanes.old.items ≤ MAX_FEEDS }
     ensures size { length lanes.new.items ≡ length lanes.old.items }
     ensures names { feed_names lanes.new.items ≡ feed_names lanes.old.items }
     ensures grows { Grows IsPrefix (told_in (feed_views lanes.old.items)) (told_in (feed_views lanes.new.items)) }

@@ -2,12 +2,25 @@
 ghost use Rattle.std.specs.Prelude.{◌≡◌};
 ghost use Rattle.fq_lanes.specs.Faults.{fault_at, first_of};
 
+use std::alloc::{AllocError, AllocFailed};
 use thiserror::Error;
 
 /// An allocation failed, or the runtime refused a thread.
 #[derive(Clone, Copy, PartialEq, Eq, Debug, Drop, Error)]
 #[error("out of memory")]
 pub struct Memory;
+
+impl From<AllocError> for Memory {
+    fn from(_error: AllocError) -> Memory {
+        Memory
+    }
+}
+
+impl<T: Drop> From<AllocFailed<T>> for Memory {
+    fn from(_failed: AllocFailed<T>) -> Memory {
+        Memory
+    }
+}
 
 /// Why a feed ended early.
 #[derive(Clone, Copy, PartialEq, Eq, Debug, Drop, Error)]

@@ -5,6 +5,9 @@ ghost use Rattle.fq_lanes.specs.declared.faults.FeedFault.TheVariants.{Read};
 
 use crate::faults::FeedFault;
 
+/// The most feeds of a run.
+pub const MAX_FEEDS: usize = 16;
+
 /// A source of one file's items. If its source tells it, it means the list of items that still come.
 pub trait Feed {
     /// What it gives.

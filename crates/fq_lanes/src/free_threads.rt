@@ -14,7 +14,7 @@ ghost use Rattle.fq_lanes.specs.declared.messages.FromFeed.{FromFeed};
 use crate::drains::{drain_lanes, drain_workers};
 use crate::faults::{Memory, RunFault};
 use crate::feed_lane::FeedLane;
-use crate::feeds::Feed;
+use crate::feeds::{Feed, MAX_FEEDS};
 use crate::gates::Gate;
 use crate::hub::Hub;
 use crate::reports::Report;
@@ -23,7 +23,7 @@ use crate::sleeping::Parkers;
 use crate::tails::Tail;
 use crate::threads::{Core, start_feeds};
 use crate::turns::run_turns;
-use crate::work::Work;
+use crate::work::{MAX_WORKERS, Work};
 use crate::worker_lanes::WorkerLanes;
 use std::alloc::Global;
 use std::sync::Wait;
@@ -48,7 +48,7 @@ fn run_hub<R: Wait, X: Drop, S: Tail>(
 ) -> Result<(), RunFault>
 where
     S::Out: Drop,
-    requires few { length lanes.old.items ≤ 16 }
+    requires few { length lanes.old.items ≤ MAX_FEEDS }
     requires files { file_count hub.old.sink ≡ length lanes.old.items }
     requires accepted { HasAccepted hub.old.sink [] 0 }
     requires trace { hub.old.trace.items ≡ [] }
@@ -69,7 +69,9 @@ where
 }
 
 impl<X: Drop, O: Drop, S: Tail<Out = O>> Core<X, O> for Run<'_, S, O> {
-    ghost can_run = { λ run n. (n ≤ 16) × (file_count run.hub.sink ≡ n) × HasAccepted run.hub.sink [] 0 × (run.hub.trace.items ≡ []) };
+    ghost use Rattle.fq_lanes.specs.declared.feeds.TheConstants.{MAX_FEEDS};
+
+    ghost can_run = { λ run n. (n ≤ MAX_FEEDS) × (file_count run.hub.sink ≡ n) × HasAccepted run.hub.sink [] 0 × (run.hub.trace.items ≡ []) };
 
     ghost done = { λ old tolds ds new. RunDone S.takes S.refuses old.hub.tail tolds ds new.hub new.outcome };
 
@@ -113,7 +115,7 @@ fn run_threads<
 where
     F::Item: Drop + Send + 'e,
     W::Out: Drop + Send + 'e,
-    requires few { length feeds.items ≤ 16 }
+    requires few { length feeds.items ≤ MAX_FEEDS }
     requires parkers { (length parkers.now.feeds.items ≡ length feeds.items) × (length parkers.now.workers.items ≡ workers) }
     requires open { All F.is_open feeds.items }
     requires hub { H.can_run hub (length feeds.items) }
@@ -126,7 +128,7 @@ where
         thread::scope_env(),
         rt,
         move |scope| -> (H, Result<(), Memory>)
-            requires { All F.is_open (into_iter_items feeds) × (length (into_iter_items feeds) ≤ 16) × (length parkers.now.feeds.items ≡ length (into_iter_items feeds)) × (length parkers.now.workers.items ≡ workers) × H.can_run hub (length (into_iter_items feeds)) }
+            requires { All F.is_open (into_iter_items feeds) × (length (into_iter_items feeds) ≤ MAX_FEEDS) × (length parkers.now.feeds.items ≡ length (into_iter_items feeds)) × (length parkers.now.workers.items ≡ workers) × H.can_run hub (length (into_iter_items feeds)) }
             ensures refused { OnErr result.1 (result.0 ≡ hub) }
             ensures done { OnOk result.1 ((told : List (List (FromFeed F.Item))) × Each (Began F.gives F.may_fail) (into_iter_items feeds) told
                 × ((ds : List (WorkerView F.Item W.Out)) × AllReplied (W.gives work.entry.now) ds × H.done hub told ds result.0)) }
@@ -170,9 +172,9 @@ pub fn run_lanes<
 where
     F::Item: Drop + Send + 'e,
     W::Out: Drop + Send + 'e,
-    requires feeds { length feeds.items ≤ 16 }
+    requires feeds { length feeds.items ≤ MAX_FEEDS }
     requires open { All F.is_open feeds.items }
-    requires workers { (1 ≤ workers) × (workers ≤ 16) }
+    requires workers { (1 ≤ workers) × (workers ≤ MAX_WORKERS) }
     ensures done { IfOk result.1 (λ report. Finishes F.gives (W.gives work.now) S.takes feeds.items tail report.trace.items result.0) }
     ensures stopped { OnErr result.1 (StopsEarly F.gives (W.gives work.now) S.takes S.refuses feeds.items tail result.0) }
     ensures fault { IfErr result.1 (λ fault. BlamesFeed F.may_fail feeds.items fault) }

@@ -28,9 +28,7 @@ impl<O: Drop, S: Tail<Out = O>> Hub<S, O> {
             (λ _. HasStopped S.takes S.refuses first events (file_count self.old.sink) self.new.tail) }
     {
         while let Some((file, serial, out)) = self.sink.next() {
-            let Ok(()) = self.trace.push((file, serial)) else {
-                return Err(Memory);
-            };
+            self.trace.push((file, serial))?;
             self.tail.take(file, serial, out)?;
         }
         Ok(())

@@ -4,6 +4,9 @@ ghost use Rattle.rtrb.specs.Ring.{sent, received, known_items};
 
 use rtrb::{Consumer, Producer};
 
+/// The most items that a lane has room for.
+pub const MAX_CAPACITY: usize = 65_536;
+
 /// The end that puts.
 #[derive(Drop)]
 pub struct Put<T> {

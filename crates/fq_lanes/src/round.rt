@@ -12,7 +12,7 @@ ghost use Rattle.fq_lanes.specs.declared.events.Event.{Event};
 ghost use Rattle.fq_lanes.specs.declared.inlet.Inlet.{Inlet};
 
 use crate::faults::{Memory, RunFault, feed_fault};
-use crate::feeds::Feed;
+use crate::feeds::{Feed, MAX_FEEDS};
 use crate::hub::Hub;
 use crate::inlet::Inlet;
 use crate::job::{Answer, Job, work_round};
@@ -82,7 +82,7 @@ fn go_round<F: Feed, S: Tail>(
 where
     F::Item: Drop,
     S::Out: Drop,
-    requires few { length inlets.old.items ≤ 16 }
+    requires few { length inlets.old.items ≤ MAX_FEEDS }
     requires room { length jobs.old.items < workers }
     requires round { (feeds : List F) × (first : S) × (items : List (List F.Item)) × (events : List (Event S.Out))
         × InRound F.gives F.is_open F.may_fail F.most S.takes feeds first items events inlets.old.items hub.old jobs.old.items }
@@ -117,7 +117,7 @@ pub(crate) fn collect_round<F: Feed, S: Tail>(
 where
     F::Item: Drop,
     S::Out: Drop,
-    requires few { length inlets.old.items ≤ 16 }
+    requires few { length inlets.old.items ≤ MAX_FEEDS }
     requires workers { 0 < workers }
     requires round { (feeds : List F) × (first : S) × (items : List (List F.Item)) × (events : List (Event S.Out))
         × InRound F.gives F.is_open F.may_fail F.most S.takes feeds first items events inlets.old.items hub.old [] }

@@ -9,14 +9,14 @@ ghost use Rattle.fq_lanes.specs.declared.events.Event.{Event};
 ghost use Rattle.fq_lanes.specs.declared.inlet.Inlet.{Inlet};
 
 use crate::faults::{RunFault, first_fault};
-use crate::feeds::Feed;
+use crate::feeds::{Feed, MAX_FEEDS};
 use crate::hub::Hub;
 use crate::inlet::{Inlet, drain_feed};
 use crate::reports::Report;
 use crate::round::{collect_round, work_jobs};
 use crate::sinks::Sink;
 use crate::tails::Tail;
-use crate::work::Work;
+use crate::work::{MAX_WORKERS, Work};
 use std::alloc::Global;
 use std::sync::Wait;
 use std::thread::Threads;
@@ -55,7 +55,7 @@ where
 fn drain_inlets<F: Feed>(inlets: &mut Vec<Inlet<F>>, fault: RunFault) -> RunFault
 where
     F::Item: Drop,
-    requires few { length inlets.old.items ≤ 16 }
+    requires few { length inlets.old.items ≤ MAX_FEEDS }
     requires open { All (λ inlet. inlet.ended ≡ false → F.is_open inlet.feed) inlets.old.items }
     ensures { (feeds : List F) → Each (DrainsOne F.is_open F.may_fail) feeds inlets.old.items → BlamesFeed F.may_fail feeds fault → BlamesFeed F.may_fail feeds result }
 {
@@ -79,7 +79,7 @@ fn run_open<R: Threads + Sync, F: Feed, W: Work<Item = F::Item> + Sync, S: Tail<
 where
     F::Item: Drop + Send,
     W::Out: Drop + Send,
-    requires few { length inlets.old.items ≤ 16 }
+    requires few { length inlets.old.items ≤ MAX_FEEDS }
     requires workers { 0 < workers }
     requires round { (feeds : List F) × (first : S) × (items : List (List F.Item)) × (events : List (Event W.Out))
         × InRound F.gives F.is_open F.may_fail F.most S.takes feeds first items events inlets.old.items hub.old []
@@ -132,9 +132,9 @@ pub fn run_rounds<
 where
     F::Item: Drop + Send,
     W::Out: Drop + Send,
-    requires feeds { length feeds.items ≤ 16 }
+    requires feeds { length feeds.items ≤ MAX_FEEDS }
     requires open { All F.is_open feeds.items }
-    requires workers { (1 ≤ workers) × (workers ≤ 16) }
+    requires workers { (1 ≤ workers) × (workers ≤ MAX_WORKERS) }
     ensures done { IfOk result.1 (λ report. Finishes F.gives (W.gives work.now) S.takes feeds.items tail report.trace.items result.0) }
     ensures stopped { OnErr result.1 (StopsEarly F.gives (W.gives work.now) S.takes S.refuses feeds.items tail result.0) }
     ensures fault { IfErr result.1 (λ fault. BlamesFeed F.may_fail feeds.items fault) }

@@ -93,13 +93,9 @@ impl Parkers {
 fn make_parkers(alloc: Global, count: usize) -> Result<Vec<Parker>, Memory>
     ensures { IfOk result (λ parkers. length parkers.items ≡ count) }
 {
-    let Ok(mut parkers) = Vec::with_capacity(alloc, count) else {
-        return Err(Memory);
-    };
+    let mut parkers = Vec::with_capacity(alloc, count)?;
     for _ in 0..count {
-        let Ok(()) = parkers.push(Parker::new()) else {
-            return Err(Memory);
-        };
+        parkers.push(Parker::new())?;
     }
     Ok(parkers)
 }

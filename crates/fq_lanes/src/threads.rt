@@ -15,7 +15,7 @@ use crate::drains::drain_lanes;
 use crate::faults::{Memory, RunFault};
 use crate::feed_lane::FeedLane;
 use crate::feed_thread::run_feed;
-use crate::feeds::Feed;
+use crate::feeds::{Feed, MAX_FEEDS};
 use crate::gates::Gate;
 use crate::lanes::{Put, Take, lane, rejoin};
 use crate::messages::{FromFeed, ToWorker};
@@ -194,7 +194,7 @@ fn start_workers_from<
 where
     W::Item: Drop + Send + 's,
     W::Out: Drop + Send + 's,
-    requires few { length lanes.old.items ≤ 16 }
+    requires few { length lanes.old.items ≤ MAX_FEEDS }
     requires parkers { length parkers.now.workers.items ≡ count }
     requires hub { H.can_run hub.old (length lanes.old.items) }
     requires lanes { AreNewFeeds lanes.old.items }
@@ -252,7 +252,7 @@ fn start_workers<
 where
     W::Item: Drop + Send + 's,
     W::Out: Drop + Send + 's,
-    requires few { length lanes.old.items ≤ 16 }
+    requires few { length lanes.old.items ≤ MAX_FEEDS }
     requires parkers { length parkers.now.workers.items ≡ count }
     requires hub { H.can_run hub.old (length lanes.old.items) }
     requires lanes { AreNewFeeds lanes.old.items }
@@ -371,7 +371,7 @@ where
     F::Item: Drop + Send + 's,
     W::Out: Drop + Send + 's,
     requires open { All F.is_open (into_iter_items feeds.old) }
-    requires few { length lanes.old.items + length (into_iter_items feeds.old) ≤ 16 }
+    requires few { length lanes.old.items + length (into_iter_items feeds.old) ≤ MAX_FEEDS }
     requires parkers { (length parkers.now.feeds.items ≡ length lanes.old.items + length (into_iter_items feeds.old)) × (length parkers.now.workers.items ≡ count) }
     requires hub { H.can_run hub.old (length lanes.old.items + length (into_iter_items feeds.old)) }
     requires lanes { AreNewFeeds lanes.old.items }

@@ -9,6 +9,7 @@ ghost use Rattle.fq_lanes.specs.declared.events.Event.{Event};
 
 use crate::faults::{RunFault, feed_fault};
 use crate::feed_lane::{FeedLane, Heard};
+use crate::feeds::MAX_FEEDS;
 use crate::hub::Hub;
 use crate::job::Job;
 use crate::sleeping::sleep;
@@ -107,7 +108,7 @@ fn hear_feeds<R: Wait, X: Drop, S: Tail>(
 ) -> Result<bool, RunFault>
 where
     S::Out: Drop,
-    requires few { length lanes.old.items ≤ 16 }
+    requires few { length lanes.old.items ≤ MAX_FEEDS }
     requires turn { (first : S) × (events : List (Event S.Out)) × InTurn S.takes first (feed_views lanes.old.items) (worker_views workers.old.items) hub.old events }
     ensures sizes { (length lanes.new.items ≡ length lanes.old.items) × (length workers.new.items ≡ length workers.old.items) }
     ensures lanes { feed_names lanes.new.items ≡ feed_names lanes.old.items }
@@ -176,7 +177,7 @@ pub(crate) fn run_turns<R: Wait, X: Drop, S: Tail>(
 ) -> Result<(), RunFault>
 where
     S::Out: Drop,
-    requires few { length lanes.old.items ≤ 16 }
+    requires few { length lanes.old.items ≤ MAX_FEEDS }
     requires turn { (first : S) × (events : List (Event S.Out)) × InTurn S.takes first (feed_views lanes.old.items) (worker_views workers.old.items) hub.old events }
     ensures size { length lanes.new.items ≡ length lanes.old.items }
     ensures lanes { feed_names lanes.new.items ≡ feed_names lanes.old.items }

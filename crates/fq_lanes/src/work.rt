@@ -3,6 +3,9 @@ ghost use Rattle.std.specs.Prelude.{ℕ, IfOk};
 
 use crate::faults::Memory;
 
+/// The most workers of a run.
+pub const MAX_WORKERS: u16 = 16;
+
 /// The work on an item of a file. A worker calls it, from any thread.
 pub trait Work {
     /// What is worked.

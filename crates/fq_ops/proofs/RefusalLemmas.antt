@@ -8,6 +8,8 @@ use Rattle.std.proofs.lemmas.List.{map-append, length-map}
 use Rattle.std.proofs.lemmas.List.Elements.{filter-append}
 use Rattle.fq_column.specs.declared.cells.Kind.{Kind}
 use Rattle.fq_column.specs.declared.faults.StepFault.{StepFault}
+use Rattle.fq_column.specs.declared.schemas.TheConstants.{MAX_COLUMNS}
+use Rattle.fq_ops.specs.declared.rolls.TheConstants.{MAX_WINDOW}
 use Rattle.fq_column.specs.declared.faults.StepFault.TheVariants.{NoSuchColumn, WrongKind, NoColumn, TooMany, DoubleName, Window, Samples, Memory}
 use Rattle.fq_column.specs.Frame.{Field, Fields, Name, names_of, has_name, same_name, position_of, put_named}
 use Rattle.fq_column.specs.Cell.{same_kind}
@@ -51,10 +53,10 @@ map-map g f (x ∷ xs) = ap (λ ys. g (f x) ∷ ys) (map-map g f xs)
 
 -- the refusals of a list of columns, if there is one
 pub schema-checked : (fs : Fields) (names : List Name) → names_of fs ≡ names → (length names == 0) ≡ false →
-    unless_refused (schema_checks (names_of fs)) fs ≡ unless_refused (refuse_if (nat_lt 64 (length names)) TooMany ∷ refuse_if (not (is_distinct same_name names)) DoubleName ∷ []) fs
+    unless_refused (schema_checks (names_of fs)) fs ≡ unless_refused (refuse_if (nat_lt MAX_COLUMNS (length names)) TooMany ∷ refuse_if (not (is_distinct same_name names)) DoubleName ∷ []) fs
 schema-checked fs names e some =
     ap (λ (ns : List Name). unless_refused (schema_checks ns) fs) e
-    ∙ unless-next (length names == 0) NoColumn (refuse_if (nat_lt 64 (length names)) TooMany ∷ refuse_if (not (is_distinct same_name names)) DoubleName ∷ []) fs some
+    ∙ unless-next (length names == 0) NoColumn (refuse_if (nat_lt MAX_COLUMNS (length names)) TooMany ∷ refuse_if (not (is_distinct same_name names)) DoubleName ∷ []) fs some
 
 -- a refusal that a judgement gives, or `Memory`
 pub refusal-judged : {X : Type 0} (expected answer : Result X StepFault) (f g : StepFault) → answer ≡ Err g → g ≡ f → (expected ≡ Err f) ⊎ (f ≡ Memory) → IsJudgement expected answer
@@ -82,7 +84,7 @@ module _ (fields : Fields) (keys : List Name) (outputs : List Output) where
   aggregate_judged = map (λ o. (o.0, aggregate_kind fields o.1)) outputs
 
   abbrev pub ending : List (Option StepFault)
-  ending = refuse_if (nat_lt 64 (length (grouped_names keys outputs))) TooMany ∷ refuse_if (not (is_distinct same_name (grouped_names keys outputs))) DoubleName ∷ []
+  ending = refuse_if (nat_lt MAX_COLUMNS (length (grouped_names keys outputs))) TooMany ∷ refuse_if (not (is_distinct same_name (grouped_names keys outputs))) DoubleName ∷ []
 
   refusals-split : refusals (grouped_kinds fields keys outputs) ≡ refusals key_judged ++ refusals aggregate_judged
   refusals-split = map-append _ key_judged aggregate_judged
@@ -177,7 +179,7 @@ module _ (how : How) (left right : Fields) (on : List Name) where
   output_fields = joined_fields how left right on
 
   abbrev join_ending : List (Option StepFault)
-  join_ending = refuse_if (nat_lt 64 (length output_fields)) TooMany ∷ refuse_if (not (is_distinct same_name on && is_distinct same_name (names_of output_fields))) DoubleName ∷ []
+  join_ending = refuse_if (nat_lt MAX_COLUMNS (length output_fields)) TooMany ∷ refuse_if (not (is_distinct same_name on && is_distinct same_name (names_of output_fields))) DoubleName ∷ []
 
   module _ (some : (length on == 0) ≡ false) where
     pub join-key_refused : (f : StepFault) → first_refusal (flat_map (key_checks left right) on) ≡ Some f → join_schema how left right on ≡ Err f
@@ -199,10 +201,10 @@ module _ (how : How) (left right : Fields) (on : List Name) where
       some_column (x ∷ xs) ys e = suc-nonzero (length (names_of (xs ++ ys)))
 
       -- the judgement of the output's columns
-      columns-judged : unless_refused (schema_checks (names_of output_fields)) output_fields ≡ ended (nat_lt 64 (length output_fields)) true (is_distinct same_name (names_of output_fields))
+      columns-judged : unless_refused (schema_checks (names_of output_fields)) output_fields ≡ ended (nat_lt MAX_COLUMNS (length output_fields)) true (is_distinct same_name (names_of output_fields))
       columns-judged =
           schema-checked output_fields (names_of output_fields) refl (some_column left (renamed left on (taken how right)) column)
-          ∙ ap (λ n. unless_refused (refuse_if (nat_lt 64 n) TooMany ∷ refuse_if (not (is_distinct same_name (names_of output_fields))) DoubleName ∷ []) output_fields) (length-map output_fields (λ f. f.0))
+          ∙ ap (λ n. unless_refused (refuse_if (nat_lt MAX_COLUMNS n) TooMany ∷ refuse_if (not (is_distinct same_name (names_of output_fields))) DoubleName ∷ []) output_fields) (length-map output_fields (λ f. f.0))
 
       past-keys : (many once distinct : Bool) (f : StepFault) → ended many true distinct ≡ Err f → ended many once distinct ≡ Err f
       past-keys true once distinct f e = e
@@ -211,7 +213,7 @@ module _ (how : How) (left right : Fields) (on : List Name) where
       past-keys false false false f e = e
 
       pub join-columns_refused : (f : StepFault) → unless_refused (schema_checks (names_of output_fields)) output_fields ≡ Err f → join_schema how left right on ≡ Err f
-      join-columns_refused f e = join-begun ∙ past-keys (nat_lt 64 (length output_fields)) (is_distinct same_name on) (is_distinct same_name (names_of output_fields)) f (sym columns-judged ∙ e)
+      join-columns_refused f e = join-begun ∙ past-keys (nat_lt MAX_COLUMNS (length output_fields)) (is_distinct same_name on) (is_distinct same_name (names_of output_fields)) f (sym columns-judged ∙ e)
 
       doubled : (many once distinct : Bool) (s : Fields) → once ≡ false → ended many true distinct ≡ Ok s → ended many once distinct ≡ Err DoubleName
       doubled true once distinct s o e = absurd (cc)
@@ -219,10 +221,10 @@ module _ (how : How) (left right : Fields) (on : List Name) where
       doubled false false distinct s o e = refl
 
       pub join-keys_double : (s : Fields) → is_distinct same_name on ≡ false → unless_refused (schema_checks (names_of output_fields)) output_fields ≡ Ok s → join_schema how left right on ≡ Err DoubleName
-      join-keys_double s o e = join-begun ∙ doubled (nat_lt 64 (length output_fields)) (is_distinct same_name on) (is_distinct same_name (names_of output_fields)) s o (sym columns-judged ∙ e)
+      join-keys_double s o e = join-begun ∙ doubled (nat_lt MAX_COLUMNS (length output_fields)) (is_distinct same_name on) (is_distinct same_name (names_of output_fields)) s o (sym columns-judged ∙ e)
 
       pub join-accepted : (s : Fields) → is_distinct same_name on ≡ true → unless_refused (schema_checks (names_of output_fields)) output_fields ≡ Ok s → join_schema how left right on ≡ Ok s
-      join-accepted s o e = join-begun ∙ ap (λ b. ended (nat_lt 64 (length output_fields)) b (is_distinct same_name (names_of output_fields))) o ∙ sym columns-judged ∙ e
+      join-accepted s o e = join-begun ∙ ap (λ b. ended (nat_lt MAX_COLUMNS (length output_fields)) b (is_distinct same_name (names_of output_fields))) o ∙ sym columns-judged ∙ e
 
 -- ---- the schema of a rolling sum
 
@@ -286,21 +288,21 @@ put_named-some (f ∷ fs) n k = by (same_name n f.0) refl
     by false s = ap (λ b. length (if b then (n, k) ∷ fs else f ∷ put_named fs (n, k)) == 0) s ∙ suc-nonzero (length (put_named fs (n, k)))
 
 pub roll-judged : (fs : Fields) (column name : Name) (k : Kind) (window min_samples : ℤ) → kind_named fs column ≡ Ok k → same_kind k Whole ≡ true →
-    is_from_to (pos 1) (pos 65536) window ≡ true → is_from_to (pos 1) window min_samples ≡ true → is_distinct same_name (names_of fs) ≡ true →
+    is_from_to (pos 1) (pos MAX_WINDOW) window ≡ true → is_from_to (pos 1) window min_samples ≡ true → is_distinct same_name (names_of fs) ≡ true →
     roll_schema fs column window min_samples name ≡ unless_refused (schema_checks (names_of (put_named fs (name, Whole)))) (put_named fs (name, Whole))
 roll-judged fs column name k window min_samples e w in_window in_samples d =
     let out = put_named fs (name, Whole) in
-    let many = refuse_if (nat_lt 64 (length out)) TooMany in
+    let many = refuse_if (nat_lt MAX_COLUMNS (length out)) TooMany in
     let judge : Result Kind StepFault → Result Fields StepFault = λ r. and_then r (λ k. unless_refused
-    (refuse_if (not (same_kind k Whole)) WrongKind ∷ refuse_if (not (is_from_to (pos 1) (pos 65536) window)) Window ∷ refuse_if (not (is_from_to (pos 1) window min_samples)) Samples ∷ many ∷ []) out) in
+    (refuse_if (not (same_kind k Whole)) WrongKind ∷ refuse_if (not (is_from_to (pos 1) (pos MAX_WINDOW) window)) Window ∷ refuse_if (not (is_from_to (pos 1) window min_samples)) Samples ∷ many ∷ []) out) in
     ap judge e
-    ∙ unless-next (not (same_kind k Whole)) WrongKind (refuse_if (not (is_from_to (pos 1) (pos 65536) window)) Window ∷ refuse_if (not (is_from_to (pos 1) window min_samples)) Samples ∷ many ∷ []) out (ap not w)
-    ∙ unless-next (not (is_from_to (pos 1) (pos 65536) window)) Window (refuse_if (not (is_from_to (pos 1) window min_samples)) Samples ∷ many ∷ []) out (ap not in_window)
+    ∙ unless-next (not (same_kind k Whole)) WrongKind (refuse_if (not (is_from_to (pos 1) (pos MAX_WINDOW) window)) Window ∷ refuse_if (not (is_from_to (pos 1) window min_samples)) Samples ∷ many ∷ []) out (ap not w)
+    ∙ unless-next (not (is_from_to (pos 1) (pos MAX_WINDOW) window)) Window (refuse_if (not (is_from_to (pos 1) window min_samples)) Samples ∷ many ∷ []) out (ap not in_window)
     ∙ unless-next (not (is_from_to (pos 1) window min_samples)) Samples (many ∷ []) out (ap not in_samples)
     ∙ sym (schema-checked out (names_of out) refl (ap (λ n. n == 0) (length-map out (λ f. f.0)) ∙ put_named-some fs name Whole)
-    ∙ ap (λ n. unless_refused (refuse_if (nat_lt 64 n) TooMany ∷ refuse_if (not (is_distinct same_name (names_of out))) DoubleName ∷ []) out) (length-map out (λ f. f.0))
+    ∙ ap (λ n. unless_refused (refuse_if (nat_lt MAX_COLUMNS n) TooMany ∷ refuse_if (not (is_distinct same_name (names_of out))) DoubleName ∷ []) out) (length-map out (λ f. f.0))
     ∙ ap (λ b. unless_refused (many ∷ refuse_if (not b) DoubleName ∷ []) out) (distinct-put fs name Whole (position_of name (names_of fs)) refl d)
-    ∙ ended (nat_lt 64 (length out)) out)
+    ∙ ended (nat_lt MAX_COLUMNS (length out)) out)
   where
     ended : (b : Bool) (fs : Fields) → unless_refused (refuse_if b TooMany ∷ refuse_if (not true) DoubleName ∷ []) fs ≡ unless_refused (refuse_if b TooMany ∷ []) fs
     ended true fs = refl
@@ -373,7 +375,7 @@ module _ (how : How) (left right : Fields) (on : List Name) (ok : IsOk (join_sch
   join-distinct =
       let once = is_distinct same_name on in
       let distinct = is_distinct same_name (names_of (joined_fields how left right on)) in
-      let many = nat_lt 64 (length (joined_fields how left right on)) in
+      let many = nat_lt MAX_COLUMNS (length (joined_fields how left right on)) in
       let both = none-first (not (once && distinct)) DoubleName [] (none-first many TooMany (refuse_if (not (once && distinct)) DoubleName ∷ []) join-parts.1).1 in
       (and_parts once distinct (kept-true (once && distinct) both.0)).0
 

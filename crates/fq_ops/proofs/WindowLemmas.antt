@@ -12,6 +12,7 @@ use mir.Val.{SFits}
 use Rattle.std.proofs.lemmas.Bool.{le-leb, lt-leb}
 use Rattle.std.proofs.lemmas.List.{drop-drop}
 use Rattle.fq_column.specs.Column.{nullable}
+use Rattle.fq_ops.specs.declared.rolls.TheConstants.{MAX_WINDOW}
 use Rattle.fq_ops.specs.Aggregate.{wholes, int_sum}
 use Rattle.fq_ops.specs.Sums.{AllFit, IsWithin}
 use Rattle.fq_ops.specs.Window.{present, IsRunning, sum_of_window}
@@ -61,7 +62,7 @@ length-present (None ∷ places) = omega (arith, length-present places)
 length-present (Some x ∷ places) = omega (arith, length-present places)
 
 -- the sum of a window is far from the ends of 128 bits
-pub window-within : (places : List (Option ℤ)) → AllFit (present places) → length places ≤ 65536 → IsWithin (2 ^ 40) (int_sum (present places))
+pub window-within : (places : List (Option ℤ)) → AllFit (present places) → length places ≤ MAX_WINDOW → IsWithin (2 ^ 40) (int_sum (present places))
 window-within places f few = within-le (length (present places)) (2 ^ 40) (int_sum (present places)) (omega (arith, length-present places)) (within-sum (present places) f)
 
 -- ---- one place more

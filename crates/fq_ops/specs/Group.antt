@@ -7,6 +7,7 @@ use Rattle.fq_column.specs.declared.cells.Kind.TheVariants.{Whole}
 use Rattle.fq_column.specs.declared.cells.Cell.{Cell}
 use Rattle.fq_column.specs.declared.faults.StepFault.{StepFault}
 use Rattle.fq_column.specs.declared.faults.StepFault.TheVariants.{WrongKind, DoubleName, TooMany, NoColumn}
+use Rattle.fq_column.specs.declared.schemas.TheConstants.{MAX_COLUMNS}
 use Rattle.fq_column.specs.Cell.{same_cell, same_kind}
 use Rattle.fq_column.specs.Frame.{Fields, Name, Row, same_name, value_named}
 use Rattle.fq_column.specs.Lists.{is_distinct, all_or_missing}
@@ -45,7 +46,7 @@ abbrev pub group_schema : Fields → List Name → List Output → Result Fields
 group_schema fields keys outputs = unless_refused
     (refuse_if (length keys == 0) NoColumn
     ∷ (refusals (grouped_kinds fields keys outputs)
-    ++ (refuse_if (nat_lt 64 (length (grouped_names keys outputs))) TooMany
+    ++ (refuse_if (nat_lt MAX_COLUMNS (length (grouped_names keys outputs))) TooMany
     ∷ refuse_if (not (is_distinct same_name (grouped_names keys outputs))) DoubleName ∷ [])))
     (grouped_fields fields keys outputs)
 

@@ -7,6 +7,7 @@ use Rattle.fq_column.specs.declared.cells.Cell.{Cell}
 use Rattle.fq_column.specs.declared.cells.Cell.TheVariants.{Null}
 use Rattle.fq_column.specs.declared.faults.StepFault.{StepFault}
 use Rattle.fq_column.specs.declared.faults.StepFault.TheVariants.{NoSuchColumn, WrongKind, DoubleName, TooMany, NoColumn}
+use Rattle.fq_column.specs.declared.schemas.TheConstants.{MAX_COLUMNS}
 use Rattle.fq_column.specs.Cell.{is_null, same_cell, same_kind}
 use Rattle.fq_column.specs.Frame.{Fields, Name, Row, names_of, has_name, same_name, value_named}
 use Rattle.fq_column.specs.Lists.{is_distinct}
@@ -56,7 +57,7 @@ abbrev pub join_schema : How → Fields → Fields → List Name → Result Fiel
 join_schema how left right on = unless_refused
     (refuse_if (length on == 0) NoColumn
     ∷ (flat_map (key_checks left right) on
-    ++ (refuse_if (nat_lt 64 (length (joined_fields how left right on))) TooMany
+    ++ (refuse_if (nat_lt MAX_COLUMNS (length (joined_fields how left right on))) TooMany
     ∷ refuse_if (not (is_distinct same_name on && is_distinct same_name (names_of (joined_fields how left right on)))) DoubleName ∷ [])))
     (joined_fields how left right on)
 

@@ -6,11 +6,13 @@ use Rattle.fq_column.specs.declared.cells.Cell.{Cell}
 use Rattle.fq_column.specs.declared.cells.Cell.TheVariants.{Null}
 use Rattle.fq_column.specs.declared.faults.StepFault.{StepFault}
 use Rattle.fq_column.specs.declared.faults.StepFault.TheVariants.{WrongKind, TooMany, Window, Samples}
+use Rattle.fq_column.specs.declared.schemas.TheConstants.{MAX_COLUMNS}
 use Rattle.fq_column.specs.Cell.{fitted, same_kind}
 use Rattle.fq_column.specs.Frame.{Fields, Name, Row, names_of, put_named, value_named}
 use Rattle.fq_column.specs.Lists.{numbers}
 use Rattle.fq_column.specs.Refusal.{refuse_if, unless_refused, and_then}
 use Rattle.fq_column.specs.Schema.{kind_named}
+use Rattle.fq_ops.specs.declared.rolls.TheConstants.{MAX_WINDOW}
 use Rattle.fq_column.specs.Stream.{Stream, one_by_one, step_on}
 use Rattle.fq_ops.specs.Aggregate.{wholes, int_sum}
 
@@ -22,9 +24,9 @@ is_from_to low high z = not (int_lt z low) && not (int_lt high z)
 abbrev pub roll_schema : Fields → Name → ℤ → ℤ → Name → Result Fields StepFault
 roll_schema fields column window min_samples name = and_then (kind_named fields column) (λ k. unless_refused
     (refuse_if (not (same_kind k Whole)) WrongKind
-    ∷ refuse_if (not (is_from_to (pos 1) (pos 65536) window)) Window
+    ∷ refuse_if (not (is_from_to (pos 1) (pos MAX_WINDOW) window)) Window
     ∷ refuse_if (not (is_from_to (pos 1) window min_samples)) Samples
-    ∷ refuse_if (nat_lt 64 (length (put_named fields (name, Whole)))) TooMany ∷ [])
+    ∷ refuse_if (nat_lt MAX_COLUMNS (length (put_named fields (name, Whole)))) TooMany ∷ [])
     (put_named fields (name, Whole)))
 
 -- the values at place i and the n - 1 before it that are not null

@@ -6,6 +6,7 @@ use Rattle.fq_column.specs.declared.cells.Cell.TheVariants.{Null}
 use Rattle.fq_column.specs.Cell.{fitted}
 use Rattle.fq_ops.specs.Aggregate.{wholes, int_sum}
 use Rattle.fq_ops.specs.Sums.{AllFit}
+use Rattle.fq_ops.specs.declared.rolls.TheConstants.{MAX_WINDOW}
 
 -- the values that are there
 abbrev pub present : {X : Type 0} → List (Option X) → List X
@@ -18,7 +19,7 @@ pub record IsRunning (places : List (Option ℤ)) (window : ℕ) (sum : ℤ) (co
   pub all_fit : AllFit (present places)
   pub within : length places ≤ window
   pub some : 1 ≤ window
-  pub few : window ≤ 65536
+  pub few : window ≤ MAX_WINDOW
 
 -- the sum of a window's cells if at least m values stand in it, else null; or none if a given sum does not fit 64 bits
 abbrev pub sum_of_window : ℕ → List Cell → Option Cell

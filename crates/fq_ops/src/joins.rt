@@ -18,7 +18,7 @@ use crate::index::number_of;
 use crate::keys::{Key, key_law};
 use crate::output_schemas::{contains, join_schema};
 use crate::pairs::Pairs;
-use fq_column::{Batch, Column, Memory, copy_strings};
+use fq_column::{Batch, Column, Memory, Piece, copy_strings};
 use indexmap::IndexSet;
 use smallvec::SmallVec;
 use std::alloc::Global;
@@ -53,14 +53,8 @@ pub enum How {
     Anti,
 }
 
-/// The output of a left batch.
-#[derive(Debug, Drop)]
-pub struct Probed {
-    /// The output rows, up to the left row whose output would pass the room.
-    pub batch: Batch,
-    /// That left row, if there is one.
-    pub fault: Option<usize>,
-}
+/// The rows that a left batch gives, up to the left row whose output would pass the room, and that row's place.
+pub type Probed = Piece<usize>;
 
 // The places of the rows of a key; up to two need no allocation.
 #[derive(Drop)]
@@ -192,7 +186,7 @@ impl JoinTable {
         let places = places.as_slice();
         let (pairs, fault) = pair_rows(alloc, &self.seen, &self.groups, places, left, how, room)?;
         let columns = gather(alloc, left, &self.right, on, how, &pairs)?;
-        Ok(Probed {
+        Ok(Piece {
             batch: Batch::new(schema, columns),
             fault,
         })

@@ -23,4 +23,4 @@ pub use aggregates::{Agg, What};
 pub use groups::{GroupFault, Grouper};
 pub use joins::{How, JoinTable, Probed, join_laws};
 pub use output_schemas::{group_schema, join_schema, roll_schema};
-pub use rolls::Rolling;
+pub use rolls::{MAX_WINDOW, Rolling};

@@ -12,6 +12,7 @@ ghost use Rattle.fq_ops.specs.Roll.{roll_schema as judged_roll};
 use crate::aggregates::{Agg, What};
 use crate::field_lists::{FieldList, copy_name};
 use crate::joins::How;
+use crate::rolls::MAX_WINDOW;
 use fq_column::{Kind, Schema, StepFault, has_double};
 use std::alloc::Global;
 
@@ -86,7 +87,7 @@ pub fn roll_schema(
     if schema.kind_of(column)? != Kind::Whole {
         return Err(StepFault::WrongKind);
     }
-    if window < 1 || window > 65_536 {
+    if window < 1 || window > i64::from(MAX_WINDOW) {
         return Err(StepFault::Window);
     }
     if min_samples < 1 || min_samples > window {

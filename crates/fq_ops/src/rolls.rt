@@ -16,6 +16,9 @@ use fq_column::{Array, Column, Memory, Values};
 use std::alloc::Global;
 use std::marker::Model;
 
+/// The most rows of a window.
+pub const MAX_WINDOW: u32 = 65_536;
+
 /// A rolling sum over columns that come one after another, which are taken as one long column.
 ///
 /// It keeps the window in a ring, with the sum and the number of its values, so a cell costs the same at each window.
@@ -50,7 +53,7 @@ impl Rolling {
     /// A rolling sum that has taken no cell: over a window of 1 to 65,536 rows, given where at least `min_samples`
     /// values stand in it, which is from 1 to the window. Allocates for the window.
     pub fn new(alloc: Global, window: u32, min_samples: u32) -> Result<Rolling, Memory>
-        requires window { (1 ≤ window) × (window ≤ 65536) }
+        requires window { (1 ≤ window) × (window ≤ MAX_WINDOW) }
         requires samples { (1 ≤ min_samples) × (min_samples ≤ window) }
         ensures window { IfOk result (λ r. r.window ≡ window) }
         ensures samples { IfOk result (λ r. r.min_samples ≡ min_samples) }

@@ -24,7 +24,8 @@ use Rattle.fq_csv.proofs.FileStreamLemmas.{after-fault, after-rows}
 use Rattle.fq_expr.specs.Expression.{Step}
 use Rattle.fq_expr.specs.Front.{fault_at}
 use Rattle.fq_expr.specs.Steps.{apply_steps, fields_after}
-use Rattle.fq_expr.specs.declared.fronts.Piece.{Piece}
+use Rattle.fq_expr.specs.declared.fronts.RowFault.{RowFault}
+use Rattle.fq_column.specs.declared.pieces.Piece.{Piece}
 use Rattle.fq_expr.proofs.StepLemmas.{apply_steps-then, rename_fault-then}
 use Rattle.fq_plan.specs.EngineRun.{leading_steps}
 use Rattle.fq_plan.specs.Feeding.{end_item, runs_from, scanned_items}
@@ -61,7 +62,7 @@ then-none : (rows : List Row) (end : Option Fault) → then_stream (record { row
 then-none rows None = ap (λ rs. let u : Stream Fault = done rs in u) (append-nil rows)
 then-none rows (Some f) = refl
 
-until-stream : (end : Option ScanFault) (p : Piece) → worked_stream (piece_until end p) ≡ then_stream (piece_stream p) (end_of (option_map scan_fault end))
+until-stream : (end : Option ScanFault) (p : Piece RowFault) → worked_stream (piece_until end p) ≡ then_stream (piece_stream p) (end_of (option_map scan_fault end))
 until-stream None p = sym (then-none p.batch.rows (option_map row_fault p.fault))
 until-stream (Some fault) p = refl
 
@@ -81,7 +82,7 @@ module _ (p : Query) (file : ℕ) where
       end : Option Fault
       end = option_map scan_fault u.fault
 
-      given : Bool → Bool → Piece
+      given : Bool → Bool → Piece RowFault
       given join same = cond join (untouched (framed run.layout.schema u.rows)) (cond same (stepped (leading_steps p) (framed run.layout.schema u.rows)) (untouched (framed run.layout.schema u.rows)))
 
       steps : Stream Fault → Stream Fault

@@ -14,17 +14,17 @@ use Rattle.fq_plan.specs.Plan.{file_layouts, files_wanted, join_files}
 use Rattle.fq_plan.specs.Run.{Tell}
 use Rattle.fq_plan.specs.Sources.{file_streams}
 use Rattle.fq_plan.specs.Stages.{IsChecked}
-use Rattle.fq_plan.specs.Standing.{TailTakes, Waits}
+use Rattle.fq_plan.specs.Standing.{Waits}
 use Rattle.fq_plan.specs.Working.{work_on}
 use Rattle.fq_plan.specs.declared.file_feeds.Scanned.{Scanned}
 use Rattle.fq_plan.specs.declared.gathering.Gathered.{Gathered}
-use Rattle.fq_plan.specs.declared.run_tail.RunTail.{RunTail}
+use Rattle.fq_plan.specs.declared.run_tail.TailState.{TailState}
 use Rattle.fq_plan.specs.declared.stages.CheckedSource.{CheckedSource}
 use Rattle.fq_plan.specs.declared.stages.Stage.{Stage}
 use Rattle.fq_plan.specs.declared.leading_steps.Worked.{Worked}
 use Rattle.fq_plan.proofs.EngineLemmas.{answers_in, rows-of-bytes}
 use Rattle.fq_plan.proofs.GatheringLemmas.{all_taken}
-use Rattle.fq_plan.proofs.LogLemmas.{InOrder, StandsFor, in-order, took-sources, whole-log, worked-order}
+use Rattle.fq_plan.proofs.LogLemmas.{InOrder, StandsFor, Takes-one, in-order, took-sources, whole-log, worked-order}
 use Rattle.fq_plan.proofs.MeaningLemmas.{ran-gives}
 use Rattle.fq_plan.proofs.CheckedOutcomeLemmas.{before_main, leads-over, main_one, outcome-is, sound-nothing}
 use Rattle.fq_plan.proofs.KeptSourceLemmas.{sound-kept}
@@ -40,22 +40,22 @@ module _ (sources : List CheckedSource) (front : NumberedSteps) (stages : List S
   abbrev at_first : List Gathered
   at_first = before_main sources front stages inputs c joins main parts ++ main_one sources front stages inputs c joins main parts ∷ []
 
-  pub has-gathered : {R : Type 0} (remaining : R → Option (List ℕ)) (readers : List R) (b : ℕ) (feeds : List Feeding) (first last : RunTail) (trace : List (ℕ × ℕ)) →
+  pub has-gathered : {R S : Type 0} (files_of : S → ℕ) (state_of : S → TailState) (remaining : R → Option (List ℕ)) (readers : List R) (b : ℕ) (feeds : List Feeding) (first last : S) (trace : List (ℕ × ℕ)) →
       0 < b → length readers ≡ files_wanted (plan sources front stages inputs c) →
       feeds ≡ opened remaining b 0 (flat_map (λ (s : CheckedSource). replicate s.files s.layout) sources) readers →
-      first.join_files ≡ join_files (plan sources front stages inputs c) →
-      Waits stages (before_main sources front stages inputs c joins main parts) (main_one sources front stages inputs c joins main parts) first →
-      Finishes MayCome (λ file item out. out ≡ work_on front (inputs - main.files) file item) TailTakes feeds first trace last →
-      HasGathered remaining readers (plan sources front stages inputs c) b last trace
-  has-gathered remaining readers b feeds first last trace some count feeds-are files waits finished =
+      files_of first ≡ join_files (plan sources front stages inputs c) →
+      Waits stages (before_main sources front stages inputs c joins main parts) (main_one sources front stages inputs c joins main parts) (state_of first) →
+      Finishes MayCome (λ file item out. out ≡ work_on front (inputs - main.files) file item) (Takes-one files_of state_of) feeds first trace last →
+      HasGathered remaining readers (plan sources front stages inputs c) b (state_of last) trace
+  has-gathered files_of state_of remaining readers b feeds first last trace some count feeds-are files waits finished =
       let items : List (List Scanned) = finished.0 in
       let log : List (ℕ × ℕ × Worked) = finished.2.0 in
       let works : ℕ → Scanned → Worked → Type 0 = λ file item out. out ≡ work_on front (inputs - main.files) file item in
       let high : ℕ = join_files (plan sources front stages inputs c) + main.files in
       let file-count = files ∙ join-file-count sources front stages inputs c joins main parts in
-      let order : InOrder first.join_files high log =
-      worked-order first.join_files high works (numbered 0 items) log finished.2.1
-      (in-order first.join_files high 0 items (omega (
+      let order : InOrder (files_of first) high log =
+      worked-order (files_of first) high works (numbered 0 items) log finished.2.1
+      (in-order (files_of first) high 0 items (omega (
         arith,
         each-length MayCome feeds items finished.1,
         ap length feeds-are,
@@ -64,8 +64,8 @@ module _ (sources : List CheckedSource) (front : NumberedSteps) (stages : List S
         length-opened remaining b 0 (flat_map (λ (s : CheckedSource). replicate s.files s.layout) sources) readers,
       ))) in
       let taken : List Gathered = all_taken (answers_in log) at_first in
-      let stood : StandsFor stages (length front.steps) c.leads.1 last taken =
-      whole-log stages (length front.steps) c.leads.1 high log first last (before_main sources front stages inputs c joins main parts) (main_one sources front stages inputs c joins main parts)
+      let stood : StandsFor stages (length front.steps) c.leads.1 (state_of last) taken =
+      whole-log files_of state_of stages (length front.steps) c.leads.1 high log first last (before_main sources front stages inputs c joins main parts) (main_one sources front stages inputs c joins main parts)
       finished.2.2 order file-count (ap (λ n. n + main.files) (join-file-count sources front stages inputs c joins main parts)) (leads-over sources front stages inputs c joins main parts) waits in
       let took : Finishes MayCome works Takes feeds at_first trace taken = (items, finished.1, (log, finished.2.1, took-sources log at_first, finished.2.3)) in
       let gives : (files : List (List ℕ)) → Tell remaining readers files → Gives (plan sources front stages inputs c) b (file_streams (plan sources front stages inputs c) files) taken trace =

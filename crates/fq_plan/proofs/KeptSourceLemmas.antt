@@ -8,7 +8,8 @@ use Rattle.fq_column.specs.Stream.{Stream, done, faulted, one_by_one, then_strea
 use Rattle.fq_csv.specs.declared.faults.ScanFault.{ScanFault}
 use Rattle.fq_csv.specs.declared.faults.ScanFault.TheVariants as scan
 use Rattle.fq_expr.specs.Steps.{rows_after}
-use Rattle.fq_expr.specs.declared.fronts.Piece.{Piece}
+use Rattle.fq_expr.specs.declared.fronts.RowFault.{RowFault}
+use Rattle.fq_column.specs.declared.pieces.Piece.{Piece}
 use Rattle.fq_lanes.specs.TailTaking.{Took}
 use Rattle.fq_ops.specs.Group.{grouped}
 use Rattle.fq_ops.specs.Join.{join_rows, join_stream}
@@ -72,7 +73,7 @@ sound-named : {G : Type 0} (name : G → Fault) → ((g : G) → IsRunFault (nam
 sound-named name h None = tt
 sound-named name h (Some g) = h g
 
-sound-piece : (fields : Fields) (p : Piece) → IsSound (added_piece fields p).fault
+sound-piece : (fields : Fields) (p : Piece RowFault) → IsSound (added_piece fields p).fault
 sound-piece fields p = go (same_fields p.batch.fields fields)
   where
     go : (b : Bool) → IsSound (cond b (piece_stream p) (done [])).fault

@@ -11,6 +11,7 @@ use Rattle.fq_plan.specs.Parts.{given, only_if, items_as, each_of, member, has_m
 use Rattle.fq_plan.specs.Spelling.{kinds, names, source_of, source_with}
 use Rattle.fq_plan.specs.declared.plans.Version.{Version}
 use Rattle.fq_plan.specs.declared.plans.Version.TheVariants.{One, Two}
+use Rattle.fq_plan.specs.declared.plans.TheConstants.{MAX_FILES, MAX_NULL_VALUES}
 
 module _ {X Y : Type 0} where
   pub given-some : (o : Option X) (f : X → Option Y) (y : Y) → Some y ≡ given o f → (x : X) × (Some x ≡ o) × (Some y ≡ f x)
@@ -38,14 +39,14 @@ module _ {X : Type 0} (f : Data → Option X) (P : X → Type 0) (each : (d : Da
   pub member-all : (name : List ℕ) (d : Data) (xs : List X) → Some xs ≡ member name (each_of f) d → All P xs
   member-all name d xs e = let m = given-some (get name d) (each_of f) xs e in let a = given-some (as_array m.0) (items_as f) xs m.2 in items_as-all a.0 xs a.2
 
-at_least-one : (z : ℤ) → is_from_to (pos 1) (pos 16) z ≡ true → 1 ≤ nat_abs z
+at_least-one : (z : ℤ) → is_from_to (pos 1) (pos MAX_FILES) z ≡ true → 1 ≤ nat_abs z
 at_least-one (pos zero) e = absurd (cc)
 at_least-one (pos (suc n)) e = omega arith
 at_least-one (negsuc n) e = absurd (cc)
 
-whole_from_to-some : (d : Data) (n : ℕ) → Some n ≡ whole_from_to 1 16 d → 1 ≤ n
-whole_from_to-some d n e = let z = given-some (whole d) (λ z. only_if (is_from_to (pos 1) (pos 16) z) (Some (nat_abs z))) n e in
-    let o = only_if-some (is_from_to (pos 1) (pos 16) z.0) (Some (nat_abs z.0)) n z.2 in
+whole_from_to-some : (d : Data) (n : ℕ) → Some n ≡ whole_from_to 1 MAX_FILES d → 1 ≤ n
+whole_from_to-some d n e = let z = given-some (whole d) (λ z. only_if (is_from_to (pos 1) (pos MAX_FILES) z) (Some (nat_abs z))) n e in
+    let o = only_if-some (is_from_to (pos 1) (pos MAX_FILES) z.0) (Some (nat_abs z.0)) n z.2 in
     subst (λ k. 1 ≤ k) (let g : nat_abs z.0 ≡ n = cc (o.1) in g) (at_least-one z.0 o.0)
 
 -- a source has a file
@@ -54,8 +55,8 @@ source_with-files nulls d s e =
     let columns : Data → Option Fields = each_of (pair_of name_of (word kinds)) in
     let with_nulls : ℕ → Fields → Option Source = λ files fields. option_map (λ texts. record { files = files; fields = fields; nulls = texts }) nulls in
     let with_columns : ℕ → Option Source = λ files. given (member (codes "columns") columns d) (with_nulls files) in
-    let n = given-some (member (codes "files") (whole_from_to 1 16) d) with_columns s e in
-    let f = given-some (get (codes "files") d) (whole_from_to 1 16) n.0 n.1 in
+    let n = given-some (member (codes "files") (whole_from_to 1 MAX_FILES) d) with_columns s e in
+    let f = given-some (get (codes "files") d) (whole_from_to 1 MAX_FILES) n.0 n.1 in
     let c = given-some (member (codes "columns") columns d) (with_nulls n.0) s n.2 in
     subst (λ k. 1 ≤ k) (go nulls n.0 c.0 c.2) (whole_from_to-some f.0 n.0 f.2)
   where
@@ -68,8 +69,8 @@ source_of-files One d s e = source_with-files (Some []) d s (only_if-some (has_m
 source_of-files Two d s e = go (has_members 2 d) e
   where
     with_texts : Option Source
-    with_texts = source_with (with_length 0 16 (member (codes "null_values") names d)) d
+    with_texts = source_with (with_length 0 MAX_NULL_VALUES (member (codes "null_values") names d)) d
 
     go : (b : Bool) → Some s ≡ (if b then source_with (Some []) d else only_if (has_members 3 d) with_texts) → 1 ≤ s.files
     go true e = source_with-files (Some []) d s e
-    go false e = source_with-files (with_length 0 16 (member (codes "null_values") names d)) d s (only_if-some (has_members 3 d) with_texts s e).1
+    go false e = source_with-files (with_length 0 MAX_NULL_VALUES (member (codes "null_values") names d)) d s (only_if-some (has_members 3 d) with_texts s e).1

@@ -13,7 +13,8 @@ use Rattle.fq_plan.specs.Kept.{Takes}
 use Rattle.fq_plan.specs.Stages.{Leads}
 use Rattle.fq_plan.specs.Standing.{LeadsOver, Stands, TailTakes, Waits}
 use Rattle.fq_plan.specs.declared.gathering.Gathered.{Gathered}
-use Rattle.fq_plan.specs.declared.run_tail.RunTail.{RunTail}
+use Rattle.fq_plan.specs.declared.run_tail.TailState.{TailState}
+use Rattle.fq_plan.specs.declared.run_tail.TailState.TheVariants as state
 use Rattle.fq_plan.specs.declared.stages.Stage.{Stage}
 use Rattle.fq_plan.specs.declared.leading_steps.Worked.{Worked}
 use Rattle.fq_plan.proofs.EngineLemmas.{answers_in}
@@ -113,43 +114,49 @@ took-sources [] gs = refl
 took-sources (e ∷ es) gs = (taken_in e.0 e.2 gs, refl, took-sources es (taken_in e.0 e.2 gs))
 
 -- a tail stands for these sources
-pub record StandsFor (stages : List Stage) (n : ℕ) (after : Fields) (t : RunTail) (gs : List Gathered) : Type 0 where
+pub record StandsFor (stages : List Stage) (n : ℕ) (after : Fields) (t : TailState) (gs : List Gathered) : Type 0 where
   pub joins : List Gathered
   pub main : Gathered
   pub sources : gs ≡ joins ++ main ∷ []
   pub leads : LeadsOver stages n after joins main
   pub stands : Stands stages n after joins main t
 
-module _ (stages : List Stage) (n : ℕ) (after : Fields) where
-  pub waits-stands : (joins : List Gathered) (main : Gathered) (t : RunTail) → Waits stages joins main t → Stands stages n after joins main t
-  waits-stands joins main t h = rw (h.1, h.2, h.3) h.4
+pub waits-stands : (stages : List Stage) (n : ℕ) (after : Fields) (joins : List Gathered) (main : Gathered) (t : TailState) → Waits stages joins main t → Stands stages n after joins main t
+waits-stands stages n after joins main (state.Waiting w) h = h
+waits-stands stages n after joins main (state.Streaming s) h = absurd h
+waits-stands stages n after joins main (state.Ended f) h = absurd h
 
-  main-log : (high : ℕ) (log : List (ℕ × ℕ × Worked)) (t u : RunTail) (joins : List Gathered) (main : Gathered) → Took TailTakes t log u → AllFrom t.join_files high log →
-      t.join_files ≡ file_count joins → high ≡ file_count joins + main.files → LeadsOver stages n after joins main → Stands stages n after joins main t →
-      StandsFor stages n after u (all_taken (answers_in log) (joins ++ main ∷ []))
+-- below, a tail has a number of files before the main source's, and a state
+abbrev pub Takes-one : {S : Type 0} → (S → ℕ) → (S → TailState) → S → ℕ → ℕ → Worked → S → Type 0
+Takes-one files_of state_of old file serial out new = TailTakes (files_of old) (state_of old) file out (files_of new) (state_of new)
+
+module _ {S : Type 0} (files_of : S → ℕ) (state_of : S → TailState) (stages : List Stage) (n : ℕ) (after : Fields) where
+  main-log : (high : ℕ) (log : List (ℕ × ℕ × Worked)) (t u : S) (joins : List Gathered) (main : Gathered) → Took (Takes-one files_of state_of) t log u → AllFrom (files_of t) high log →
+      files_of t ≡ file_count joins → high ≡ file_count joins + main.files → LeadsOver stages n after joins main → Stands stages n after joins main (state_of t) →
+      StandsFor stages n after (state_of u) (all_taken (answers_in log) (joins ++ main ∷ []))
   main-log high [] t u joins main took all low top leads stands = record {
     joins = joins;
     main = main;
     sources = refl;
     leads = leads;
-    stands = subst (λ (t : RunTail). Stands stages n after joins main t) (sym took) stands;
+    stands = subst (λ (t : S). Stands stages n after joins main (state_of t)) (sym took) stands;
   }
   main-log high (e ∷ es) t u joins main took all low top leads stands =
-      let next : RunTail = took.0 in
-      let one : TailTakes t e.0 e.1 e.2 next = took.1 in
-      subst (λ (gs : List Gathered). StandsFor stages n after u (all_taken (answers_in es) gs)) (sym (taken-last e.0 e.2 joins main (subst (λ k. k ≤ e.0) low all.0) (subst (λ k. e.0 < k) top all.1)))
+      let next : S = took.0 in
+      let one : Takes-one files_of state_of t e.0 e.1 e.2 next = took.1 in
+      subst (λ (gs : List Gathered). StandsFor stages n after (state_of u) (all_taken (answers_in es) gs)) (sym (taken-last e.0 e.2 joins main (subst (λ k. k ≤ e.0) low all.0) (subst (λ k. e.0 < k) top all.1)))
       (main-log high es next u joins (gathered main e.2) took.2 (subst (λ k. AllFrom k high es) (sym one.same) all.2) (one.same ∙ low) top leads
       (one.on_main all.0 stages n after joins main leads stands))
 
-  pub whole-log : (high : ℕ) (log : List (ℕ × ℕ × Worked)) (t u : RunTail) (joins : List Gathered) (main : Gathered) → Took TailTakes t log u → InOrder t.join_files high log →
-      t.join_files ≡ file_count joins → high ≡ file_count joins + main.files → LeadsOver stages n after joins main → Waits stages joins main t →
-      StandsFor stages n after u (all_taken (answers_in log) (joins ++ main ∷ []))
-  whole-log high [] t u joins main took order low top leads waits = main-log high [] t u joins main took tt low top leads (waits-stands joins main t waits)
-  whole-log high (e ∷ es) t u joins main took (inr all) low top leads waits = main-log high (e ∷ es) t u joins main took all low top leads (waits-stands joins main t waits)
+  pub whole-log : (high : ℕ) (log : List (ℕ × ℕ × Worked)) (t u : S) (joins : List Gathered) (main : Gathered) → Took (Takes-one files_of state_of) t log u → InOrder (files_of t) high log →
+      files_of t ≡ file_count joins → high ≡ file_count joins + main.files → LeadsOver stages n after joins main → Waits stages joins main (state_of t) →
+      StandsFor stages n after (state_of u) (all_taken (answers_in log) (joins ++ main ∷ []))
+  whole-log high [] t u joins main took order low top leads waits = main-log high [] t u joins main took tt low top leads (waits-stands stages n after joins main (state_of t) waits)
+  whole-log high (e ∷ es) t u joins main took (inr all) low top leads waits = main-log high (e ∷ es) t u joins main took all low top leads (waits-stands stages n after joins main (state_of t) waits)
   whole-log high (e ∷ es) t u joins main took (inl both) low top leads waits =
-      let next : RunTail = took.0 in
-      let one : TailTakes t e.0 e.1 e.2 next = took.1 in
+      let next : S = took.0 in
+      let one : Takes-one files_of state_of t e.0 e.1 e.2 next = took.1 in
       let count : file_count (taken_in e.0 e.2 joins) ≡ file_count joins = count-taken e.0 e.2 joins in
-      subst (λ (gs : List Gathered). StandsFor stages n after u (all_taken (answers_in es) gs)) (sym (taken-before e.0 e.2 joins main (subst (λ k. e.0 < k) low both.0)))
+      subst (λ (gs : List Gathered). StandsFor stages n after (state_of u) (all_taken (answers_in es) gs)) (sym (taken-before e.0 e.2 joins main (subst (λ k. e.0 < k) low both.0)))
       (whole-log high es next u (taken_in e.0 e.2 joins) main took.2 (subst (λ k. InOrder k high es) (sym one.same) both.1) (one.same ∙ low ∙ sym count) (top ∙ ap (λ k. k + main.files) (sym count))
       (subst (λ (fs : List Fields). Leads fs n main.batch.fields stages after) (sym (columns-taken e.0 e.2 joins)) leads) (one.before_main both.0 stages joins main waits))

@@ -8,7 +8,8 @@ use Rattle.fq_column.specs.Frame.{Fields, Frame, Row}
 use Rattle.fq_csv.specs.declared.layouts.Layout.{Layout}
 use Rattle.fq_csv.specs.HandedOut.{framed}
 use Rattle.fq_csv.specs.declared.faults.ScanFault.{ScanFault}
-use Rattle.fq_expr.specs.declared.fronts.Piece.{Piece as PieceOf}
+use Rattle.fq_expr.specs.declared.fronts.RowFault.{RowFault}
+use Rattle.fq_column.specs.declared.pieces.Piece.{Piece as PieceOf}
 use Rattle.fq_plan.specs.Plan.{layout_of, Source, Query, but_last, last_or, file_layouts, files_wanted, join_files, main_fields}
 use Rattle.fq_plan.specs.EngineRun.{front_fields, leading_steps, main_files, no_rows, nothing_taken}
 use Rattle.fq_plan.specs.Working.{piece_of, piece_until, rows_of_run, stepped, untouched}
@@ -121,7 +122,7 @@ heads-nothing [] gs = refl
 heads-nothing (s ∷ ss) gs = ap (λ hs. declared s ∷ hs) (heads-nothing ss gs)
 
 -- a fault after a piece's rows does not change their columns
-fits-until : (end : Option ScanFault) (p : PieceOf) (o : Option Fields) → Fits (Piece p) o → Fits (piece_until end p) o
+fits-until : (end : Option ScanFault) (p : PieceOf RowFault) (o : Option Fields) → Fits (Piece p) o → Fits (piece_until end p) o
 fits-until None p o h = h
 fits-until (Some fault) p None h = h
 fits-until (Some fault) p (Some fields) h = h

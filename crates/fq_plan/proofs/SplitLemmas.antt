@@ -9,6 +9,7 @@ use Rattle.fq_plan.specs.Plan.{PlanStep, row_wise, join, group_by, rolling_sum, 
 use Rattle.fq_plan.specs.View.{plan_step_of}
 use Rattle.fq_plan.specs.declared.plans.Step.{Step as PlannedStep}
 use Rattle.fq_plan.specs.declared.plans.Step.TheVariants.{Rows, Join, GroupBy, RollingSum}
+use Rattle.fq_expr.specs.declared.fronts.TheConstants.{MAX_STEPS}
 
 module _ {X : Type 0} where
   -- an item, what stands before it and what stands after it
@@ -107,7 +108,7 @@ length-split steps leading rest h = omega (
 
 -- so few steps are few, taken apart
 pub few-split : (steps : List PlannedStep) (leading : List RowStep) (rest : List PlannedStep) → map step_of leading ≡ front_of (map plan_step_of steps) → map plan_step_of rest ≡ rest_of (map plan_step_of steps) →
-    length (map plan_step_of steps) ≤ 64 → length leading + length rest ≤ 64
+    length (map plan_step_of steps) ≤ MAX_STEPS → length leading + length rest ≤ MAX_STEPS
 few-split steps leading rest front after few = omega (arith, few, length-split steps leading rest (record { front = front; after = after }))
 
 none : {X : Type 0} (xs : List X) → length xs ≡ 0 → xs ≡ []

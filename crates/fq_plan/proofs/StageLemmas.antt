@@ -41,6 +41,8 @@ use Rattle.fq_plan.specs.declared.stages.Operator.TheVariants as operator
 use Rattle.fq_plan.specs.declared.faults.Fault.{Fault}
 use Rattle.fq_plan.specs.declared.faults.Fault.TheVariants.{Overflow, JoinRows}
 use Rattle.fq_plan.proofs.LeadingStepLemmas.{leading-steps, rename_fault-apply_steps}
+use Rattle.fq_column.specs.declared.schemas.TheConstants.{MAX_COLUMNS}
+use Rattle.fq_ops.specs.declared.rolls.TheConstants.{MAX_WINDOW}
 
 -- ---- a step that goes row by row, on a stream
 
@@ -83,20 +85,20 @@ steps-on-stream n fields steps u rows fault e f =
 
 pub record RollAccepted (fields : Fields) (column : Name) (window min_samples : ℕ) (name : Name) : Type 0 where
   pub kind : kind_named fields column ≡ Ok Whole
-  pub room : length (put_named fields (name, Whole)) ≤ 64
+  pub room : length (put_named fields (name, Whole)) ≤ MAX_COLUMNS
 
 pub roll-accepted : (fields : Fields) (column : Name) (window min_samples : ℕ) (name : Name) → IsOk (roll_schema fields column (pos window) (pos min_samples) name) →
     RollAccepted fields column window min_samples name
 roll-accepted fields column window min_samples name ok = go (kind_named fields column) refl ok
   where
     room_checks : List (Option StepFault)
-    room_checks = refuse_if (nat_lt 64 (length (put_named fields (name, Whole)))) TooMany ∷ []
+    room_checks = refuse_if (nat_lt MAX_COLUMNS (length (put_named fields (name, Whole)))) TooMany ∷ []
 
     sample_checks : List (Option StepFault)
     sample_checks = refuse_if (not (is_from_to (pos 1) (pos window) (pos min_samples))) Samples ∷ room_checks
 
     window_checks : List (Option StepFault)
-    window_checks = refuse_if (not (is_from_to (pos 1) (pos 65536) (pos window))) Window ∷ sample_checks
+    window_checks = refuse_if (not (is_from_to (pos 1) (pos MAX_WINDOW) (pos window))) Window ∷ sample_checks
 
     kind_checks : Kind → List (Option StepFault)
     kind_checks k = refuse_if (not (same_kind k Whole)) WrongKind ∷ window_checks
@@ -105,7 +107,7 @@ roll-accepted fields column window min_samples name ok = go (kind_named fields c
     kept true e = refl
     kept false e = absurd (cc)
 
-    not_more : (n : ℕ) → nat_lt 64 n ≡ false → n ≤ 64
+    not_more : (n : ℕ) → nat_lt MAX_COLUMNS n ≡ false → n ≤ MAX_COLUMNS
     not_more n e = grind (arith, nat_tests)
 
     go : (r : Result Kind StepFault) → kind_named fields column ≡ r → IsOk (and_then r (λ k. unless_refused (kind_checks k) (put_named fields (name, Whole)))) → RollAccepted fields column window min_samples name
@@ -113,9 +115,9 @@ roll-accepted fields column window min_samples name ok = go (kind_named fields c
     go (Ok k) e h =
         let none : first_refusal (kind_checks k) ≡ None = accepted (kind_checks k) (put_named fields (name, Whole)) h in
         let a = none-first (not (same_kind k Whole)) WrongKind window_checks none in
-        let b = none-first (not (is_from_to (pos 1) (pos 65536) (pos window))) Window sample_checks a.1 in
+        let b = none-first (not (is_from_to (pos 1) (pos MAX_WINDOW) (pos window))) Window sample_checks a.1 in
         let c = none-first (not (is_from_to (pos 1) (pos window) (pos min_samples))) Samples room_checks b.1 in
-        let d = none-first (nat_lt 64 (length (put_named fields (name, Whole)))) TooMany [] c.1 in
+        let d = none-first (nat_lt MAX_COLUMNS (length (put_named fields (name, Whole)))) TooMany [] c.1 in
         let whole : k ≡ Whole = (same_kind_decides k Whole).0 (kept (same_kind k Whole) a.0) in
         record { kind = e ∙ (λ i. Ok (whole i)); room = not_more (length (put_named fields (name, Whole))) d.0 }
 

@@ -42,6 +42,8 @@ use Rattle.fq_plan.specs.declared.stages.Operator.TheVariants.{Rows, Join, Group
 use Rattle.fq_plan.specs.declared.stages.Stage.{Stage}
 use Rattle.fq_plan.proofs.TransformLemmas.{group-causal, group-whole, join-causal, join-whole, roll-causal, roll-whole, steps-whole}
 use Rattle.fq_plan.proofs.StageLemmas.{apply_steps-none, fields-after-all, join-turn, rows-turn, stages-lead, step-turn}
+use Rattle.fq_column.specs.declared.schemas.TheConstants.{MAX_COLUMNS}
+use Rattle.fq_ops.specs.declared.rolls.TheConstants.{MAX_WINDOW}
 
 -- what is given if nothing is refused
 module _ {X : Type 0} (x y : X) where
@@ -63,15 +65,15 @@ abbrev group_checks : Fields → List Name → List Output → List (Option Step
 group_checks fields keys outputs =
     refuse_if (length keys == 0) NoColumn
     ∷ (refusals (grouped_kinds fields keys outputs)
-    ++ (refuse_if (nat_lt 64 (length (grouped_names keys outputs))) TooMany
+    ++ (refuse_if (nat_lt MAX_COLUMNS (length (grouped_names keys outputs))) TooMany
     ∷ refuse_if (not (is_distinct same_name (grouped_names keys outputs))) DoubleName ∷ []))
 
 abbrev roll_checks : Fields → ℕ → ℕ → Name → Kind → List (Option StepFault)
 roll_checks fields window least name k =
     refuse_if (not (same_kind k Whole)) WrongKind
-    ∷ refuse_if (not (is_from_to (pos 1) (pos 65536) (pos window))) Window
+    ∷ refuse_if (not (is_from_to (pos 1) (pos MAX_WINDOW) (pos window))) Window
     ∷ refuse_if (not (is_from_to (pos 1) (pos window) (pos least))) Samples
-    ∷ refuse_if (nat_lt 64 (length (put_named fields (name, Whole)))) TooMany ∷ []
+    ∷ refuse_if (nat_lt MAX_COLUMNS (length (put_named fields (name, Whole)))) TooMany ∷ []
 
 -- a transform that takes rows of these columns to those, and does these steps
 pub record IsTransform (joins : List Frame) (n : ℕ) (fields after : Fields) (steps : List PlanStep) (m : Transform) : Type 0 where

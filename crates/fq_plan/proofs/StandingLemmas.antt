@@ -1,6 +1,5 @@
 -- What the tail of a run stands for, after one more item of the main source and at the end.
-use Rattle.std.proofs.Common.{◌≡◌, ℕ, List, [], ◌++◌, is_some, Option, Some, None, Result, Ok, Err, inl, inr, ap, sym, ◌∙◌, subst, cond, append_assoc}
-use Rattle.std.specs.Prelude.{◌⊎◌}
+use Rattle.std.proofs.Common.{◌≡◌, ℕ, List, [], ◌++◌, is_some, Option, Some, None, Err, ap, sym, ◌∙◌, subst, cond, append_assoc}
 use Rattle.std.proofs.lemmas.Grind.{flat_map-append}
 use Rattle.fq_column.specs.Frame.{Fields, Row}
 use Rattle.fq_column.specs.Stream.{Stream, done, then_stream}
@@ -12,11 +11,9 @@ use Rattle.fq_plan.specs.Later.{later_steps}
 use Rattle.fq_plan.specs.Meaning.{frame_or_fault}
 use Rattle.fq_plan.specs.Outcome.{outcome_of_stages}
 use Rattle.fq_plan.specs.Pipelines.{HasRun, PlanPart, meant}
-use Rattle.fq_plan.specs.Standing.{IsOpened, IsSettled, IsStreaming, LeadsOver}
+use Rattle.fq_plan.specs.Standing.{IsSettled, IsStreaming, LeadsOver}
 use Rattle.fq_plan.specs.Streaming.{Streaming}
-use Rattle.fq_plan.specs.WaitingSources.{WaitingSources}
 use Rattle.fq_plan.specs.declared.faults.Fault.{Fault}
-use Rattle.fq_plan.specs.declared.faults.Fault.TheVariants.{Memory}
 use Rattle.fq_plan.specs.declared.gathering.Gathered.{Gathered}
 use Rattle.fq_plan.specs.declared.stages.Stage.{Stage}
 use Rattle.fq_plan.specs.declared.leading_steps.Worked.{Worked}
@@ -46,26 +43,6 @@ module _ (stages : List Stage) (n : ℕ) (after : Fields) (joins : List Gathered
 
   pub settled-outcome : (f : Fault) → IsSettled stages n after joins main f → outcome_of_stages n stages joins main ≡ Err f
   settled-outcome f settled = ap (λ (u : Stream Fault). outcome_of_stages n stages joins (with_stream main u)) (sym (then-nothing (gathered_stream main))) ∙ settled (done [])
-
-  -- ---- what was taken out
-
-  pub opened-stream : (s : Streaming) (w : Option WaitingSources) (kept : Option Streaming) (o : Option Fault) → IsOpened stages n after joins main (Ok (Some s)) w kept o → IsStreaming stages n after joins main s
-  opened-stream s None None None h = h
-  opened-stream s None None (Some f) h = absurd h
-  opened-stream s None (Some t) o h = absurd h
-  opened-stream s (Some x) kept o h = absurd h
-
-  pub opened-fault : (f : Fault) (w : Option WaitingSources) (kept : Option Streaming) (o : Option Fault) → IsOpened stages n after joins main (Err f) w kept o → (f ≡ Memory) ⊎ IsSettled stages n after joins main f
-  opened-fault f None None None h = h
-  opened-fault f None None (Some g) h = absurd h
-  opened-fault f None (Some t) o h = absurd h
-  opened-fault f (Some x) kept o h = absurd h
-
-  pub opened-none : (w : Option WaitingSources) (kept : Option Streaming) (o : Option Fault) (f : Fault) → IsOpened stages n after joins main (Ok None) w kept o → o ≡ Some f → IsSettled stages n after joins main f
-  opened-none None None None f h e = absurd h
-  opened-none None None (Some g) f h e = let same : g ≡ f = cc e in subst (IsSettled stages n after joins main) same h
-  opened-none None (Some t) o f h e = absurd h
-  opened-none (Some x) kept o f h e = absurd h
 
   -- ---- one more item of the main source
   module _ (out : Worked) where
@@ -107,24 +84,3 @@ module _ (stages : List Stage) (n : ℕ) (after : Fields) (joins : List Gathered
     settled-on f settled rest =
         ap (λ (u : Stream Fault). outcome_of_stages n stages joins (with_stream main u)) (then_stream-assoc (gathered_stream main) added rest)
         ∙ settled (then_stream added rest)
-
-    -- what was taken out, and then the item
-    pub err-on : (f : Fault) (w : Option WaitingSources) (kept : Option Streaming) (o : Option Fault) → IsOpened stages n after joins main (Err f) w kept o → IsOpened stages n after joins (gathered main out) (Err f) w kept o
-    err-on f None None None (inl memory) = inl memory
-    err-on f None None None (inr settled) = inr (settled-on f settled)
-    err-on f None None (Some g) h = absurd h
-    err-on f None (Some t) o h = absurd h
-    err-on f (Some x) kept o h = absurd h
-
-    pub none-on : (w : Option WaitingSources) (kept : Option Streaming) (o : Option Fault) → IsOpened stages n after joins main (Ok None) w kept o → IsOpened stages n after joins (gathered main out) (Ok None) w kept o
-    none-on None None None h = absurd h
-    none-on None None (Some g) h = settled-on g h
-    none-on None (Some t) o h = absurd h
-    none-on (Some x) kept o h = absurd h
-
-    pub stream-on : (s : Streaming) (r : Result (Option Streaming) Fault) (w : Option WaitingSources) (kept : Option Streaming) (o : Option Fault) → IsOpened stages n after joins main (Ok (Some s)) w kept o →
-        (IsStreaming stages n after joins main s → IsOpened stages n after joins (gathered main out) r None None None) → IsOpened stages n after joins (gathered main out) r w kept o
-    stream-on s r None None None h made = made h
-    stream-on s r None None (Some f) h made = absurd h
-    stream-on s r None (Some t) o h made = absurd h
-    stream-on s r (Some x) kept o h made = absurd h

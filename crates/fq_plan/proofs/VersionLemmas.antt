@@ -12,6 +12,8 @@ use Rattle.fq_plan.specs.declared.plans.Version.{Version}
 use Rattle.fq_plan.specs.declared.plans.Version.TheVariants.{One, Two}
 use Rattle.fq_plan.proofs.LimitLemmas.{given-some, items_as-all}
 use Rattle.fq_plan.proofs.StepVersionLemmas.{old-step}
+use Rattle.fq_plan.specs.declared.plans.TheConstants.{MAX_FILES, MAX_NULL_VALUES, MAX_SOURCES}
+use Rattle.fq_expr.specs.declared.fronts.TheConstants.{MAX_STEPS}
 
 -- ---- sources
 
@@ -19,7 +21,7 @@ without-nulls : (d : Data) (s : Source) → source_with (Some []) d ≡ Some s �
 without-nulls d s e =
     let columns : Data → Option Fields = each_of (pair_of name_of (word kinds)) in
     let made : ℕ → Fields → Option Source = λ files fields. Some (record { files = files; fields = fields; nulls = [] }) in
-    let n = given-some (member (codes "files") (whole_from_to 1 16) d) (λ files. given (member (codes "columns") columns d) (made files)) s (sym e) in
+    let n = given-some (member (codes "files") (whole_from_to 1 MAX_FILES) d) (λ files. given (member (codes "columns") columns d) (made files)) s (sym e) in
     let c = given-some (member (codes "columns") columns d) (made n.0) s n.2 in
     ap (λ (o : Option Source). elim o [ None ↦ [] | Some t ↦ t.nulls ]) c.2
 
@@ -28,7 +30,7 @@ old-source : (d : Data) (s : Source) → source_of One d ≡ Some s → (source_
 old-source d s e = go (has_members 2 d) e
   where
     later : Option Source
-    later = only_if (has_members 3 d) (source_with (with_length 0 16 (member (codes "null_values") names d)) d)
+    later = only_if (has_members 3 d) (source_with (with_length 0 MAX_NULL_VALUES (member (codes "null_values") names d)) d)
 
     go : (b : Bool) → only_if b (source_with (Some []) d) ≡ Some s → ((if b then source_with (Some []) d else later) ≡ Some s) × (s.nulls ≡ [])
     go true q = (q, without-nulls d s q)
@@ -82,18 +84,18 @@ old-steps (Some d) ss e = go (as_array d) e
 -- the plan of these sources and steps
 abbrev plan_with : Option (List Source) → Option (List PlanStep) → Option Query
 plan_with sources steps =
-    given (with_length 1 8 sources) (λ ss.
-    given (with_length 0 64 steps) (λ ts.
-    only_if (nat_le (sum_by (λ s. s.files) ss) 16) (Some (record { sources = ss; steps = ts }))))
+    given (with_length 1 MAX_SOURCES sources) (λ ss.
+    given (with_length 0 MAX_STEPS steps) (λ ts.
+    only_if (nat_le (sum_by (λ s. s.files) ss) MAX_FILES) (Some (record { sources = ss; steps = ts }))))
 
 parts-are : (o : Option (List Source)) (steps : Option (List PlanStep)) (p : Query) → plan_with o steps ≡ Some p → (o ≡ Some p.sources) × (steps ≡ Some p.steps)
 parts-are None steps p e = absurd (cc e)
-parts-are (Some ss) None p e = go (nat_le 1 (length ss) && nat_le (length ss) 8) e
+parts-are (Some ss) None p e = go (nat_le 1 (length ss) && nat_le (length ss) MAX_SOURCES) e
   where
     go : (b : Bool) → given (only_if b (Some ss)) (λ rs. let none : Option Query = None in none) ≡ Some p → (◌≡◌ {A = Option (List Source)} (Some ss) (Some p.sources)) × (◌≡◌ {A = Option (List PlanStep)} None (Some p.steps))
     go true q = absurd (cc q)
     go false q = absurd (cc q)
-parts-are (Some ss) (Some ts) p e = go (nat_le 1 (length ss) && nat_le (length ss) 8) (nat_le 0 (length ts) && nat_le (length ts) 64) (nat_le (sum_by (λ s. s.files) ss) 16) e
+parts-are (Some ss) (Some ts) p e = go (nat_le 1 (length ss) && nat_le (length ss) MAX_SOURCES) (nat_le 0 (length ts) && nat_le (length ts) MAX_STEPS) (nat_le (sum_by (λ s. s.files) ss) MAX_FILES) e
   where
     made : Query
     made = record { sources = ss; steps = ts }
@@ -101,10 +103,10 @@ parts-are (Some ss) (Some ts) p e = go (nat_le 1 (length ss) && nat_le (length s
     Are : Type 0
     Are = (◌≡◌ {A = Option (List Source)} (Some ss) (Some p.sources)) × (◌≡◌ {A = Option (List PlanStep)} (Some ts) (Some p.steps))
 
-    go : (a b c : Bool) → given (only_if a (Some ss)) (λ rs. given (only_if b (Some ts)) (λ us. only_if (nat_le (sum_by (λ s. s.files) rs) 16) (Some (let q : Query = record { sources = rs; steps = us } in q)))) ≡ Some p → Are
+    go : (a b c : Bool) → given (only_if a (Some ss)) (λ rs. given (only_if b (Some ts)) (λ us. only_if (nat_le (sum_by (λ s. s.files) rs) MAX_FILES) (Some (let q : Query = record { sources = rs; steps = us } in q)))) ≡ Some p → Are
     go false b c q = absurd (cc q)
     go true false c q = absurd (cc q)
-    go true true c q = files (nat_le (sum_by (λ s. s.files) ss) 16) q
+    go true true c q = files (nat_le (sum_by (λ s. s.files) ss) MAX_FILES) q
       where
         files : (b : Bool) → only_if b (Some made) ≡ Some p → Are
         files true r = (ap (λ (o : Option Query). elim o [ None ↦ None | Some q ↦ Some q.sources ]) r, ap (λ (o : Option Query). elim o [ None ↦ None | Some q ↦ Some q.steps ]) r)

@@ -9,11 +9,11 @@ use Rattle.fq_plan.specs.Run.{Tell, trace_of}
 use Rattle.fq_plan.specs.Sources.{file_streams}
 use Rattle.fq_plan.specs.Standing.{LeadsOver, Stands}
 use Rattle.fq_plan.specs.declared.gathering.Gathered.{Gathered}
-use Rattle.fq_plan.specs.declared.run_tail.RunTail.{RunTail}
+use Rattle.fq_plan.specs.declared.run_tail.TailState.{TailState}
 use Rattle.fq_plan.specs.declared.stages.Stage.{Stage}
 
 -- it stands for sources of which the stages make the plan's meaning over the readers' files; the trace lists the files' batches
-pub record HasGathered {R : Type 0} (remaining : R → Option (List ℕ)) (readers : List R) (p : Query) (batch_size : ℕ) (tail : RunTail) (numbers : List (ℕ × ℕ)) : Type 0 where
+pub record HasGathered {R : Type 0} (remaining : R → Option (List ℕ)) (readers : List R) (p : Query) (batch_size : ℕ) (tail : TailState) (numbers : List (ℕ × ℕ)) : Type 0 where
   pub stages : List Stage
   pub n : ℕ
   pub after : Fields

@@ -3,7 +3,8 @@ use Rattle.std.specs.Prelude.{ℕ, ◌-◌, nat_lt, List, [], ◌∷◌, if◌th
 use Rattle.fq_column.specs.Frame.{Fields}
 use Rattle.fq_column.specs.Schema.{same_fields}
 use Rattle.fq_column.specs.Stream.{Stream, done, faulted, then_stream}
-use Rattle.fq_expr.specs.declared.fronts.Piece.{Piece}
+use Rattle.fq_expr.specs.declared.fronts.RowFault.{RowFault}
+use Rattle.fq_column.specs.declared.pieces.Piece.{Piece}
 use Rattle.fq_plan.specs.Sources.{scan_fault}
 use Rattle.fq_plan.specs.Working.{piece_stream}
 use Rattle.fq_plan.specs.declared.faults.Fault.{Fault}
@@ -19,7 +20,7 @@ abbrev pub with_stream : Gathered → Stream Fault → Gathered
 with_stream g u = record { files = g.files; batch = record { fields = g.batch.fields; rows = u.rows }; fault = u.fault }
 
 -- what a piece adds to a source with these columns; one of others is dropped
-abbrev pub added_piece : Fields → Piece → Stream Fault
+abbrev pub added_piece : Fields → Piece RowFault → Stream Fault
 added_piece fields p = if same_fields p.batch.fields fields then piece_stream p else done []
 
 -- what a worked item adds

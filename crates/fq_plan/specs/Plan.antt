@@ -5,6 +5,8 @@ use Rattle.fq_csv.specs.declared.layouts.Layout.{Layout}
 use Rattle.fq_expr.specs.Expression.{Step}
 use Rattle.fq_ops.specs.declared.joins.How.{How}
 use Rattle.fq_ops.specs.Aggregate.{Output}
+use Rattle.fq_expr.specs.declared.fronts.TheConstants.{MAX_STEPS}
+use Rattle.fq_plan.specs.declared.plans.TheConstants.{MAX_FILES, MAX_SOURCES}
 
 -- a source: the number of its files, its columns, and the texts that are null in each of them
 pub record Source : Type 0 where
@@ -71,7 +73,7 @@ rest_of (s ∷ steps) = s ∷ steps
 -- the limits of every plan that a text spells
 pub record IsWithinLimits (p : Query) : Type 0 where
   pub some_source : 1 ≤ length p.sources
-  pub few_sources : length p.sources ≤ 8
+  pub few_sources : length p.sources ≤ MAX_SOURCES
   pub some_files : All (λ s. 1 ≤ s.files) p.sources
-  pub few_files : files_wanted p ≤ 16
-  pub few_steps : length p.steps ≤ 64
+  pub few_files : files_wanted p ≤ MAX_FILES
+  pub few_steps : length p.steps ≤ MAX_STEPS

@@ -7,6 +7,8 @@ use Rattle.fq_lanes.specs.declared.faults.RunFault.{RunFault}
 use Rattle.fq_lanes.specs.declared.faults.RunFault.TheVariants as engine
 use Rattle.fq_plan.specs.declared.faults.Fault.{Fault}
 use Rattle.fq_plan.specs.declared.faults.Fault.TheVariants.{Inputs, Setting, Memory, Read, Write}
+use Rattle.fq_csv.specs.declared.scanners.TheConstants.{MAX_BATCH_SIZE}
+use Rattle.fq_lanes.specs.declared.work.TheConstants.{MAX_WORKERS}
 
 -- whether a number lies from low to high
 abbrev pub is_within : ℕ → ℕ → ℕ → Bool
@@ -16,7 +18,7 @@ is_within low high n = nat_le low n && nat_le n high
 abbrev pub start_refusal : ℕ → ℕ → ℕ → ℕ → Option Fault
 start_refusal wanted got batch_size workers =
     if not (got == wanted) then Some (Inputs wanted got)
-    else if not (is_within 1 65536 batch_size && is_within 1 16 workers) then Some Setting
+    else if not (is_within 1 MAX_BATCH_SIZE batch_size && is_within 1 MAX_WORKERS workers) then Some Setting
     else None
 
 -- the faults of a run that does not start

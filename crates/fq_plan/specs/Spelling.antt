@@ -21,6 +21,8 @@ use Rattle.fq_plan.specs.declared.faults.PlanFault.{PlanFault}
 use Rattle.fq_plan.specs.declared.faults.PlanFault.TheVariants.{Json, Shape}
 use Rattle.fq_plan.specs.declared.plans.Version.{Version}
 use Rattle.fq_plan.specs.declared.plans.Version.TheVariants.{One, Two}
+use Rattle.fq_expr.specs.declared.fronts.TheConstants.{MAX_STEPS}
+use Rattle.fq_plan.specs.declared.plans.TheConstants.{MAX_FILES, MAX_NULL_VALUES, MAX_SOURCES}
 
 -- ---- expressions
 
@@ -137,7 +139,7 @@ step_of version = one_member
 -- {"files": 1 to 16, "columns": [[NAME, KIND], ..]}, where these texts are null
 abbrev pub source_with : Option (List (List ℕ)) → Data → Option Source
 source_with null_texts d =
-    given (member (codes "files") (whole_from_to 1 16) d) (λ files.
+    given (member (codes "files") (whole_from_to 1 MAX_FILES) d) (λ files.
     given (member (codes "columns") (each_of (pair_of name_of (word kinds))) d) (λ fields.
     option_map (λ texts. record { files = files; fields = fields; nulls = texts }) null_texts))
 
@@ -146,7 +148,7 @@ abbrev pub source_of : Version → Data → Option Source
 source_of One d = only_if (has_members 2 d) (source_with (Some []) d)
 source_of Two d =
     if has_members 2 d then source_with (Some []) d
-    else only_if (has_members 3 d) (source_with (with_length 0 16 (member (codes "null_values") names d)) d)
+    else only_if (has_members 3 d) (source_with (with_length 0 MAX_NULL_VALUES (member (codes "null_values") names d)) d)
 
 -- 1 or 2
 abbrev pub version_of : Data → Option Version
@@ -156,9 +158,9 @@ version_of d = option_map (λ n. if n == 1 then One else Two) (whole_from_to 1 2
 abbrev pub plan_of : Data → Option Query
 plan_of d = only_if (has_members 3 d)
     (given (member (codes "version") version_of d) (λ version.
-    given (with_length 1 8 (member (codes "sources") (each_of (source_of version)) d)) (λ sources.
-    given (with_length 0 64 (member (codes "steps") (each_of (step_of version)) d)) (λ steps.
-    only_if (nat_le (sum_by (λ s. s.files) sources) 16) (Some (record { sources = sources; steps = steps }))))))
+    given (with_length 1 MAX_SOURCES (member (codes "sources") (each_of (source_of version)) d)) (λ sources.
+    given (with_length 0 MAX_STEPS (member (codes "steps") (each_of (step_of version)) d)) (λ steps.
+    only_if (nat_le (sum_by (λ s. s.files) sources) MAX_FILES) (Some (record { sources = sources; steps = steps }))))))
 
 -- the value that bytes are, if they are JSON
 abbrev pub json_of : List ℕ → Option Data

@@ -1,5 +1,5 @@
 -- What the tail of a run stands for: sources as far as their items came, of which the last is the main one.
-use Rattle.std.specs.Prelude.{◌≡◌, ◌⊎◌, ◌<◌, ◌≤◌, ℕ, List, [], map, Option, Some, None, Result, Ok, Err}
+use Rattle.std.specs.Prelude.{◌≡◌, ◌<◌, ◌≤◌, ℕ, List, [], map, None, Err}
 use Rattle.fq_column.specs.Frame.{Fields, Row}
 use Rattle.fq_column.specs.Stream.{Stream, done, then_stream}
 use Rattle.fq_csv.specs.Printed.{printed}
@@ -12,9 +12,9 @@ use Rattle.fq_plan.specs.Stages.{Leads}
 use Rattle.fq_plan.specs.Streaming.{Streaming}
 use Rattle.fq_plan.specs.WaitingSources.{WaitingSources}
 use Rattle.fq_plan.specs.declared.faults.Fault.{Fault}
-use Rattle.fq_plan.specs.declared.faults.Fault.TheVariants.{Memory}
 use Rattle.fq_plan.specs.declared.gathering.Gathered.{Gathered}
-use Rattle.fq_plan.specs.declared.run_tail.RunTail.{RunTail}
+use Rattle.fq_plan.specs.declared.run_tail.TailState.{TailState}
+use Rattle.fq_plan.specs.declared.run_tail.TailState.TheVariants as state
 use Rattle.fq_plan.specs.declared.stages.Stage.{Stage}
 use Rattle.fq_plan.specs.declared.leading_steps.Worked.{Worked}
 
@@ -41,33 +41,20 @@ module _ (stages : List Stage) (n : ℕ) (after : Fields) (joins : List Gathered
   abbrev pub IsSettled : Fault → Type 0
   IsSettled f = (rest : Stream Fault) → outcome_of_stages n stages joins (with_stream main (then_stream (gathered_stream main) rest)) ≡ Err f
 
-  -- one of the three
-  abbrev pub IsOneOf : Option WaitingSources → Option Streaming → Option Fault → Type 0
-  IsOneOf (Some w) None None = IsWaiting stages joins main w
-  IsOneOf None (Some s) None = IsStreaming s
-  IsOneOf None None (Some f) = IsSettled f
-  IsOneOf _ _ _ = ⊥
-
-  abbrev pub Stands : RunTail → Type 0
-  Stands t = IsOneOf t.waiting t.stream t.fault
-
-  -- the stream that was taken out, or the fault that is kept or comes instead
-  abbrev pub IsOpened : Result (Option Streaming) Fault → Option WaitingSources → Option Streaming → Option Fault → Type 0
-  IsOpened (Ok (Some s)) None None None = IsStreaming s
-  IsOpened (Ok None) None None (Some f) = IsSettled f
-  IsOpened (Err f) None None None = (f ≡ Memory) ⊎ IsSettled f
-  IsOpened _ _ _ _ = ⊥
-
-  abbrev pub HasOpened : Result (Option Streaming) Fault → RunTail → Type 0
-  HasOpened r t = IsOpened r t.waiting t.stream t.fault
+  abbrev pub Stands : TailState → Type 0
+  Stands (state.Waiting w) = IsWaiting stages joins main w
+  Stands (state.Streaming s) = IsStreaming s
+  Stands (state.Ended f) = IsSettled f
 
 -- nothing of the main source has come
-abbrev pub Waits : List Stage → List Gathered → Gathered → RunTail → Type 0
-Waits stages joins main t = (w : WaitingSources) × (t.waiting ≡ Some w) × (t.stream ≡ None) × (t.fault ≡ None) × IsWaiting stages joins main w
+abbrev pub Waits : List Stage → List Gathered → Gathered → TailState → Type 0
+Waits stages joins main (state.Waiting w) = IsWaiting stages joins main w
+Waits stages joins main (state.Streaming s) = ⊥
+Waits stages joins main (state.Ended f) = ⊥
 
--- an item of a source before the main one is taken while nothing of the main source has come, or one of the main source
-pub record TailTakes (old : RunTail) (file serial : ℕ) (out : Worked) (new : RunTail) : Type 0 where
-  pub same : new.join_files ≡ old.join_files
-  pub before_main : file < old.join_files → (stages : List Stage) (joins : List Gathered) (main : Gathered) → Waits stages joins main old → Waits stages (taken_in file out joins) main new
-  pub on_main : old.join_files ≤ file → (stages : List Stage) (n : ℕ) (after : Fields) (joins : List Gathered) (main : Gathered) → LeadsOver stages n after joins main → Stands stages n after joins main old →
+-- an item of a source before the main one, which are the first files, is taken while nothing of the main source has come, or one of the main source
+pub record TailTakes (join_files : ℕ) (old : TailState) (file : ℕ) (out : Worked) (join_files_after : ℕ) (new : TailState) : Type 0 where
+  pub same : join_files_after ≡ join_files
+  pub before_main : file < join_files → (stages : List Stage) (joins : List Gathered) (main : Gathered) → Waits stages joins main old → Waits stages (taken_in file out joins) main new
+  pub on_main : join_files ≤ file → (stages : List Stage) (n : ℕ) (after : Fields) (joins : List Gathered) (main : Gathered) → LeadsOver stages n after joins main → Stands stages n after joins main old →
       Stands stages n after joins (gathered main out) new

@@ -5,7 +5,7 @@ ghost use Rattle.fq_plan.specs.Feeding.{MayCome, scanned_items, some_items};
 ghost use Rattle.fq_plan.specs.Sources.{row_limit};
 
 use fq_column::Memory;
-use fq_csv::{Layout, MAX_ROWS, RecordRun, RecordScanner, ScanFault};
+use fq_csv::{Layout, MAX_BATCH_SIZE, MAX_ROWS, RecordRun, RecordScanner, ScanFault};
 use fq_lanes::{Feed, FeedFault};
 use std::alloc::Global;
 use std::io::Read;
@@ -48,7 +48,7 @@ impl<R: Read> FileFeed<R> {
     where
         R: Drop,
         requires some { 1 ≤ run_size }
-        requires not_too_many { run_size ≤ 65536 }
+        requires not_too_many { run_size ≤ MAX_BATCH_SIZE }
         ensures { IfOk result (λ f. f ≡ record {
           most = 2147483648;
           items = option_map (scanned_items file layout run_size 0) (option_map (record_stream file layout.schema row_limit) (R.remaining reader));

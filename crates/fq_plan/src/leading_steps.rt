@@ -51,11 +51,11 @@ impl LeadingSteps {
     fn work_on(&self, file: u16, run: RecordRun) -> Result<Worked, Memory>
         ensures { IfOk result (λ out. out ≡ work_on self.now.front self.now.join_files file (Scanned.Run run)) }
     {
-        let Ok((batch, fault)) = run.into_batch(self.alloc) else {
+        let Ok(rows) = run.into_batch(self.alloc) else {
             return Err(Memory);
         };
-        let piece = self.step(file, batch)?;
-        match fault {
+        let piece = self.step(file, rows.batch)?;
+        match rows.fault {
             None => Ok(Worked::Piece(piece)),
             Some(fault) => Ok(Worked::Cut(piece, fault)),
         }

@@ -4,9 +4,10 @@ ghost use Rattle.fq_plan.specs.EngineRun.{no_rows, opened};
 
 use crate::file_feeds::FileFeed;
 use crate::gathering::Gathered;
+use crate::plans::MAX_FILES;
 use crate::stages::CheckedSource;
 use fq_column::Memory;
-use fq_csv::Layout;
+use fq_csv::{Layout, MAX_BATCH_SIZE};
 use std::alloc::Global;
 use std::io::Read;
 
@@ -48,8 +49,8 @@ pub(crate) fn open_feeds<R: Read + Drop>(
     batch_size: u32,
 ) -> Result<Vec<FileFeed<R>>, Memory>
     requires some { 1 ≤ batch_size }
-    requires not_too_many { batch_size ≤ 65536 }
-    requires few { vec_len inputs ≤ 16 }
+    requires not_too_many { batch_size ≤ MAX_BATCH_SIZE }
+    requires few { vec_len inputs ≤ MAX_FILES }
     requires one_each { vec_len layouts ≡ vec_len inputs }
     ensures { IfOk result (λ feeds. feeds.items ≡ opened R.remaining batch_size 0 layouts.items inputs.items) }
 {

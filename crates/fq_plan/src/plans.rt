@@ -7,11 +7,23 @@ use crate::faults::PlanFault;
 use crate::reading::plan_in;
 use fq_column::{Kind, Memory};
 use fq_csv::NullValues;
-use fq_expr::RowStep;
+use fq_expr::{MAX_STEPS, RowStep};
+use fq_lanes::MAX_FEEDS;
 use fq_ops::{Agg, How};
 use serde_json::Value;
 use std::alloc::Global;
 use std::marker::Model;
+
+/// The most sources of a plan.
+pub const MAX_SOURCES: usize = 8;
+
+/// The most files of a plan, each of which is a feed of its run.
+pub const MAX_FILES: u16 = 16;
+
+const _: () = prove!(MAX_FILES as usize == MAX_FEEDS);
+
+/// The most texts that a source reads as null.
+pub const MAX_NULL_VALUES: usize = 16;
 
 /// The number of a source's files, its columns, and the texts that are null in each of them.
 #[derive(Debug, Drop)]
@@ -56,7 +68,7 @@ pub enum Step {
     },
 }
 
-/// A plan as its text spells it: 1 to 8 sources of 16 files at most, and 0 to 64 steps.
+/// A plan as its text spells it: 1 to [`MAX_SOURCES`] sources of [`MAX_FILES`] files at most, and up to [`MAX_STEPS`] steps.
 #[derive(Debug, Drop)]
 pub struct Plan {
     pub(crate) sources: Vec<Source>,
@@ -102,7 +114,7 @@ pub fn read_plan(alloc: Global, text: &[u8]) -> Result<Plan, PlanFault>
 
 /// How many files the sources have.
 pub(crate) fn file_count(sources: &[Source]) -> u32
-    requires { length sources.now ≤ 8 }
+    requires { length sources.now ≤ MAX_SOURCES }
     ensures { result ≡ sum_by (λ s. s.files) (map source_data sources.now) }
 {
     sources.iter().map(|source| u32::from(source.files)).sum()

@@ -1,10 +1,11 @@
 //! The tail of a run: each worked item goes through the remaining steps as soon as it is taken.
-ghost use Rattle.std.specs.Prelude.{◌≡◌, ℕ, List, OnOk};
+ghost use Rattle.std.specs.Prelude.{◌≡◌, ◌⊎◌, ℕ, List, IfOk, IfErr};
 ghost use Rattle.fq_column.specs.Frame.{Fields};
 ghost use Rattle.fq_plan.specs.Gathering.{gathered, taken_in};
 ghost use Rattle.fq_plan.specs.Outcome.{outcome_of_stages};
 ghost use Rattle.fq_plan.specs.PrintedText.{Prints};
-ghost use Rattle.fq_plan.specs.Standing.{HasOpened, IsWaiting, LeadsOver, Stands, TailTakes, Waits};
+ghost use Rattle.fq_plan.specs.Standing.{IsSettled, IsStreaming, IsWaiting, LeadsOver, Stands, TailTakes, Waits};
+ghost use Rattle.fq_plan.specs.declared.faults.Fault.TheVariants as fault;
 ghost use Rattle.fq_plan.specs.declared.gathering.Gathered.{Gathered as Source};
 ghost use Rattle.fq_plan.specs.declared.stages.Stage.{Stage};
 
@@ -16,34 +17,106 @@ use crate::waiting::Waiting;
 use fq_column::Memory;
 use fq_lanes::Tail;
 use std::alloc::Global;
+use std::mem;
 
-/// The sources before the main one while their rows come, then the main source's rows on their way, or the fault in which all
-/// ends: one of the three.
+/// How far the sources have come.
+#[derive(Drop)]
+pub(crate) enum TailState<'a> {
+    /// Those before the main one still come.
+    Waiting(Waiting<'a>),
+    /// The main one is on its way through the steps.
+    Streaming(MainStream<'a>),
+    /// A fault has ended all.
+    Ended(Fault),
+}
+
+impl<'a> TailState<'a> {
+    // Takes a worked item of a source before the main one.
+    fn take_before_main(self, file: u16, item: Worked) -> Result<TailState<'a>, Memory>
+        ensures { IfOk result (λ t. (stages : List Stage) (joins : List Source) (main : Source) → Waits stages joins main self.entry → Waits stages (taken_in file item joins) main t) }
+    {
+        match self {
+            TailState::Waiting(waiting) => Ok(TailState::Waiting(waiting.take(file, item)?)),
+            state => Ok(state),
+        }
+    }
+
+    // Takes a worked item of the main source.
+    fn take_main(self, alloc: Global, item: Worked) -> Result<TailState<'a>, Memory>
+        ensures { IfOk result (λ t. (stages : List Stage) (n : ℕ) (after : Fields) (joins : List Source) (main : Source) → LeadsOver stages n after joins main → Stands stages n after joins main self.entry →
+            Stands stages n after joins (gathered main item) t) }
+    {
+        match self.pass(alloc, item) {
+            Ok(stream) => Ok(TailState::Streaming(stream)),
+            Err(Fault::Memory) => Err(Memory),
+            Err(fault) => Ok(TailState::Ended(fault)),
+        }
+    }
+
+    // Passes a worked item of the main source on to its rows, unless a fault ends all.
+    fn pass(self, alloc: Global, item: Worked) -> Result<MainStream<'a>, Fault>
+        ensures streaming { IfOk result (λ s. (stages : List Stage) (n : ℕ) (after : Fields) (joins : List Source) (main : Source) → LeadsOver stages n after joins main → Stands stages n after joins main self.entry →
+            IsStreaming stages n after joins (gathered main item) s) }
+        ensures settled { IfErr result (λ f. (stages : List Stage) (n : ℕ) (after : Fields) (joins : List Source) (main : Source) → LeadsOver stages n after joins main → Stands stages n after joins main self.entry →
+            (f ≡ fault.Memory) ⊎ IsSettled stages n after joins (gathered main item) f) }
+    {
+        let stream = self.open(alloc)?;
+        Ok(stream.take(alloc, item)?)
+    }
+
+    // The main source's rows on their way, unless a fault ends all; with the first of them, the sources before it are whole.
+    fn open(self, alloc: Global) -> Result<MainStream<'a>, Fault>
+        ensures streaming { IfOk result (λ s. (stages : List Stage) (n : ℕ) (after : Fields) (joins : List Source) (main : Source) → LeadsOver stages n after joins main → Stands stages n after joins main self.entry →
+            IsStreaming stages n after joins main s) }
+        ensures settled { IfErr result (λ f. (stages : List Stage) (n : ℕ) (after : Fields) (joins : List Source) (main : Source) → LeadsOver stages n after joins main → Stands stages n after joins main self.entry →
+            (f ≡ fault.Memory) ⊎ IsSettled stages n after joins main f) }
+    {
+        match self {
+            TailState::Waiting(waiting) => waiting.start(alloc),
+            TailState::Streaming(stream) => Ok(stream),
+            TailState::Ended(fault) => Err(fault),
+        }
+    }
+
+    // The text of the frame of all that was taken, or the fault in which it ends.
+    fn finish(self, alloc: Global) -> Result<PrintedText, Fault>
+        ensures { (stages : List Stage) (n : ℕ) (after : Fields) (joins : List Source) (main : Source) → LeadsOver stages n after joins main → Stands stages n after joins main self.entry →
+            Prints (outcome_of_stages n stages joins main) result }
+    {
+        let stream = self.open(alloc)?;
+        stream.finish(alloc)
+    }
+}
+
+/// What takes the worked items of a run.
 #[derive(Drop)]
 pub(crate) struct RunTail<'a> {
     alloc: Global,
     /// How many files are of the sources before the main one.
-    join_files: u16,
-    waiting: Option<Waiting<'a>>,
-    stream: Option<MainStream<'a>>,
-    fault: Option<Fault>,
+    pub(crate) join_files: u16,
+    pub(crate) state: TailState<'a>,
 }
 
 impl<'a> Tail for RunTail<'a> {
     type Out = Worked;
 
-    ghost takes = { TailTakes };
+    ghost takes = { λ old file _ out new. TailTakes old.join_files old.state file out new.join_files new.state };
 
     ghost refuses = { λ _ _. Unit {0} };
 
     fn take(&mut self, file: u16, _serial: u32, out: Worked) -> Result<(), fq_lanes::Memory> {
+        // a refused item leaves a tail that has ended
+        let state = mem::replace(&mut self.state, TailState::Ended(Fault::Memory));
         let taken = if file < self.join_files {
-            self.take_before_main(file, out)
+            state.take_before_main(file, out)
         } else {
-            self.take_main(out)
+            state.take_main(self.alloc, out)
         };
         match taken {
-            Ok(()) => Ok(()),
+            Ok(state) => {
+                self.state = state;
+                Ok(())
+            }
             Err(Memory) => Err(fq_lanes::Memory),
         }
     }
@@ -53,80 +126,20 @@ impl<'a> RunTail<'a> {
     /// A tail that has taken nothing, of which so many files are of the sources before the main one.
     pub(crate) fn new(alloc: Global, join_files: u16, waiting: Waiting<'a>) -> RunTail<'a>
         ensures files { result.join_files ≡ join_files }
-        ensures waits { (stages : List Stage) (joins : List Source) (main : Source) → IsWaiting stages joins main waiting.entry → Waits stages joins main result }
+        ensures waits { (stages : List Stage) (joins : List Source) (main : Source) → IsWaiting stages joins main waiting.entry → Waits stages joins main result.state }
     {
         RunTail {
             alloc,
             join_files,
-            waiting: Some(waiting),
-            stream: None,
-            fault: None,
+            state: TailState::Waiting(waiting),
         }
     }
 
     /// The text of the frame of all that was taken, or the fault in which it ends.
     pub(crate) fn finish(self) -> Result<PrintedText, Fault>
-        requires { (stages : List Stage) × ((n : ℕ) × ((after : Fields) × ((joins : List Source) × ((main : Source) × (LeadsOver stages n after joins main × Stands stages n after joins main self))))) }
-        ensures { (stages : List Stage) (n : ℕ) (after : Fields) (joins : List Source) (main : Source) → LeadsOver stages n after joins main → Stands stages n after joins main self.entry →
+        ensures { (stages : List Stage) (n : ℕ) (after : Fields) (joins : List Source) (main : Source) → LeadsOver stages n after joins main → Stands stages n after joins main self.entry.state →
             Prints (outcome_of_stages n stages joins main) result }
     {
-        let mut tail = self;
-        match tail.open()? {
-            Some(stream) => stream.finish(tail.alloc),
-            None => match tail.fault {
-                Some(fault) => Err(fault),
-                None => unreachable!(),
-            },
-        }
-    }
-
-    // Takes a worked item of a source before the main one.
-    fn take_before_main(&mut self, file: u16, item: Worked) -> Result<(), Memory>
-        ensures same { OnOk result (self.new.join_files ≡ self.old.join_files) }
-        ensures waits { OnOk result ((stages : List Stage) (joins : List Source) (main : Source) → Waits stages joins main self.old → Waits stages (taken_in file item joins) main self.new) }
-    {
-        if let Some(waiting) = self.waiting.take() {
-            self.waiting = Some(waiting.take(file, item)?);
-        }
-        Ok(())
-    }
-
-    // Takes a worked item of the main source.
-    fn take_main(&mut self, item: Worked) -> Result<(), Memory>
-        ensures same { OnOk result (self.new.join_files ≡ self.old.join_files) }
-        ensures stands { OnOk result ((stages : List Stage) (n : ℕ) (after : Fields) (joins : List Source) (main : Source) → LeadsOver stages n after joins main → Stands stages n after joins main self.old →
-            Stands stages n after joins (gathered main item) self.new) }
-    {
-        match self.pass(item) {
-            Ok(stream) => self.stream = stream,
-            Err(Fault::Memory) => return Err(Memory),
-            Err(fault) => self.fault = Some(fault),
-        }
-        Ok(())
-    }
-
-    // Takes the main source's rows out of the tail, and passes a worked item on to them, unless a fault has ended all.
-    fn pass(&mut self, item: Worked) -> Result<Option<MainStream<'a>>, Fault>
-        ensures same { self.new.join_files ≡ self.old.join_files }
-        ensures opened { (stages : List Stage) (n : ℕ) (after : Fields) (joins : List Source) (main : Source) → LeadsOver stages n after joins main → Stands stages n after joins main self.old →
-            HasOpened stages n after joins (gathered main item) result self.new }
-    {
-        match self.open()? {
-            Some(stream) => Ok(Some(stream.take(self.alloc, item)?)),
-            None => Ok(None),
-        }
-    }
-
-    // Takes the main source's rows out of the tail, unless a fault has ended all; with the first of them, the sources before
-    // it are whole.
-    fn open(&mut self) -> Result<Option<MainStream<'a>>, Fault>
-        ensures same { self.new.join_files ≡ self.old.join_files }
-        ensures opened { (stages : List Stage) (n : ℕ) (after : Fields) (joins : List Source) (main : Source) → LeadsOver stages n after joins main → Stands stages n after joins main self.old →
-            HasOpened stages n after joins main result self.new }
-    {
-        match self.waiting.take() {
-            Some(waiting) => Ok(Some(waiting.start(self.alloc)?)),
-            None => Ok(self.stream.take()),
-        }
+        self.state.finish(self.alloc)
     }
 }

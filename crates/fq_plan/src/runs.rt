@@ -19,14 +19,11 @@ use crate::printed_text::PrintedText;
 use crate::run_tail::RunTail;
 use crate::waiting::Waiting;
 use fq_csv::MAX_BATCH_SIZE;
-use fq_lanes::{Gate, NoGate, Report, run_lanes};
+use fq_lanes::{Gate, MAX_WORKERS, NoGate, Report, run_lanes};
 use std::alloc::Global;
 use std::io::{Read, Write};
 use std::sync::Wait;
 use std::thread::Threads;
-
-/// The most workers.
-const MAX_WORKERS: u16 = 16;
 
 impl Checked {
     /// Writes the frame that the plan means over the files, or answers the fault that it means.
@@ -129,8 +126,8 @@ impl Checked {
         workers: u16,
     ) -> Result<(PrintedText, Report), Fault>
         requires inputs { vec_len inputs ≡ files_wanted self.now }
-        requires batch_size { (1 ≤ batch_size) × (batch_size ≤ 65536) }
-        requires workers { (1 ≤ workers) × (workers ≤ 16) }
+        requires batch_size { (1 ≤ batch_size) × (batch_size ≤ MAX_BATCH_SIZE) }
+        requires workers { (1 ≤ workers) × (workers ≤ MAX_WORKERS) }
         ensures frame { (files : List (List ℕ)) → Tell R.remaining inputs.items files → IfOk result
             (λ r. (frame : Frame) × (meaning self.now (file_streams self.now files) ≡ Ok frame) × (text_of r.0 ≡ printed frame)) }
         ensures trace { (files : List (List ℕ)) → Tell R.remaining inputs.items files → IfOk result
@@ -155,9 +152,9 @@ impl Checked {
         workers: u16,
     ) -> Result<(RunTail<'_>, Report), Fault>
         requires inputs { vec_len inputs ≡ files_wanted self.now }
-        requires batch_size { (1 ≤ batch_size) × (batch_size ≤ 65536) }
-        requires workers { (1 ≤ workers) × (workers ≤ 16) }
-        ensures gathered { IfOk result (λ r. HasGathered R.remaining inputs.items self.entry.now batch_size r.0 r.1.trace.items) }
+        requires batch_size { (1 ≤ batch_size) × (batch_size ≤ MAX_BATCH_SIZE) }
+        requires workers { (1 ≤ workers) × (workers ≤ MAX_WORKERS) }
+        ensures gathered { IfOk result (λ r. HasGathered R.remaining inputs.items self.entry.now batch_size r.0.state r.1.trace.items) }
         ensures fault { IfErr result IsEngineFault }
     {
         let joins = self.joins.as_slice();

@@ -2,6 +2,7 @@
 use crate::files::STANDARD_INPUT;
 use crate::program::{BATCH_SIZE, WORKERS};
 use clap::{Arg, ArgAction, ArgMatches, Command, Error, value_parser};
+use fq_plan::{MAX_BATCH_SIZE, MAX_WORKERS};
 use std::alloc::{AllocError, Global};
 
 /// The version of the program.
@@ -84,7 +85,7 @@ fn batch<'a>(alloc: Global) -> Arg<'a> {
     Arg::new(alloc, "batch")
         .long("batch")
         .value_name("N")
-        .value_parser(value_parser!(u32).range(1..=65_536))
+        .value_parser(value_parser!(u32).range(1..=i64::from(MAX_BATCH_SIZE)))
         .default_value("1024")
         .help("Rows that are read and worked on at a time, from 1 to 65536")
 }
@@ -93,7 +94,7 @@ fn workers<'a>(alloc: Global) -> Arg<'a> {
     Arg::new(alloc, "workers")
         .long("workers")
         .value_name("N")
-        .value_parser(value_parser!(u16).range(1..=16))
+        .value_parser(value_parser!(u16).range(1..=i64::from(MAX_WORKERS)))
         .default_value("2")
         .help("Threads that work on batches, from 1 to 16")
 }

@@ -2,14 +2,14 @@
 ghost use Rattle.std.specs.Prelude.{◌≡◌, ℕ, ◌+◌, ◌^◌, ◌<◌, ◌≤◌, [], ◌∷◌, ◌++◌, IfOk, OnOk, IfErr, MatchOption};
 ghost use Rattle.fq_lanes.specs.Lane.{put_items, taken_items, left_items, IsLane, SamePut, SameTake};
 
-use super::{Left, Put, Take};
+use super::{Left, MAX_CAPACITY, Put, Take};
 use crate::faults::Memory;
 use rtrb::{PushError, RingBuffer};
 use std::alloc::Global;
 
-/// A lane with room for `capacity` items.
+/// A lane with room for `capacity` items, from 1 to [`MAX_CAPACITY`].
 pub fn lane<T: Drop>(alloc: Global, capacity: usize) -> Result<(Put<T>, Take<T>), Memory>
-    requires { (1 ≤ capacity) × (capacity ≤ 65536) }
+    requires { (1 ≤ capacity) × (capacity ≤ MAX_CAPACITY) }
     ensures pair { IfOk result (λ r. IsLane r.0 r.1) }
     ensures empty { IfOk result (λ r. (put_items r.0 ≡ []) × (taken_items r.1 ≡ [])) }
 {

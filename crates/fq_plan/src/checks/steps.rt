@@ -15,7 +15,7 @@ use crate::faults::Place;
 use crate::plans::Step;
 use crate::stages::{CheckedSource, Operator, Stage};
 use fq_column::{Memory, Schema, StepFault};
-use fq_expr::{Front, RowStep};
+use fq_expr::{Front, MAX_STEPS, RowStep};
 use fq_ops::{Agg, How, group_schema, join_schema, roll_schema};
 use std::alloc::Global;
 
@@ -48,7 +48,7 @@ pub fn check_leading(
     steps: &[RowStep],
     place: &mut Place,
 ) -> Result<Schema, StepFault>
-    requires { length steps.now ≤ 64 }
+    requires { length steps.now ≤ MAX_STEPS }
     ensures place { (sources total : ℕ) → length steps.now ≤ total → IsPlaceOf sources total place.old → IsPlaceOf sources total place.new }
     ensures ok { IfOk result (λ after. steps_schema main.now (map step_of steps.now) ≡ Ok after) }
     ensures refused { IfErr result (λ code. ((joins : List Fields) (rest : List PlanStep) →
@@ -72,7 +72,7 @@ pub fn check_stages(
     steps: Vec<Step>,
     place: &mut Place,
 ) -> Result<Vec<Stage>, StepFault>
-    requires { first + vec_len steps ≤ 64 }
+    requires { first + vec_len steps ≤ MAX_STEPS }
     ensures place { (sources total : ℕ) → first + length steps.items ≤ total → IsPlaceOf sources total place.old → IsPlaceOf sources total place.new }
     ensures steps { IfOk result (λ stages. stage_steps stages.items ≡ map plan_step_of steps.items) }
     ensures leads { IfOk result (λ stages. (after : Fields) × Leads (checked_fields joins.now) first schema stages.items after) }
@@ -101,7 +101,7 @@ fn check_step(
     schema: Schema,
     step: Step,
 ) -> Result<(Operator, Schema), StepFault>
-    requires { number + 1 ≤ 64 }
+    requires { number + 1 ≤ MAX_STEPS }
     ensures step { IfOk result (λ r. operator_steps r.0 ≡ plan_step_of step ∷ []) }
     ensures turns { IfOk result (λ r. Turns (checked_fields joins.now) number schema r.0 r.1) }
     ensures refused { IfErr result (λ code. (judged_step (checked_fields joins.now) schema (plan_step_of step) ≡ Err code) ⊎ (code ≡ StepFault.Memory)) }
@@ -131,7 +131,7 @@ fn check_rows(
     schema: Schema,
     step: RowStep,
 ) -> Result<(Operator, Schema), StepFault>
-    requires { number + 1 ≤ 64 }
+    requires { number + 1 ≤ MAX_STEPS }
     ensures step { IfOk result (λ r. operator_steps r.0 ≡ row_wise (step_of step) ∷ []) }
     ensures turns { IfOk result (λ r. (joins : List Fields) → Turns joins number schema r.0 r.1) }
     ensures refused { IfErr result (λ code. (step_schema schema (step_of step) ≡ Err code) ⊎ (code ≡ StepFault.Memory)) }

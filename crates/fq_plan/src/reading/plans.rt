@@ -6,11 +6,14 @@ ghost use Rattle.fq_plan.specs.Parts.{member, whole_from_to as the_whole_from_to
 ghost use Rattle.fq_plan.specs.Spelling.{names, plan_of, source_of, source_with, version_of};
 ghost use Rattle.fq_plan.specs.View.{source_data};
 
-use crate::plans::{Plan, Source, Step, Version, file_count};
+use crate::plans::{
+    MAX_FILES, MAX_NULL_VALUES, MAX_SOURCES, Plan, Source, Step, Version, file_count,
+};
 use crate::reading::values::has_members;
 use crate::reading::{Spelled, read_member};
 use fq_column::Memory;
 use fq_csv::NullValues;
+use fq_expr::MAX_STEPS;
 use serde_json::Value;
 use std::alloc::Global;
 
@@ -48,7 +51,10 @@ fn read_source(
 ) -> Result<Option<Source>, Memory>
     ensures { IfOk result (λ o. option_map source_data o ≡ source_with (option_map (λ texts. map string_bytes texts.items) nulls) (view value.now)) }
 {
-    let Some(files) = value.get("files").and_then(|n| whole_from_to(n, 1, 16)) else {
+    let Some(files) = value
+        .get("files")
+        .and_then(|n| whole_from_to(n, 1, MAX_FILES))
+    else {
         return Ok(None);
     };
     let Some(columns) = read_member(alloc, version, value, "columns")? else {
@@ -61,18 +67,18 @@ fn read_source(
     }))
 }
 
-// The texts that are null, at most 16.
+// The texts that are null, at most as many as a source has.
 fn read_null_values(
     alloc: Global,
     version: Version,
     value: &Value,
 ) -> Result<Option<Vec<String>>, Memory>
-    ensures { IfOk result (λ o. option_map (λ texts. map string_bytes texts.items) o ≡ with_length 0 16 (member (codes "null_values") names (view value.now))) }
+    ensures { IfOk result (λ o. option_map (λ texts. map string_bytes texts.items) o ≡ with_length 0 MAX_NULL_VALUES (member (codes "null_values") names (view value.now))) }
 {
     let Some(texts) = read_member::<Vec<String>>(alloc, version, value, "null_values")? else {
         return Ok(None);
     };
-    if texts.len() > 16 {
+    if texts.len() > MAX_NULL_VALUES {
         return Ok(None);
     }
     Ok(Some(texts))
@@ -91,13 +97,13 @@ pub fn plan_in(alloc: Global, value: &Value) -> Result<Option<Plan>, Memory>
     let Some(sources) = read_member::<Vec<Source>>(alloc, version, value, "sources")? else {
         return Ok(None);
     };
-    if sources.is_empty() || sources.len() > 8 {
+    if sources.is_empty() || sources.len() > MAX_SOURCES {
         return Ok(None);
     }
     let Some(steps) = read_member::<Vec<Step>>(alloc, version, value, "steps")? else {
         return Ok(None);
     };
-    if steps.len() > 64 || file_count(&sources) > 16 {
+    if steps.len() > MAX_STEPS || file_count(&sources) > u32::from(MAX_FILES) {
         return Ok(None);
     }
     Ok(Some(Plan { sources, steps }))

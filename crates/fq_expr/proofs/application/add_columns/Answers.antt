@@ -96,5 +96,5 @@ returns-clause-rows c = let d = goal.at.returns-clause-rows c in
     ∙ added-rows c.args.batch.fields (items_of c.args.items.now) c.args.batch.rows c.in_ok-outputs.outputs.columns.items c.in_ok-outputs.outputs.rows c.in_ok-outputs.outputs.item c.in_ok-outputs.ensures
     c.into_parts-schema.result.1.items (stands d.After-into_parts-schema) (rows d.After-into_parts-schema) c.put_columns.new.schema (schema d.In_ok-put_columns) c.put_columns.new.columns.items (under d.In_ok-put_columns) c.in_ok-put_columns.ensures.width some
 
-pub returns-clause-item : goal.returns-clause-item
-returns-clause-item c = made-item c.args.batch.fields (items_of c.args.items.now) c.args.batch.rows c.in_ok-outputs.outputs.columns.items c.in_ok-outputs.outputs.rows c.in_ok-outputs.outputs.item c.in_ok-outputs.ensures (λ values row. with_values c.args.batch.fields (items_of c.args.items.now) values row)
+pub returns-clause-fault : goal.returns-clause-fault
+returns-clause-fault c = made-item c.args.batch.fields (items_of c.args.items.now) c.args.batch.rows c.in_ok-outputs.outputs.columns.items c.in_ok-outputs.outputs.rows c.in_ok-outputs.outputs.item c.in_ok-outputs.ensures (λ values row. with_values c.args.batch.fields (items_of c.args.items.now) values row)

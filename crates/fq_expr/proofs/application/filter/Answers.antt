@@ -36,8 +36,8 @@ returns-clause-rows c = let e = expression_of c.args.predicate.now in
     ∙ ap (λ m. keep m (take (length m) c.args.batch.rows)) c.in_ok-mask.ensures
     ∙ filter-rows c.args.batch.fields e c.args.batch.rows
 
-pub returns-clause-item : goal.returns-clause-item
-returns-clause-item c = let e = expression_of c.args.predicate.now in
+pub returns-clause-fault : goal.returns-clause-fault
+returns-clause-fault c = let e = expression_of c.args.predicate.now in
     c.then_some-item.ensures
     ∙ (λ i. then_some (nat_lt ((c.len.ensures ∙ c.in_ok-mask.mask.ok.0 ∙ ap length c.in_ok-mask.ensures) i) (c.rows.ensures.rows i)) 0)
     ∙ filter-item c.args.batch.fields e c.args.batch.rows

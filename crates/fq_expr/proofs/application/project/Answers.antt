@@ -32,5 +32,5 @@ returns-clause-rows c = let s = ok-is (step_schema c.args.batch.fields (select (
     c.in-Ok.schema (judged (goal.at.returns-clause-rows c).In-Ok) (length-item_names c.args.items.now ∙ sym (length-items_of c.args.items.now))
     (select-ok c.args.batch.fields (items_of c.args.items.now) s.0 s.1).1.some
 
-pub returns-clause-item : goal.returns-clause-item
-returns-clause-item c = made-item c.args.batch.fields (items_of c.args.items.now) c.args.batch.rows c.in_ok-outputs.outputs.columns.items c.in_ok-outputs.outputs.rows c.in_ok-outputs.outputs.item c.in_ok-outputs.ensures (λ values row. values)
+pub returns-clause-fault : goal.returns-clause-fault
+returns-clause-fault c = made-item c.args.batch.fields (items_of c.args.items.now) c.args.batch.rows c.in_ok-outputs.outputs.columns.items c.in_ok-outputs.outputs.rows c.in_ok-outputs.outputs.item c.in_ok-outputs.ensures (λ values row. values)

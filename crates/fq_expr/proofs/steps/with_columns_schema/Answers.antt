@@ -13,13 +13,13 @@ use Rattle.fq_expr.proofs.steps.with_columns_schema.Goals as goal
 pub returns-in_err-kinds : goal.returns-in_err-kinds
 returns-in_err-kinds c = let p = err_from_is_err_and c.from_residual.result c.from_residual.ensures.1 in rw (p.1, p.2) (refused (step_schema c.args.schema.now (with_columns (items_of c.args.items.now))) c.in_err-kinds.field-0.0 (with_columns-item c.args.schema.now (items_of c.args.items.now) c.in_err-kinds.field-0.0 c.in_err-kinds.ensures.refused))
 
-pub returns-then-new_columns-len-gt64 : goal.returns-then-new_columns-len-gt64
-returns-then-new_columns-len-gt64 c = inl (sym (with_columns-too_many c.args.schema.now (items_of c.args.items.now) c.in_ok-kinds.kinds.items c.in_ok-kinds.ensures.kinds
-    (omega (arith, c.new_columns.ensures.exact, c.len.ensures.len, c.if-new_columns-len-gt64.true))))
+pub returns-then-new_columns-len-gt-MAX_COLUMNS : goal.returns-then-new_columns-len-gt-MAX_COLUMNS
+returns-then-new_columns-len-gt-MAX_COLUMNS c = inl (sym (with_columns-too_many c.args.schema.now (items_of c.args.items.now) c.in_ok-kinds.kinds.items c.in_ok-kinds.ensures.kinds
+    (omega (arith, c.new_columns.ensures.exact, c.len.ensures.len, c.if-new_columns-len-gt-MAX_COLUMNS.true))))
 
 pub returns-then-has_double : goal.returns-then-has_double
 returns-then-has_double c = inl (sym (with_columns-double c.args.schema.now (items_of c.args.items.now) c.in_ok-kinds.kinds.items c.in_ok-kinds.ensures.kinds
-    (omega (arith, c.new_columns.ensures.exact, c.len.ensures.len, c.if-new_columns-len-gt64.false)) (sym c.has_double.ensures ∙ c.if-has_double.true)))
+    (omega (arith, c.new_columns.ensures.exact, c.len.ensures.len, c.if-new_columns-len-gt-MAX_COLUMNS.false)) (sym c.has_double.ensures ∙ c.if-has_double.true)))
 
 pub with_fields-requires-clause-kinds : goal.with_fields-requires-clause-kinds
 with_fields-requires-clause-kinds c = ap length c.as_slice.ensures.value ∙ length-all_kinds c.args.schema.now (items_of c.args.items.now) c.in_ok-kinds.kinds.items c.in_ok-kinds.ensures.kinds ∙ length-items_of c.args.items.now
@@ -33,10 +33,10 @@ with_fields-requires-clause-room c =
           (length-item_names c.args.items.now ∙ sym (length-items_of c.args.items.now) ∙ sym (length-all_kinds c.args.schema.now (items_of c.args.items.now) c.in_ok-kinds.kinds.items c.in_ok-kinds.ensures.kinds))),
       c.new_columns.ensures.exact,
       c.len.ensures.len,
-      c.if-new_columns-len-gt64.false,
+      c.if-new_columns-len-gt-MAX_COLUMNS.false,
     ))
 
 pub returns : goal.returns
 returns c = inl (ap Ok (c.in_ok-with_fields.ensures ∙ ap (λ ks. put_all c.args.schema.now (fields_of (item_names (items_of c.args.items.now)) ks)) c.as_slice.ensures.value)
     ∙ sym (with_columns-judged c.args.schema.now (items_of c.args.items.now) c.in_ok-kinds.kinds.items c.in_ok-kinds.ensures.kinds
-    (omega (arith, c.new_columns.ensures.exact, c.len.ensures.len, c.if-new_columns-len-gt64.false)) (sym c.has_double.ensures ∙ c.if-has_double.false)))
+    (omega (arith, c.new_columns.ensures.exact, c.len.ensures.len, c.if-new_columns-len-gt-MAX_COLUMNS.false)) (sym c.has_double.ensures ∙ c.if-has_double.false)))

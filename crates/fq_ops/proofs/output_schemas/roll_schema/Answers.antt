@@ -5,6 +5,7 @@ use Rattle.fq_column.specs.Cell.{same_kind}
 use Rattle.fq_column.specs.Frame.{Fields, names_of, put_named}
 use Rattle.fq_column.specs.Refusal.{unless_refused}
 use Rattle.fq_column.specs.Schema.{schema_checks}
+use Rattle.fq_ops.specs.declared.rolls.TheConstants.{MAX_WINDOW}
 use Rattle.fq_ops.specs.Fields.{with_kind}
 use Rattle.fq_ops.specs.Roll.{is_from_to}
 use Rattle.fq_column.proofs.NameLemmas.{unnamed}
@@ -18,7 +19,7 @@ returns c =
     let fs = c.args.schema.now in
     let name = c.args.name.now in
     let whole : same_kind c.in_ok-kind_of.field-0 Whole ≡ true = same_kind-by_ne c.in_ok-kind_of.field-0 Whole c.ne.result c.ne.ensures ∙ ap not c.if-ne.false in
-    let in_window : is_from_to (pos 1) (pos 65536) c.args.window ≡ true = grind (arith, ints) in
+    let in_window : is_from_to (pos 1) (pos MAX_WINDOW) c.args.window ≡ true = grind (arith, ints) in
     let in_samples : is_from_to (pos 1) c.args.window c.args.min_samples ≡ true = grind (arith, ints) in
     let copied = c.in_ok-fields.ensures.ok in
     let put : c.match-position.fields ≡ put_named fs (name, Whole) = elim c.match-position.branch [

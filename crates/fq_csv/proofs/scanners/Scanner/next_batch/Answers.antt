@@ -13,7 +13,7 @@ returns-in-Ok-clause-stream g c = λ u e.
     let left : batches_left None old ≡ Some u = ap (λ f. batches_left f old) (sym c.in_default.is) ∙ ap (λ (s : Scanning). s.upcoming) c.self.view_is ∙ e in
     let size : old.run_size ≡ c.args.self.now.batch_size = ap (λ (s : Scanning). s.batch_size) c.self.view_is in
     rw (sym size)
-    (batch-next old c.next_run.new.self c.in-Ok-Some.run' (rw c.in-Ok-Some.field-0-is at found.form) c.in-Ok.batch c.in-Ok.fault u c.in-Ok.ensures.rows.0 (λ w h. rw c.in-Ok-Some.field-0-is at (found.stream w h)) left)
+    (batch-next old c.next_run.new.self c.in-Ok-Some.run' (rw c.in-Ok-Some.field-0-is at found.form) c.in-Ok.piece.batch c.in-Ok.piece.fault u c.in-Ok.ensures.rows.0 (λ w h. rw c.in-Ok-Some.field-0-is at (found.stream w h)) left)
 
 pub returns-in-Err-rows_of-clause-stream : goal.returns-in-Err-rows_of-clause-stream
 returns-in-Err-rows_of-clause-stream g c = λ u e.

@@ -27,14 +27,14 @@ loop-i-preserved c = let d = (goal.at.loop-i-preserved c).After-index in
     let f = c.loop-i.piece.batch.fields in
     let P : Fields → Type 0 = λ g. IsOk (steps_schema g rest) in
     let n = c.self.inside.first + c.loop-i.i in
-    let item = c.in_ok-batch.field-0.item in
-    let fault = c.fault_after-fault.ensures ∙ replaced (fault_at n) item c.loop-i.piece.fault in
+    let item = c.in_ok-stepped.stepped.fault in
+    let fault = c.fault_after.ensures ∙ replaced (fault_at n) item c.loop-i.piece.fault in
     record {
-      schemas = subst P (sym c.in_ok-batch.ensures.fields) (later-steps f s rest (schemas d));
-      fields = ap (λ g. fields_after_all g rest) c.in_ok-batch.ensures.fields ∙ ap (fields_after_all f) (sym (left d)) ∙ c.loop-i.invariant.fields;
-      stream = ap (λ k. apply_steps fault_at k c.in_ok-batch.field-0.batch.fields rest (record { rows = c.in_ok-batch.field-0.batch.rows; fault = c.fault_after-fault.result })) (let e : c.self.inside.first + (c.loop-i.i + 1) ≡ n + 1 = omega arith in e)
-          ∙ stream-step fault_at n f c.in_ok-batch.field-0.batch.fields s rest c.loop-i.piece.batch.rows c.in_ok-batch.field-0.batch.rows c.loop-i.piece.fault c.fault_after-fault.result c.in_ok-batch.field-0.item
-          c.in_ok-batch.ensures.fields c.in_ok-batch.ensures.rows c.in_ok-batch.ensures.item fault
+      schemas = subst P (sym c.in_ok-stepped.ensures.fields) (later-steps f s rest (schemas d));
+      fields = ap (λ g. fields_after_all g rest) c.in_ok-stepped.ensures.fields ∙ ap (fields_after_all f) (sym (left d)) ∙ c.loop-i.invariant.fields;
+      stream = ap (λ k. apply_steps fault_at k c.in_ok-stepped.stepped.batch.fields rest (record { rows = c.in_ok-stepped.stepped.batch.rows; fault = c.fault_after.result })) (let e : c.self.inside.first + (c.loop-i.i + 1) ≡ n + 1 = omega arith in e)
+          ∙ stream-step fault_at n f c.in_ok-stepped.stepped.batch.fields s rest c.loop-i.piece.batch.rows c.in_ok-stepped.stepped.batch.rows c.loop-i.piece.fault c.fault_after.result c.in_ok-stepped.stepped.fault
+          c.in_ok-stepped.ensures.fields c.in_ok-stepped.ensures.rows c.in_ok-stepped.ensures.fault fault
           ∙ ap (λ l. apply_steps fault_at n f l (record { rows = c.loop-i.piece.batch.rows; fault = c.loop-i.piece.fault })) (sym (left d))
           ∙ c.loop-i.invariant.stream;
     }

@@ -11,7 +11,7 @@ loop-file-preserved g c = record {
       let q : ℕ × ℕ × g.row.O.Denot = (c.in-Some.file, c.in-Some.serial, c.in-Some.out) in (
         was.0 ++ q ∷ [],
         hands_more g.S.Tail.takes first events was.0 c.loop-file.self (record { sink = c.next.new.self; tail = c.take.new.self; trace = c.push.new.self }) q was.1
-            c.next.ensures.files step.0 step.1 (c.in-Ok.ensures.items) c.in_ok-take.ensures.ok,
+            c.next.ensures.files step.0 step.1 (c.in_ok-push.ensures.items) c.in_ok-take.ensures.ok,
       );
 }
 

@@ -16,13 +16,13 @@ use Rattle.fq_plan.specs.GatheredRun.{HasGathered}
 use Rattle.fq_plan.specs.Plan.{Query, files_wanted}
 use Rattle.fq_plan.specs.Run.{IsEngineFault, engine_fault}
 use Rattle.fq_plan.specs.Stages.{query_of, Leads}
-use Rattle.fq_plan.specs.Standing.{TailTakes}
 use Rattle.fq_plan.specs.Working.{work_on}
 use Rattle.fq_plan.specs.declared.gathering.Gathered.{Gathered}
 use Rattle.fq_plan.specs.declared.stages.CheckedSource.{CheckedSource}
 use Rattle.fq_plan.specs.declared.stages.Stage.{Stage}
 use Rattle.fq_plan.proofs.GatheredLemmas.{has-gathered}
 use Rattle.fq_plan.proofs.CheckedOutcomeLemmas.{leads-over}
+use Rattle.fq_plan.proofs.LogLemmas.{Takes-one}
 use Rattle.fq_plan.proofs.RunStartLemmas.{count-layouts, join-count, length-opened, opened-open}
 use Rattle.fq_plan.proofs.checks.Checked.gather.Given.{Over}
 use Rattle.fq_plan.proofs.checks.Checked.gather.Goals as goal
@@ -54,12 +54,12 @@ run_lanes-tail-requires-clause-open g c κs within =
 
 -- what the threads did
 finished : (g : Over) (c : In_ok-outcome g) →
-    Finishes MayCome (λ file item out. out ≡ work_on c.self.inside.leading.front (c.self.inside.inputs - c.self.inside.main.files) file item) TailTakes
+    Finishes MayCome (λ file item out. out ≡ work_on c.self.inside.leading.front (c.self.inside.inputs - c.self.inside.main.files) file item) (Takes-one (λ t. t.join_files) (λ t. t.state))
     c.in_ok-feeds.feeds.items c.new-tail.result c.in_ok-outcome.field-0.trace.items c.run_lanes-tail.result.0
 finished g c =
     let s = c.self.inside in
     let joins-are = c.self.invariant.1 ∙ sym (join-count (s.joins.items ++ s.main ∷ []) s.leading.front s.stages.items s.inputs c.self.invariant.0 c.self.inside.joins.items c.self.inside.main refl) in
-    let Done : ℕ → Report → Type 0 = λ joins report. Finishes MayCome (λ file item out. out ≡ work_on c.self.inside.leading.front joins file item) TailTakes
+    let Done : ℕ → Report → Type 0 = λ joins report. Finishes MayCome (λ file item out. out ≡ work_on c.self.inside.leading.front joins file item) (Takes-one (λ t. t.join_files) (λ t. t.state))
     c.in_ok-feeds.feeds.items c.new-tail.result report.trace.items c.run_lanes-tail.result.0 in
     subst (λ joins. Done joins c.in_ok-outcome.field-0) joins-are
     (subst (λ (r : Result Report RunFault). IfOk r (Done s.leading.join_files)) c.in_ok-outcome.was c.run_lanes-tail.ensures.done)
@@ -90,8 +90,8 @@ returns-clause-gathered g c =
     let joins = s.joins.items in
     let main = s.main in
     let count : length c.args.inputs.items ≡ files_wanted (query_of (s.joins.items ++ s.main ∷ []) s.leading.front s.stages.items) = omega (arith, c.args.inputs.ok.0, c.requires.inputs, ap files_wanted c.self.view_is) in
-    subst (λ (p : Query). HasGathered g.R.Read.remaining c.args.inputs.items p c.args.batch_size c.run_lanes-tail.result.0 c.in_ok-outcome.field-0.trace.items) c.self.view_is
-    (has-gathered (s.joins.items ++ s.main ∷ []) s.leading.front s.stages.items s.inputs checked joins main refl g.R.Read.remaining c.args.inputs.items c.args.batch_size c.in_ok-feeds.feeds.items
+    subst (λ (p : Query). HasGathered g.R.Read.remaining c.args.inputs.items p c.args.batch_size c.run_lanes-tail.result.0.state c.in_ok-outcome.field-0.trace.items) c.self.view_is
+    (has-gathered (s.joins.items ++ s.main ∷ []) s.leading.front s.stages.items s.inputs checked joins main refl (λ t. t.join_files) (λ t. t.state) g.R.Read.remaining c.args.inputs.items c.args.batch_size c.in_ok-feeds.feeds.items
     c.new-tail.result c.run_lanes-tail.result.0 c.in_ok-outcome.field-0.trace.items
     (omega (arith, c.requires.batch_size.0)) count
     (c.in_ok-feeds.ensures ∙ ap (λ fss. opened (g.R.Read.remaining) c.args.batch_size 0 fss c.args.inputs.items) (c.in_ok-layouts.ensures ∙ ap (λ (js : List CheckedSource). flat_map (λ (s : CheckedSource). replicate s.files s.layout) (js ++ c.self.inside.main ∷ [])) c.as_slice-joins.ensures.value))

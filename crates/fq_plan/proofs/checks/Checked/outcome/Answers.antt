@@ -15,9 +15,6 @@ use Rattle.fq_plan.proofs.checks.Checked.outcome.Given.{Over}
 use Rattle.fq_plan.proofs.checks.Checked.outcome.Goals as goal
 use Rattle.fq_plan.proofs.checks.Checked.outcome.Goals.{In_ok-text}
 
-pub finish-requires : goal.finish-requires
-finish-requires g c = let all = c.in_ok-tail.ensures.gathered in (all.stages, (all.n, (all.after, (all.joins, (all.main, (all.leads, all.stands))))))
-
 pub returns-in_err-text-clause-fault : goal.returns-in_err-text-clause-fault
 returns-in_err-text-clause-fault g c files tell =
     let all = c.in_ok-tail.ensures.gathered in

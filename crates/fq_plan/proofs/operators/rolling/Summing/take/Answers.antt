@@ -16,6 +16,7 @@ use Rattle.fq_plan.proofs.StageLemmas.{roll-accepted}
 use Rattle.fq_plan.proofs.OperatorLemmas.{further, height-of-more, not-faulted, summed-kept, summed-next}
 use Rattle.fq_plan.proofs.operators.rolling.Summing.take.Goals.{In_ok-sums, Joined-out_of_range, in-Some, in-None}
 use Rattle.fq_plan.proofs.operators.rolling.Summing.take.Goals as goal
+use Rattle.fq_column.specs.declared.schemas.TheConstants.{MAX_COLUMNS}
 
 pub take-requires-clause-kind : goal.take-requires-clause-kind
 take-requires-clause-kind c =
@@ -56,7 +57,7 @@ put-requires-clause-room c =
     let m = c.requires.0 in let h = c.requires.1.1.2 in let s = c.args.self.now in
     let columns : put_named c.cut.new.self.fields (s.name.now, c.in_ok-sums.sums.kind) ≡ put_named m.takes (s.name.now, Whole) =
     λ i. put_named ((ap (λ (f : Frame). f.fields) c.cut.ensures ∙ sym c.requires.1.1.0) i) (s.name.now, c.in_ok-sums.ensures.kind i) in
-    subst (λ (f : Fields). length f ≤ 64) (sym columns) (roll-accepted m.takes h.column s.rolling.window s.rolling.min_samples s.name.now h.accepted).room
+    subst (λ (f : Fields). length f ≤ MAX_COLUMNS) (sym columns) (roll-accepted m.takes h.column s.rolling.window s.rolling.min_samples s.name.now h.accepted).room
 
 -- the fault of the sums
 ends : (c : Joined-out_of_range) → c.match-out_of_range.fault ≡ option_map (λ _. RollRange c.args.self.now.number) c.in_ok-sums.out_of_range
