@@ -1,4 +1,4 @@
-"""Rows of calls of the libraries, in which each allocation fails in turn: the tests of tests/src/refusals.rt.txt."""
+"""Rows of calls of the libraries, in which each allocation fails in turn: the trials of trials/src/refusals.rt.txt."""
 import os
 import re
 import shutil
@@ -23,11 +23,11 @@ def build_calls(room):
     second name while the tests run.
     """
     os.mkdir(room)
-    subprocess.run([f"{ROOT}/tests/stage", f"{room}/staged"], check=True)
+    subprocess.run([f"{ROOT}/trials/stage", f"{room}/staged"], check=True)
     program, said = f"{room}/calls", f"{room}/said"
     command = ["rt", "try", "--test", "--fail-alloc", str(FAILED_ALLOCATION), "--", "refusals::"]
     with open(said, "wb") as out:
-        tried = subprocess.Popen(command, cwd=f"{room}/staged/crates/fq_tests", stdin=subprocess.DEVNULL, stdout=out, stderr=out,
+        tried = subprocess.Popen(command, cwd=f"{room}/staged/crates/fq_trials", stdin=subprocess.DEVNULL, stdout=out, stderr=out,
                                  env={**os.environ, "TMPDIR": room})
         began = time.monotonic()
         while tried.poll() is None and time.monotonic() - began < LONGEST_BUILD:

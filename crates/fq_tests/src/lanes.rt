@@ -1,0 +1,3 @@
+//! What no contract of `fq_lanes` says: that the calls succeed, over lists worked by hand.
+mod lane;
+mod sink;

@@ -1,0 +1,3 @@
+//! Plans: which texts are none, and which the check refuses.
+mod checks;
+mod reading;
