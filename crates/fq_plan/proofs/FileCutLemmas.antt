@@ -7,12 +7,12 @@ use Rattle.fq_column.specs.Frame.{Fields, Frame, Row}
 use Rattle.fq_column.specs.Lists.{zip_with}
 use Rattle.fq_column.specs.Stream.{Stream, done, rename_fault}
 use Rattle.fq_plan.specs.Cuts.{joined, source_rows, GiveTheSameRows}
-use Rattle.fq_plan.specs.Meaning.{frames_of, meaning, outcome}
-use Rattle.fq_plan.specs.Plan.{Source, PlanStep, Query, but_last, files_wanted, join_files, last_or, main_fields}
-use Rattle.fq_plan.specs.Sources.{concat_streams, first_fault, scan_fault, source_streams}
-use Rattle.fq_plan.specs.declared.faults.Fault.{Fault}
-use Rattle.fq_plan.proofs.SourceOfFileLemmas.{HasMain, has_main, wanted-main}
-use Rattle.fq_plan.proofs.SplitLemmas.{but_last-snoc, last_or-snoc}
+use Rattle.fq_plan.specs.Meaning.{meaning, outcome}
+use Rattle.fq_plan.specs.Plan.{PlanStep, Query, files_wanted, join_files, main_fields}
+use Rattle.fq_run.specs.Sources.{Source, but_last, concat_streams, first_fault, frames_of, last_or, scan_fault, source_streams}
+use Rattle.fq_run.specs.declared.faults.Fault.{Fault}
+use Rattle.fq_run.proofs.LastLemmas.{but_last-snoc, last_or-snoc}
+use Rattle.fq_run.proofs.SourceOfFileLemmas.{HasMain, has_main, wanted-main}
 
 -- a sum of files over the first source and the rest
 sum-first : (s : Source) (sources : List Source) → sum_by (λ (t : Source). t.files) (s ∷ sources) ≡ s.files + sum_by (λ (t : Source). t.files) sources
@@ -60,14 +60,14 @@ by_rows steps fields rows =
     let joins : List (Stream Fault) = map done (but_last rows) in
     elim (first_fault joins) [ Some f ↦ Err f | None ↦ outcome (zip_with frame_of (but_last fields) joins) 0 (last_or [] fields) steps (done (last_or [] rows)) ]
 
-meaning-by-rows : (p : Query) (main : Source) → HasMain p main → (files : List (List Row)) → length files ≡ files_wanted p →
+meaning-by-rows : (p : Query) (main : Source) → HasMain p.sources main → (files : List (List Row)) → length files ≡ files_wanted p →
     meaning p (map done files) ≡ by_rows p.steps (map (λ (s : Source). s.fields) p.sources) (source_rows p.sources files)
 unfolding by_rows
 meaning-by-rows p main h files count =
     let joins : List Source = but_last p.sources in
     let rows : List (List Row) = source_rows p.sources files in
     let last : List Row = joined (drop (join_files p) files) in
-    let left : length (drop (join_files p) files) ≡ main.files = omega (arith, length-drop (join_files p) files, count, wanted-main p main h, h.files) in
+    let left : length (drop (join_files p) files) ≡ main.files = omega (arith, length-drop (join_files p) files, count, wanted-main p.sources main h, h.files) in
     let parts : rows ≡ source_rows joins files ++ last ∷ [] =
     ap (λ ss. source_rows ss files) h.all ∙ rows-last joins main files
     ∙ ap (λ rs. source_rows joins files ++ joined rs ∷ []) (take_all main.files (drop (join_files p) files) (omega (arith, left))) in
@@ -93,8 +93,8 @@ pub same-rows : (p q : Query) (files other : List (List Row)) → 0 < length p.s
 same-rows p q files other some h =
     let fields : Source → Fields = λ s. s.fields in
     let count : length p.sources ≡ length q.sources = sym (length-map p.sources fields) ∙ ap length h.columns ∙ length-map q.sources fields in
-    let first = has_main p some in
-    let second = has_main q (omega (arith, some, count)) in
+    let first = has_main p.sources some in
+    let second = has_main q.sources (omega (arith, some, count)) in
     meaning-by-rows p first.0 first.1 files h.count
     ∙ (λ i. by_rows (h.steps i) (h.columns i) (h.rows i))
     ∙ sym (meaning-by-rows q second.0 second.1 other h.other_count)

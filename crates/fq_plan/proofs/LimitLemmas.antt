@@ -6,12 +6,13 @@ use Rattle.std.proofs.lemmas.List.Elements.{All-nil, All-cons}
 use Rattle.serde_json.specs.Data.{Data, Items, no_items, item}
 use Rattle.serde_json.specs.Find.{get, as_array}
 use Rattle.fq_ops.specs.Roll.{is_from_to}
-use Rattle.fq_plan.specs.Plan.{Source}
+use Rattle.fq_run.specs.Sources.{Source}
 use Rattle.fq_plan.specs.Parts.{given, only_if, items_as, each_of, member, has_members, whole, whole_from_to, pair_of, name_of, with_length, word}
 use Rattle.fq_plan.specs.Spelling.{kinds, names, source_of, source_with}
 use Rattle.fq_plan.specs.declared.plans.Version.{Version}
 use Rattle.fq_plan.specs.declared.plans.Version.TheVariants.{One, Two}
-use Rattle.fq_plan.specs.declared.plans.TheConstants.{MAX_FILES, MAX_NULL_VALUES}
+use Rattle.fq_plan.specs.declared.plans.TheConstants.{MAX_NULL_VALUES}
+use Rattle.fq_run.specs.declared.physical_plans.TheConstants.{MAX_FILES}
 
 module _ {X Y : Type 0} where
   pub given-some : (o : Option X) (f : X → Option Y) (y : Y) → Some y ≡ given o f → (x : X) × (Some x ≡ o) × (Some y ≡ f x)

@@ -1,21 +1,26 @@
--- A plan, by its sources with their schemas, its leading row-wise steps and the stages after them.
+-- A plan, by its sources with their schemas, its leading row-wise steps and the stages after them, as a physical plan.
 use Rattle.std.proofs.Common.{◌≡◌, ℕ, ◌+◌, List, [], ◌∷◌, ◌++◌, map, length, Option, Some, None, Result, Ok, Err, refl, ap, sym, ◌∙◌, subst, arith, append-nil}
 use Rattle.std.specs.Prelude.{IsOk}
 use Rattle.std.specs.Result.{result_map_both}
-use Rattle.std.proofs.lemmas.List.{map-append}
+use Rattle.std.proofs.lemmas.List.{length-map, map-append}
 use Rattle.fq_column.specs.Frame.{Fields}
 use Rattle.fq_expr.specs.Expression.{Step}
 use Rattle.fq_expr.specs.Front.{NumberedSteps}
 use Rattle.fq_expr.specs.Kinds.{steps_schema}
 use Rattle.fq_plan.specs.Judged.{checked, judged, judged_steps, source_refusal}
-use Rattle.fq_plan.specs.Plan.{Source, PlanStep, row_wise, Query, IsWithinLimits, but_last, files_wanted, front_of, join_fields, last_or, main_fields, rest_of}
-use Rattle.fq_plan.specs.Stages.{checked_fields, checked_source_data, query_of, stage_steps, IsChecked, Leads}
+use Rattle.fq_plan.specs.Plan.{PlanStep, row_wise, Query, IsWithinLimits, files_wanted, front_of, join_fields, main_fields, rest_of}
+use Rattle.fq_run.specs.Sources.{Source, but_last, last_or}
+use Rattle.fq_plan.specs.Stages.{columns_of, query_of, stage_steps, IsChecked, Leads}
+use Rattle.fq_run.specs.Physical.{Physical, front_fields}
+use Rattle.fq_run.specs.Stages.{physical_of, source_of_files, Fit, IsRunnable}
 use Rattle.fq_plan.specs.declared.faults.CheckFault.{CheckFault}
-use Rattle.fq_plan.specs.declared.stages.CheckedSource.{CheckedSource}
-use Rattle.fq_plan.specs.declared.stages.Stage.{Stage}
+use Rattle.fq_run.specs.declared.stages.SourceFiles.{SourceFiles}
+use Rattle.fq_run.specs.declared.stages.Stage.{Stage}
 use Rattle.fq_plan.proofs.LeadingStepLemmas.{front-rest}
 use Rattle.fq_plan.proofs.CheckLemmas.{refusal_in, refusal-is, no-refusal, rows-passed, stages-passed}
-use Rattle.fq_plan.proofs.SplitLemmas.{but_last-snoc, last_or-snoc, no_more_leading}
+use Rattle.fq_plan.proofs.StageMeaning.{fits}
+use Rattle.fq_run.proofs.LastLemmas.{but_last-snoc, last_or-snoc}
+use Rattle.fq_run.proofs.StageLemmas.{fields-after-all}
 
 -- ---- the judgement of a plan, by that of its sources and of its steps
 
@@ -45,76 +50,92 @@ steps-are steps leading front rest r = (λ i. map row_wise (front i) ++ r i) ∙
 
 -- ---- the sources before the last, and the last
 
-module _ (sources joins : List CheckedSource) (main : CheckedSource) (parts : sources ≡ joins ++ main ∷ []) where
+module _ (sources joins : List SourceFiles) (main : SourceFiles) (parts : sources ≡ joins ++ main ∷ []) where
   abbrev pub query : List PlanStep → Query
-  query steps = record { sources = map checked_source_data sources; steps = steps }
+  query steps = record { sources = map source_of_files sources; steps = steps }
 
-  fields-of : (xs : List CheckedSource) → map (λ (s : Source). s.fields) (map checked_source_data xs) ≡ checked_fields xs
+  fields-of : (xs : List SourceFiles) → map (λ (s : Source). s.fields) (map source_of_files xs) ≡ columns_of xs
   fields-of [] = refl
   fields-of (x ∷ xs) = ap (λ fs. x.layout.schema ∷ fs) (fields-of xs)
 
-  pub joins-are : (steps : List PlanStep) → join_fields (query steps) ≡ checked_fields joins
+  pub joins-are : (steps : List PlanStep) → join_fields (query steps) ≡ columns_of joins
   joins-are steps =
-      ap (λ ss. map (λ (s : Source). s.fields) (but_last ss)) (ap (map checked_source_data) parts ∙ map-append checked_source_data joins (main ∷ []))
-      ∙ ap (map (λ (s : Source). s.fields)) (but_last-snoc (map checked_source_data joins) (checked_source_data main))
+      ap (λ ss. map (λ (s : Source). s.fields) (but_last ss)) (ap (map source_of_files) parts ∙ map-append source_of_files joins (main ∷ []))
+      ∙ ap (map (λ (s : Source). s.fields)) (but_last-snoc (map source_of_files joins) (source_of_files main))
       ∙ fields-of joins
 
   pub main-is : (steps : List PlanStep) → main_fields (query steps) ≡ main.layout.schema
   main-is steps =
-      ap (last_or []) (fields-of sources ∙ ap checked_fields parts ∙ map-append (λ (s : CheckedSource). s.layout.schema) joins (main ∷ []))
-      ∙ last_or-snoc [] (checked_fields joins) main.layout.schema
+      ap (last_or []) (fields-of sources ∙ ap columns_of parts ∙ map-append (λ (s : SourceFiles). s.layout.schema) joins (main ∷ []))
+      ∙ last_or-snoc [] (columns_of joins) main.layout.schema
 
   module _ (steps : List PlanStep) (leading : List Step) (front : leading ≡ front_of steps) where
-    judged-are : (rest : List PlanStep) → rest ≡ rest_of steps → steps_judged (query steps) ≡ judged_steps (checked_fields joins) 0 main.layout.schema (map row_wise leading ++ rest)
+    judged-are : (rest : List PlanStep) → rest ≡ rest_of steps → steps_judged (query steps) ≡ judged_steps (columns_of joins) 0 main.layout.schema (map row_wise leading ++ rest)
     judged-are rest r = λ i. judged_steps (joins-are steps i) 0 (main-is steps i) (sym (steps-are steps leading front rest r) i)
 
-    pub leading-refuses : (e : CheckFault) → source_refusal 0 (map checked_source_data sources) ≡ None →
+    pub leading-refuses : (e : CheckFault) → source_refusal 0 (map source_of_files sources) ≡ None →
         ((joins : List Fields) (rest : List PlanStep) → judged_steps joins 0 main.layout.schema (map row_wise leading ++ rest) ≡ Err e) → checked (query steps) ≡ Err e
-    leading-refuses e s h = step-refuses (query steps) e s (judged-are (rest_of steps) refl ∙ h (checked_fields joins) (rest_of steps))
+    leading-refuses e s h = step-refuses (query steps) e s (judged-are (rest_of steps) refl ∙ h (columns_of joins) (rest_of steps))
 
-    pub stages-refuse : (rest : List PlanStep) (mid : Fields) (e : CheckFault) → source_refusal 0 (map checked_source_data sources) ≡ None → rest ≡ rest_of steps →
-        steps_schema main.layout.schema leading ≡ Ok mid → judged_steps (checked_fields joins) (length leading) mid rest ≡ Err e → checked (query steps) ≡ Err e
+    pub stages-refuse : (rest : List PlanStep) (mid : Fields) (e : CheckFault) → source_refusal 0 (map source_of_files sources) ≡ None → rest ≡ rest_of steps →
+        steps_schema main.layout.schema leading ≡ Ok mid → judged_steps (columns_of joins) (length leading) mid rest ≡ Err e → checked (query steps) ≡ Err e
     stages-refuse rest mid e s r h g =
         step-refuses (query steps) e s
         (judged-are rest r
-        ∙ refusal-is (judged_steps (checked_fields joins) 0 main.layout.schema (map row_wise leading ++ rest)) e
-        (rows-passed (checked_fields joins) 0 main.layout.schema leading rest mid h
-        ∙ ap (λ n. refusal_in (judged_steps (checked_fields joins) n mid rest)) (let q : 0 + length leading ≡ length leading = omega arith in q)
+        ∙ refusal-is (judged_steps (columns_of joins) 0 main.layout.schema (map row_wise leading ++ rest)) e
+        (rows-passed (columns_of joins) 0 main.layout.schema leading rest mid h
+        ∙ ap (λ n. refusal_in (judged_steps (columns_of joins) n mid rest)) (let q : 0 + length leading ≡ length leading = omega arith in q)
         ∙ ap refusal_in g))
 
     -- ---- a plan that is not refused
 
-    module _ (stages : List Stage) (mid after : Fields) (rest : stage_steps stages ≡ rest_of steps) (passed : source_refusal 0 (map checked_source_data sources) ≡ None)
-        (to_mid : steps_schema main.layout.schema leading ≡ Ok mid) (leads : Leads (checked_fields joins) (length leading) mid stages after) where
+    module _ (stages : List Stage) (mid after : Fields) (rest : stage_steps stages ≡ rest_of steps) (passed : source_refusal 0 (map source_of_files sources) ≡ None)
+        (to_mid : steps_schema main.layout.schema leading ≡ Ok mid) (leads : Leads (columns_of joins) (length leading) mid stages after) where
       abbrev pub in_front : NumberedSteps
       in_front = record { steps = leading; fields = main.layout.schema; first = 0 }
 
-      pub query-is : query_of sources in_front stages ≡ query steps
+      pub query-is : query_of (physical_of sources in_front stages) ≡ query steps
       query-is = ap query (steps-are steps leading front (stage_steps stages) rest)
 
-      pub prepared : (inputs : ℕ) → IsWithinLimits (query steps) → inputs ≡ files_wanted (query steps) → IsChecked sources in_front stages inputs
-      prepared inputs limits count = record {
+      -- the main source's columns, and those after the leading steps
+      on-main : main_fields (query (map row_wise leading ++ stage_steps stages)) ≡ main.layout.schema
+      on-main = main-is (map row_wise leading ++ stage_steps stages)
+
+      steps-to-mid : steps_schema (main_fields (query (map row_wise leading ++ stage_steps stages))) leading ≡ Ok mid
+      steps-to-mid = ap (λ fs. steps_schema fs leading) on-main ∙ to_mid
+
+      pub prepared : IsWithinLimits (query steps) → IsChecked (physical_of sources in_front stages)
+      prepared limits = record {
         limits = subst IsWithinLimits (sym query-is) limits;
         schemas = passed;
-        inputs_wanted = count ∙ ap files_wanted (sym query-is);
+        leads = (mid, after, steps-to-mid, subst (λ js. Leads js (length leading) mid stages after) (sym (joins-are (map row_wise leading ++ stage_steps stages))) leads);
+      }
+
+      pub runnable : (inputs : ℕ) → IsWithinLimits (query steps) → inputs ≡ files_wanted (query steps) → IsRunnable sources in_front stages inputs
+      runnable inputs limits count = record {
+        some_source = omega (arith, limits.some_source, length-map sources source_of_files);
+        inputs_wanted = count;
+        few_files = limits.few_files;
         from_first = refl;
-        on_main = sym (main-is (map row_wise leading ++ stage_steps stages));
-        no_more_leading = ap front_of rest ∙ no_more_leading steps;
-        leads = (mid, after, to_mid, subst (λ js. Leads js (length leading) mid stages after) (sym (joins-are (map row_wise leading ++ stage_steps stages))) leads);
+        on_main = sym on-main;
+        fits = (
+          after,
+          subst (λ js. Fit js (front_fields (physical_of sources in_front stages)) stages after) (sym (joins-are (map row_wise leading ++ stage_steps stages)))
+              (subst (λ fs. Fit (columns_of joins) fs stages after) (sym (fields-after-all (main_fields (query (map row_wise leading ++ stage_steps stages))) mid leading steps-to-mid))
+              (fits (columns_of joins) (length leading) mid stages after leads)),
+        );
       }
 
 -- what a checked plan holds is not refused
-pub checked-passes : (sources : List CheckedSource) (front : NumberedSteps) (stages : List Stage) (inputs : ℕ) → IsChecked sources front stages inputs → IsOk (judged (query_of sources front stages))
-checked-passes sources front stages inputs c =
-    let p : Query = query_of sources front stages in
-    let js : List Fields = join_fields p in
-    plan-passes p c.schemas
-    (ap (λ fs. refusal_in (judged_steps js 0 fs p.steps)) (sym c.on_main)
-    ∙ rows-passed js 0 front.fields front.steps (stage_steps stages) c.leads.0 c.leads.2
-    ∙ ap (λ n. refusal_in (judged_steps js n c.leads.0 (stage_steps stages))) (let q : 0 + length front.steps ≡ length front.steps = omega arith in q)
-    ∙ ap (λ ss. refusal_in (judged_steps js (length front.steps) c.leads.0 ss)) (sym (append-nil (stage_steps stages)))
-    ∙ stages-passed js (length front.steps) c.leads.0 stages [] c.leads.1 c.leads.3)
+pub checked-passes : (p : Physical) → IsChecked p → IsOk (judged (query_of p))
+checked-passes p c =
+    let q : Query = query_of p in
+    let js : List Fields = join_fields q in
+    plan-passes q c.schemas
+    (rows-passed js 0 (main_fields q) p.front (stage_steps p.stages) c.leads.0 c.leads.2
+    ∙ ap (λ n. refusal_in (judged_steps js n c.leads.0 (stage_steps p.stages))) (let e : 0 + length p.front ≡ length p.front = omega arith in e)
+    ∙ ap (λ ss. refusal_in (judged_steps js (length p.front) c.leads.0 ss)) (sym (append-nil (stage_steps p.stages)))
+    ∙ stages-passed js (length p.front) c.leads.0 p.stages [] c.leads.1 c.leads.3)
 
-pub checked-is : (sources : List CheckedSource) (front : NumberedSteps) (stages : List Stage) (inputs : ℕ) → IsChecked sources front stages inputs →
-    checked (query_of sources front stages) ≡ Ok (query_of sources front stages)
-checked-is sources front stages inputs c = ok-is (query_of sources front stages) (judged (query_of sources front stages)) (checked-passes sources front stages inputs c)
+pub checked-is : (p : Physical) → IsChecked p → checked (query_of p) ≡ Ok (query_of p)
+checked-is p c = ok-is (query_of p) (judged (query_of p)) (checked-passes p c)

@@ -1,11 +1,10 @@
--- Lists taken apart: at a place, before the last item, and after the leading row-wise steps.
-use Rattle.std.proofs.Common.{◌≡◌, ℕ, zero, suc, ◌+◌, ◌-◌, ◌<◌, ◌≤◌, List, [], ◌∷◌, ◌++◌, map, take, drop, length, get_or, refl, ap, sym, ◌∙◌, arith, length-append}
-use Rattle.std.specs.Prelude.{slice_index_or}
+-- Lists taken apart: at a place, and after the leading row-wise steps.
+use Rattle.std.proofs.Common.{◌≡◌, ℕ, zero, suc, ◌+◌, ◌<◌, ◌≤◌, List, [], ◌∷◌, ◌++◌, map, take, drop, length, get_or, refl, ap, sym, ◌∙◌, arith}
 use Rattle.std.proofs.lemmas.List.{length-map, map-append}
 use Rattle.fq_expr.specs.Expression.{Step}
 use Rattle.fq_expr.specs.ExpressionData.{step_of}
 use Rattle.fq_expr.specs.declared.steps.RowStep.{RowStep}
-use Rattle.fq_plan.specs.Plan.{PlanStep, row_wise, join, group_by, rolling_sum, but_last, last_or, front_of, rest_of}
+use Rattle.fq_plan.specs.Plan.{PlanStep, row_wise, join, group_by, rolling_sum, front_of, rest_of}
 use Rattle.fq_plan.specs.View.{plan_step_of}
 use Rattle.fq_plan.specs.declared.plans.Step.{Step as PlannedStep}
 use Rattle.fq_plan.specs.declared.plans.Step.TheVariants.{Rows, Join, GroupBy, RollingSum}
@@ -23,35 +22,7 @@ module _ {X : Type 0} where
   take-further (y ∷ xs) zero x h e = ap (λ z. z ∷ []) (sym e)
   take-further (y ∷ xs) (suc i) x h e = ap (λ zs. y ∷ zs) (take-further xs i x (omega (arith, h)) e)
 
-  take-front : (xs ys : List X) → take (length xs) (xs ++ ys) ≡ xs
-  take-front [] ys = refl
-  take-front (x ∷ xs) ys = ap (λ zs. x ∷ zs) (take-front xs ys)
-
-  index-last : (xs : List X) (x d : X) → slice_index_or (xs ++ x ∷ []) (length xs) d ≡ x
-  index-last [] x d = refl
-  index-last (y ∷ xs) x d = index-last xs x d
-
-  length-last : (xs : List X) (x : X) → length (xs ++ x ∷ []) - 1 ≡ length xs
-  length-last xs x = omega (arith, length-append xs (x ∷ []))
-
-  pub but_last-snoc : (xs : List X) (x : X) → but_last (xs ++ x ∷ []) ≡ xs
-  but_last-snoc xs x = ap (λ n. take n (xs ++ x ∷ [])) (length-last xs x) ∙ take-front xs (x ∷ [])
-
-  pub last_or-snoc : (d : X) (xs : List X) (x : X) → last_or d (xs ++ x ∷ []) ≡ x
-  last_or-snoc d xs x = ap (λ n. slice_index_or (xs ++ x ∷ []) n d) (length-last xs x) ∙ index-last xs x d
-
-  -- two lists with a last item
-  pub same-ends : (xs ys : List X) (x y : X) → xs ++ x ∷ [] ≡ ys ++ y ∷ [] → (xs ≡ ys) × (x ≡ y)
-  same-ends xs ys x y e = (sym (but_last-snoc xs x) ∙ ap but_last e ∙ but_last-snoc ys y, sym (last_or-snoc x xs x) ∙ ap (last_or x) e ∙ last_or-snoc x ys y)
-
 -- ---- leading row-wise steps
-
-pub no_more_leading : (steps : List PlanStep) → front_of (rest_of steps) ≡ []
-no_more_leading [] = refl
-no_more_leading (row_wise s ∷ steps) = no_more_leading steps
-no_more_leading (join source on how nulls_equal ∷ steps) = refl
-no_more_leading (group_by keys aggs ∷ steps) = refl
-no_more_leading (rolling_sum column window m name ∷ steps) = refl
 
 -- one more step, if all before it are leading
 pub leading-further : (steps : List PlanStep) (s : Step) → rest_of steps ≡ [] → (front_of (steps ++ row_wise s ∷ []) ≡ front_of steps ++ (s ∷ [])) × (rest_of (steps ++ row_wise s ∷ []) ≡ [])

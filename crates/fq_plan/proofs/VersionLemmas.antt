@@ -5,14 +5,16 @@ use Rattle.serde_json.specs.Data.{Data, Items, no_items, item}
 use Rattle.serde_json.specs.Find.{get, as_array}
 use Rattle.fq_column.specs.Frame.{Fields}
 use Rattle.fq_plan.specs.Parts.{given, only_if, items_as, each_of, member, has_members, whole_from_to, pair_of, name_of, with_length, word}
-use Rattle.fq_plan.specs.Plan.{PlanStep, Query, Source}
+use Rattle.fq_plan.specs.Plan.{PlanStep, Query}
+use Rattle.fq_run.specs.Sources.{Source}
 use Rattle.fq_plan.specs.Spelling.{kinds, names, plan_of, source_of, source_with, step_of, version_of}
 use Rattle.fq_plan.specs.Versions.{IsNextVersion, IsOldStep}
 use Rattle.fq_plan.specs.declared.plans.Version.{Version}
 use Rattle.fq_plan.specs.declared.plans.Version.TheVariants.{One, Two}
 use Rattle.fq_plan.proofs.LimitLemmas.{given-some, items_as-all}
 use Rattle.fq_plan.proofs.StepVersionLemmas.{old-step}
-use Rattle.fq_plan.specs.declared.plans.TheConstants.{MAX_FILES, MAX_NULL_VALUES, MAX_SOURCES}
+use Rattle.fq_plan.specs.declared.plans.TheConstants.{MAX_NULL_VALUES, MAX_SOURCES}
+use Rattle.fq_run.specs.declared.physical_plans.TheConstants.{MAX_FILES}
 use Rattle.fq_expr.specs.declared.fronts.TheConstants.{MAX_STEPS}
 
 -- ---- sources

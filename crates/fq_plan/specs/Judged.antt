@@ -10,7 +10,8 @@ use Rattle.fq_expr.specs.Kinds.{step_schema}
 use Rattle.fq_ops.specs.Join.{join_schema}
 use Rattle.fq_ops.specs.Group.{group_schema}
 use Rattle.fq_ops.specs.Roll.{roll_schema}
-use Rattle.fq_plan.specs.Plan.{Source, PlanStep, row_wise, join, group_by, rolling_sum, Query, item_at, join_fields, main_fields}
+use Rattle.fq_plan.specs.Plan.{PlanStep, row_wise, join, group_by, rolling_sum, Query, item_at, join_fields, main_fields}
+use Rattle.fq_run.specs.Sources.{Source}
 use Rattle.fq_plan.specs.declared.faults.CheckFault.{CheckFault}
 use Rattle.fq_plan.specs.declared.faults.Place.{Place}
 use Rattle.fq_plan.specs.declared.faults.Place.TheVariants as place

@@ -1,8 +1,7 @@
 -- What a plan means over its files' streams: a frame, or one fault. Steps are numbered from 0, and the outputs of a step from 0.
-use Rattle.std.specs.Prelude.{ℕ, ◌+◌, nat_abs, List, [], ◌∷◌, map, drop, Some, None, Result, Ok, Err}
+use Rattle.std.specs.Prelude.{ℕ, ◌+◌, nat_abs, List, [], ◌∷◌, map, drop, Some, None, Result, Err}
 use Rattle.std.specs.Result.{result_unwrap_or}
 use Rattle.fq_column.specs.Frame.{Fields, Frame}
-use Rattle.fq_column.specs.Lists.{zip_with}
 use Rattle.fq_column.specs.Stream.{Stream, rename_fault}
 use Rattle.fq_csv.specs.declared.faults.ScanFault.{ScanFault}
 use Rattle.fq_expr.specs.Steps.{apply_step}
@@ -10,14 +9,12 @@ use Rattle.fq_ops.specs.Group.{group_stream}
 use Rattle.fq_ops.specs.Join.{join_stream}
 use Rattle.fq_ops.specs.Roll.{roll_stream}
 use Rattle.fq_plan.specs.Judged.{judged_step}
-use Rattle.fq_plan.specs.Plan.{Source, PlanStep, row_wise, join, group_by, rolling_sum, Query, but_last, item_at, join_files, main_fields}
-use Rattle.fq_plan.specs.Sources.{concat_streams, first_fault, scan_fault, source_streams}
-use Rattle.fq_plan.specs.declared.faults.Fault.{Fault}
-use Rattle.fq_plan.specs.declared.faults.Fault.TheVariants.{Overflow, JoinRows, RollRange, SumRange}
-
--- the most rows that a join gives
-abbrev pub join_room : ℕ
-join_room = 4294967295
+use Rattle.fq_plan.specs.Plan.{PlanStep, row_wise, join, group_by, rolling_sum, Query, item_at, join_files, main_fields}
+use Rattle.fq_run.specs.Outcome.{frame_or_fault}
+use Rattle.fq_run.specs.Sources.{but_last, concat_streams, first_fault, frames_of, scan_fault, source_streams}
+use Rattle.fq_run.specs.Transforms.{join_room}
+use Rattle.fq_run.specs.declared.faults.Fault.{Fault}
+use Rattle.fq_run.specs.declared.faults.Fault.TheVariants.{Overflow, JoinRows, RollRange, SumRange}
 
 -- below, `joins` are the sources before the last
 module _ (joins : List Frame) where
@@ -37,17 +34,9 @@ module _ (joins : List Frame) where
   apply_plan_steps n fields [] u = (fields, u)
   apply_plan_steps n fields (s ∷ steps) u = apply_plan_steps (n + 1) (fields_after fields s) steps (apply_plan_step n fields s u)
 
--- a stream as a frame of these columns, or the fault in which it ends
-abbrev pub frame_or_fault : Fields → Stream Fault → Result Frame Fault
-frame_or_fault fields u = elim u.fault [ None ↦ Ok (record { fields = fields; rows = u.rows }) | Some f ↦ Err f ]
-
 -- what steps, numbered from n, make of the main stream
 abbrev pub outcome : List Frame → ℕ → Fields → List PlanStep → Stream Fault → Result Frame Fault
 outcome joins n fields steps u = let after = apply_plan_steps joins n fields steps u in frame_or_fault after.0 after.1
-
--- the sources' columns with the rows of their streams
-abbrev pub frames_of : List Source → List (Stream Fault) → List Frame
-frames_of sources us = zip_with (λ s u. record { fields = s.fields; rows = u.rows }) sources us
 
 -- the meaning over the streams of the sources before the last, and of the last: the first fault of the former, even if no
 -- step uses that source, or else what the steps make of the latter

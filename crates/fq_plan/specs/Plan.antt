@@ -1,18 +1,16 @@
 -- A plan: its sources, of which the last is the main one, and its steps.
-use Rattle.std.specs.Prelude.{ℕ, ℤ, Bool, pos, negsuc, ◌-◌, ◌≤◌, All, List, [], ◌∷◌, length, take, map, sum_by, flat_map, replicate, slice_get, slice_index_or, Option, None}
+use Rattle.std.specs.Prelude.{ℕ, ℤ, Bool, pos, negsuc, ◌≤◌, All, List, [], ◌∷◌, length, map, sum_by, flat_map, replicate, slice_get, Option, None}
 use Rattle.fq_column.specs.Frame.{Fields, Name}
+use Rattle.fq_column.specs.Stream.{Stream}
+use Rattle.fq_csv.specs.declared.faults.ScanFault.{ScanFault}
 use Rattle.fq_csv.specs.declared.layouts.Layout.{Layout}
 use Rattle.fq_expr.specs.Expression.{Step}
 use Rattle.fq_ops.specs.declared.joins.How.{How}
 use Rattle.fq_ops.specs.Aggregate.{Output}
 use Rattle.fq_expr.specs.declared.fronts.TheConstants.{MAX_STEPS}
-use Rattle.fq_plan.specs.declared.plans.TheConstants.{MAX_FILES, MAX_SOURCES}
-
--- a source: the number of its files, its columns, and the texts that are null in each of them
-pub record Source : Type 0 where
-  pub files : ℕ
-  pub fields : Fields
-  pub nulls : List (List ℕ)
+use Rattle.fq_plan.specs.declared.plans.TheConstants.{MAX_SOURCES}
+use Rattle.fq_run.specs.Sources.{Source, but_last, last_or, layout_of, streams_of_files}
+use Rattle.fq_run.specs.declared.physical_plans.TheConstants.{MAX_FILES}
 
 pub data PlanStep : Type 0 where
   row_wise : Step → PlanStep
@@ -23,14 +21,6 @@ pub data PlanStep : Type 0 where
 pub record Query : Type 0 where
   pub sources : List Source
   pub steps : List PlanStep
-
--- all but the last of a list
-abbrev pub but_last : {X : Type 0} → List X → List X
-but_last xs = take (length xs - 1) xs
-
--- the last of a list, or else x
-abbrev pub last_or : {X : Type 0} → X → List X → X
-last_or x xs = slice_index_or xs (length xs - 1) x
 
 -- the item at a place, which may be no place
 abbrev pub item_at : {X : Type 0} → List X → ℤ → Option X
@@ -45,12 +35,13 @@ files_wanted p = sum_by (λ s. s.files) p.sources
 abbrev pub join_files : Query → ℕ
 join_files p = sum_by (λ s. s.files) (but_last p.sources)
 
--- how the files of a source are read, and each file, in argument order
-abbrev pub layout_of : Source → Layout
-layout_of s = record { schema = s.fields; nulls = s.nulls }
-
+-- how each file is read, in argument order
 abbrev pub file_layouts : Query → List Layout
 file_layouts p = flat_map (λ s. replicate s.files (layout_of s)) p.sources
+
+-- the streams of the files' bytes
+abbrev pub file_streams : Query → List (List ℕ) → List (Stream ScanFault)
+file_streams p files = streams_of_files (file_layouts p) files
 
 -- the columns of the sources before the last, and of the last
 abbrev pub join_fields : Query → List Fields

@@ -16,13 +16,15 @@ use Rattle.fq_ops.specs.declared.joins.How.{How}
 use Rattle.fq_ops.specs.declared.joins.How.TheVariants.{Inner, Left, Semi, Anti}
 use Rattle.fq_ops.specs.Aggregate.{Aggregate, sum_of, min_of, max_of, count_of, len, first_of_all, last_of_all, unique_of, Output}
 use Rattle.fq_plan.specs.Parts.{given, only_if, word, name_of, whole, whole_from_to, each_of, with_length, two_items, three_items, pair_of, has_members, member, one_member}
-use Rattle.fq_plan.specs.Plan.{Source, PlanStep, row_wise, join, group_by, rolling_sum, Query}
+use Rattle.fq_plan.specs.Plan.{PlanStep, row_wise, join, group_by, rolling_sum, Query}
+use Rattle.fq_run.specs.Sources.{Source}
 use Rattle.fq_plan.specs.declared.faults.PlanFault.{PlanFault}
 use Rattle.fq_plan.specs.declared.faults.PlanFault.TheVariants.{Json, Shape}
 use Rattle.fq_plan.specs.declared.plans.Version.{Version}
 use Rattle.fq_plan.specs.declared.plans.Version.TheVariants.{One, Two}
 use Rattle.fq_expr.specs.declared.fronts.TheConstants.{MAX_STEPS}
-use Rattle.fq_plan.specs.declared.plans.TheConstants.{MAX_FILES, MAX_NULL_VALUES, MAX_SOURCES}
+use Rattle.fq_plan.specs.declared.plans.TheConstants.{MAX_NULL_VALUES, MAX_SOURCES}
+use Rattle.fq_run.specs.declared.physical_plans.TheConstants.{MAX_FILES}
 
 -- ---- expressions
 

@@ -1,21 +1,18 @@
--- What a checked plan holds: its sources with their schemas, its leading row-wise steps, and the stages after them.
+-- What a checked plan holds: a physical plan that does its steps.
 use Rattle.std.specs.Prelude.{◌≡◌, ℕ, ◌+◌, pos, List, [], ◌∷◌, ◌++◌, map, flat_map, length, string_bytes, None, Ok}
 use Rattle.fq_column.specs.Frame.{Fields}
-use Rattle.fq_expr.specs.Front.{NumberedSteps}
 use Rattle.fq_expr.specs.Kinds.{steps_schema}
 use Rattle.fq_ops.specs.AggregateData.{outputs_of}
 use Rattle.fq_plan.specs.Judged.{judged_step, source_refusal}
-use Rattle.fq_plan.specs.Plan.{Source, PlanStep, row_wise, join, group_by, rolling_sum, Query, IsWithinLimits, files_wanted, front_of, join_fields, main_fields}
-use Rattle.fq_plan.specs.declared.stages.CheckedSource.{CheckedSource}
-use Rattle.fq_plan.specs.declared.stages.Operator.{Operator}
-use Rattle.fq_plan.specs.declared.stages.Operator.TheVariants.{Rows, Join, GroupBy, RollingSum}
-use Rattle.fq_plan.specs.declared.stages.Stage.{Stage}
+use Rattle.fq_plan.specs.Plan.{PlanStep, row_wise, join, group_by, rolling_sum, Query, IsWithinLimits}
+use Rattle.fq_run.specs.Physical.{Physical, join_fields, main_fields}
+use Rattle.fq_run.specs.declared.stages.SourceFiles.{SourceFiles}
+use Rattle.fq_run.specs.declared.stages.Operator.{Operator}
+use Rattle.fq_run.specs.declared.stages.Operator.TheVariants.{Rows, Join, GroupBy, RollingSum}
+use Rattle.fq_run.specs.declared.stages.Stage.{Stage}
 
-abbrev pub checked_source_data : CheckedSource → Source
-checked_source_data s = record { files = s.files; fields = s.layout.schema; nulls = s.layout.nulls }
-
-abbrev pub checked_fields : List CheckedSource → List Fields
-checked_fields sources = map (λ s. s.layout.schema) sources
+abbrev pub columns_of : List SourceFiles → List Fields
+columns_of sources = map (λ s. s.layout.schema) sources
 
 -- the steps that an operator does
 abbrev pub operator_steps : Operator → List PlanStep
@@ -27,9 +24,9 @@ operator_steps (RollingSum column window min_samples name) = rolling_sum (string
 abbrev pub stage_steps : List Stage → List PlanStep
 stage_steps stages = flat_map (λ s. operator_steps s.operator) stages
 
--- the plan that sources, leading row-wise steps and stages are
-abbrev pub query_of : List CheckedSource → NumberedSteps → List Stage → Query
-query_of sources front stages = record { sources = map checked_source_data sources; steps = map row_wise front.steps ++ stage_steps stages }
+-- the plan that a physical plan does
+abbrev pub query_of : Physical → Query
+query_of p = record { sources = p.sources; steps = map row_wise p.front ++ stage_steps p.stages }
 
 -- below, `joins` are the columns of the sources before the last
 module _ (joins : List Fields) where
@@ -48,12 +45,7 @@ module _ (joins : List Fields) where
       (s.number ≡ n) × Turns n fields s.operator s.after × Leads (n + length (operator_steps s.operator)) s.after stages after
 
 -- the plan is not refused, and each operator has the number and the columns of its steps
-pub record IsChecked (sources : List CheckedSource) (front : NumberedSteps) (stages : List Stage) (inputs : ℕ) : Type 0 where
-  pub limits : IsWithinLimits (query_of sources front stages)
-  pub schemas : source_refusal 0 (map checked_source_data sources) ≡ None
-  pub inputs_wanted : inputs ≡ files_wanted (query_of sources front stages)
-  pub from_first : front.first ≡ 0
-  pub on_main : front.fields ≡ main_fields (query_of sources front stages)
-  pub no_more_leading : front_of (stage_steps stages) ≡ []
-  pub leads : (mid after : Fields) × (steps_schema front.fields front.steps ≡ Ok mid)
-      × Leads (join_fields (query_of sources front stages)) (length front.steps) mid stages after
+pub record IsChecked (p : Physical) : Type 0 where
+  pub limits : IsWithinLimits (query_of p)
+  pub schemas : source_refusal 0 p.sources ≡ None
+  pub leads : (mid after : Fields) × (steps_schema (main_fields p) p.front ≡ Ok mid) × Leads (join_fields p) (length p.front) mid p.stages after

@@ -5,7 +5,8 @@ use Rattle.fq_column.specs.declared.cells.Kind.{Kind}
 use Rattle.fq_column.specs.Frame.{Field}
 use Rattle.fq_expr.specs.ExpressionData.{step_of}
 use Rattle.fq_ops.specs.AggregateData.{outputs_of}
-use Rattle.fq_plan.specs.Plan.{Source as SourceData, PlanStep, row_wise, join, group_by, rolling_sum}
+use Rattle.fq_plan.specs.Plan.{PlanStep, row_wise, join, group_by, rolling_sum}
+use Rattle.fq_run.specs.Sources.{Source as SourceData}
 use Rattle.fq_plan.specs.declared.plans.Source.{Source}
 use Rattle.fq_plan.specs.declared.plans.Step.{Step}
 use Rattle.fq_plan.specs.declared.plans.Step.TheVariants.{Rows, Join, GroupBy, RollingSum}

@@ -5,11 +5,10 @@ ghost use Rattle.fq_plan.specs.Judged.{checked, judged, refused_at, IsPlaceOf};
 ghost use Rattle.fq_plan.specs.Plan.{files_wanted};
 
 use crate::faults::{CheckFault, Place};
-use crate::leading_steps::LeadingSteps;
 use crate::plans::{Plan, file_count};
-use crate::stages::{CheckedSource, Stage};
-use fq_column::{Schema, StepFault};
+use fq_column::StepFault;
 use fq_expr::Front;
+use fq_run::PhysicalPlan;
 use std::alloc::Global;
 use std::marker::Model;
 
@@ -19,17 +18,10 @@ mod steps;
 use sources::check_sources;
 use steps::{check_leading, check_stages, split_leading};
 
-/// A plan that the check does not refuse.
+/// A plan that the check does not refuse, by what its run does.
 #[derive(Drop)]
 pub struct Checked {
-    /// The sources before the main one.
-    pub(crate) joins: Vec<CheckedSource>,
-    pub(crate) main: CheckedSource,
-    pub(crate) leading: LeadingSteps,
-    /// The main source's columns after the leading steps.
-    pub(crate) after_leading: Schema,
-    pub(crate) stages: Vec<Stage>,
-    pub(crate) inputs: u16,
+    pub(crate) physical: PhysicalPlan,
 }
 
 impl Model for Checked {
@@ -42,16 +34,11 @@ impl Model for Checked {
 
     ghost coded = { Prim.hlevel (codes, expression_code (Prim.hlevel codes)) };
 
-    ghost use Rattle.std.specs.Prelude.{◌≡◌, ◌++◌, ◌∷◌, []};
-    ghost use Rattle.fq_expr.specs.Steps.{fields_after_all};
-    ghost use Rattle.fq_plan.specs.Plan.{join_files};
     ghost use Rattle.fq_plan.specs.Stages.{IsChecked, query_of};
 
-    ghost view = { λ c. query_of (c.joins.items ++ c.main ∷ []) c.leading.front c.stages.items };
+    ghost view = { λ c. query_of c.physical };
 
-    ghost invariant = { λ c. IsChecked (c.joins.items ++ c.main ∷ []) c.leading.front c.stages.items c.inputs
-        × (c.leading.join_files ≡ join_files (query_of (c.joins.items ++ c.main ∷ []) c.leading.front c.stages.items))
-        × (c.after_leading ≡ fields_after_all c.leading.front.fields c.leading.front.steps) };
+    ghost invariant = { λ c. IsChecked c.physical };
 }
 
 impl Plan {
@@ -101,18 +88,17 @@ fn check_plan(alloc: Global, plan: Plan, place: &mut Place) -> Result<Checked, S
     )?;
     let front = Front::new(alloc, leading, front_schema, 0)?;
     let join_files = inputs - main.files;
-    Ok(Checked {
+    let physical = PhysicalPlan::new(
+        alloc,
         joins,
         main,
-        leading: LeadingSteps {
-            alloc,
-            front,
-            join_files,
-        },
+        front,
         after_leading,
         stages,
         inputs,
-    })
+        join_files,
+    );
+    Ok(Checked { physical })
 }
 
 impl Checked {
@@ -121,6 +107,6 @@ impl Checked {
         ensures inputs { result ≡ files_wanted self.now }
         ensures not_refused { IsOk (judged self.now) }
     {
-        self.inputs
+        self.physical.inputs()
     }
 }

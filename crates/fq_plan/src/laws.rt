@@ -10,12 +10,12 @@ ghost use Rattle.fq_expr.specs.declared.fronts.RowFault.{RowFault};
 ghost use Rattle.fq_plan.specs.Cuts.{GiveTheSameRows};
 ghost use Rattle.fq_plan.specs.Meaning.{meaning, meaning_of_files};
 ghost use Rattle.fq_plan.specs.Plan.{Query, files_wanted};
-ghost use Rattle.fq_plan.specs.Sources.{row_fault};
+ghost use Rattle.fq_run.specs.Sources.{row_fault};
 ghost use Rattle.fq_plan.specs.Spelling.{plan_of};
 ghost use Rattle.fq_plan.specs.Tail.{all_items, outcome_of_taken};
 ghost use Rattle.fq_plan.specs.Versions.{IsNextVersion, IsOldStep};
-ghost use Rattle.fq_plan.specs.declared.faults.Fault.{Fault as AnyFault};
-ghost use Rattle.fq_plan.specs.declared.faults.Fault.TheVariants.{Overflow as overflow};
+ghost use Rattle.fq_run.specs.declared.faults.Fault.{Fault as AnyFault};
+ghost use Rattle.fq_run.specs.declared.faults.Fault.TheVariants.{Overflow as overflow};
 
 /// What a run's last stage makes of the items of all files, each worked by itself, is what the plan means over the files'
 /// streams, whatever the size of a batch.

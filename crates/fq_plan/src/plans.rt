@@ -8,19 +8,14 @@ use crate::reading::plan_in;
 use fq_column::{Kind, Memory};
 use fq_csv::NullValues;
 use fq_expr::{MAX_STEPS, RowStep};
-use fq_lanes::MAX_FEEDS;
 use fq_ops::{Agg, How};
+use fq_run::MAX_FILES;
 use serde_json::Value;
 use std::alloc::Global;
 use std::marker::Model;
 
 /// The most sources of a plan.
 pub const MAX_SOURCES: usize = 8;
-
-/// The most files of a plan, each of which is a feed of its run.
-pub const MAX_FILES: u16 = 16;
-
-const _: () = prove!(MAX_FILES as usize == MAX_FEEDS);
 
 /// The most texts that a source reads as null.
 pub const MAX_NULL_VALUES: usize = 16;

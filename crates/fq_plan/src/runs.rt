@@ -1,25 +1,17 @@
 //! A checked plan over files.
-ghost use Rattle.std.specs.Prelude.{◌≡◌, ◌≢◌, ◌≤◌, ◌⊎◌, ℕ, List, map, vec_len, Some, Ok, Err, IfOk, IfErr, IsOk, OnOk};
+ghost use Rattle.std.specs.Prelude.{◌≡◌, ◌≢◌, ℕ, List, vec_len, Some, Ok, Err, IfOk, IfErr, IsOk, OnOk};
 ghost use Rattle.std.specs.Io.KnownBytes.{Appends, Keeps};
 ghost use Rattle.fq_column.specs.Frame.{Frame};
 ghost use Rattle.fq_csv.specs.Printed.{printed};
-ghost use Rattle.fq_plan.specs.GatheredRun.{HasGathered};
 ghost use Rattle.fq_plan.specs.Meaning.{meaning};
-ghost use Rattle.fq_plan.specs.Plan.{files_wanted};
-ghost use Rattle.fq_plan.specs.PrintedText.{text_of};
-ghost use Rattle.fq_plan.specs.Run.{start_refusal, IsEngineFault, IsOfMeaning, IsRunFault, IsStartFault, Tell, trace_of};
-ghost use Rattle.fq_plan.specs.Sources.{file_streams};
-ghost use Rattle.fq_plan.specs.declared.faults.Fault.TheVariants as fault;
+ghost use Rattle.fq_plan.specs.Plan.{file_streams, files_wanted};
+ghost use Rattle.fq_run.specs.Run.{start_refusal, IsOfMeaning, IsStartFault, Tell, trace_of};
+ghost use Rattle.fq_run.specs.declared.faults.Fault.TheVariants as fault;
 
 use crate::checks::Checked;
-use crate::faults::Fault;
-use crate::leading_steps::Worked;
-use crate::openings::{empty_sources, file_layouts, open_feeds};
-use crate::printed_text::PrintedText;
-use crate::run_tail::RunTail;
-use crate::waiting::Waiting;
-use fq_csv::MAX_BATCH_SIZE;
-use fq_lanes::{Gate, MAX_WORKERS, NoGate, Report, run_lanes};
+use fq_column::Memory;
+use fq_lanes::{Gate, NoGate, Report};
+use fq_run::{Explanation, Fault, Worked};
 use std::alloc::Global;
 use std::io::{Read, Write};
 use std::sync::Wait;
@@ -102,69 +94,12 @@ impl Checked {
             IsOk (meaning self.now (file_streams self.now files)) }
         ensures unwritten { IfErr result (λ f. f ≢ fault.Write → Keeps (W.contents out.old) (W.contents out.new)) }
     {
-        let wanted = self.inputs();
-        let got = inputs.len();
-        if got != wanted as usize {
-            return Err(Fault::Inputs { wanted, got });
-        }
-        if !(1..=MAX_BATCH_SIZE).contains(&batch_size) || !(1..=MAX_WORKERS).contains(&workers) {
-            return Err(Fault::Setting);
-        }
-        let (text, report) = self.outcome(rt, alloc, gate, inputs, batch_size, workers)?;
-        text.write_to(out)?;
-        Ok(report)
+        self.physical
+            .run(rt, alloc, gate, inputs, out, batch_size, workers)
     }
 
-    // The text of the frame of a run that may start, with its report, or the fault before anything is written.
-    fn outcome<T: Threads + Wait + Sync, G: Gate<Worked> + Sync, R: Read + Drop + Send>(
-        &self,
-        rt: &T,
-        alloc: Global,
-        gate: &G,
-        inputs: Vec<R>,
-        batch_size: u32,
-        workers: u16,
-    ) -> Result<(PrintedText, Report), Fault>
-        requires inputs { vec_len inputs ≡ files_wanted self.now }
-        requires batch_size { (1 ≤ batch_size) × (batch_size ≤ MAX_BATCH_SIZE) }
-        requires workers { (1 ≤ workers) × (workers ≤ MAX_WORKERS) }
-        ensures frame { (files : List (List ℕ)) → Tell R.remaining inputs.items files → IfOk result
-            (λ r. (frame : Frame) × (meaning self.now (file_streams self.now files) ≡ Ok frame) × (text_of r.0 ≡ printed frame)) }
-        ensures trace { (files : List (List ℕ)) → Tell R.remaining inputs.items files → IfOk result
-            (λ r. r.1.trace.items ≡ trace_of batch_size (file_streams self.now files)) }
-        ensures fault { (files : List (List ℕ)) → Tell R.remaining inputs.items files → IfErr result
-            (λ f. IsOfMeaning f → meaning self.now (file_streams self.now files) ≡ Err f) }
-        ensures kind { IfErr result IsRunFault }
-    {
-        let (tail, report) = self.gather(rt, alloc, gate, inputs, batch_size, workers)?;
-        let text = tail.finish()?;
-        Ok((text, report))
-    }
-
-    // What free threads make of the files, as far as the tail took it, with their report.
-    fn gather<T: Threads + Wait + Sync, G: Gate<Worked> + Sync, R: Read + Drop + Send>(
-        &self,
-        rt: &T,
-        alloc: Global,
-        gate: &G,
-        inputs: Vec<R>,
-        batch_size: u32,
-        workers: u16,
-    ) -> Result<(RunTail<'_>, Report), Fault>
-        requires inputs { vec_len inputs ≡ files_wanted self.now }
-        requires batch_size { (1 ≤ batch_size) × (batch_size ≤ MAX_BATCH_SIZE) }
-        requires workers { (1 ≤ workers) × (workers ≤ MAX_WORKERS) }
-        ensures gathered { IfOk result (λ r. HasGathered R.remaining inputs.items self.entry.now batch_size r.0.state r.1.trace.items) }
-        ensures fault { IfErr result IsEngineFault }
-    {
-        let joins = self.joins.as_slice();
-        let layouts = file_layouts(alloc, joins, &self.main)?;
-        let feeds = open_feeds(alloc, layouts, inputs, batch_size)?;
-        let sources = empty_sources(alloc, joins)?;
-        let before = self.after_leading.copy(alloc)?;
-        let waiting = Waiting::new(sources, before, self.stages.as_slice());
-        let tail = RunTail::new(alloc, self.leading.join_files, waiting);
-        let (tail, outcome) = run_lanes(rt, alloc, feeds, &self.leading, gate, tail, workers);
-        Ok((tail, outcome?))
+    /// What the plan reads and does. `Memory` if an allocation fails.
+    pub fn explain(&self, alloc: Global) -> Result<Explanation<'_>, Memory> {
+        self.physical.explain(alloc)
     }
 }

@@ -5,10 +5,10 @@ use Rattle.std.specs.Result.{result_map_both}
 use Rattle.fq_column.specs.Frame.{Frame}
 use Rattle.fq_plan.specs.Meaning.{meaning}
 use Rattle.fq_plan.specs.Plan.{Query, files_wanted}
-use Rattle.fq_plan.specs.Run.{start_refusal, IsStartFault, IsOfMeaning}
-use Rattle.fq_plan.specs.Sources.{file_streams}
-use Rattle.fq_plan.specs.declared.faults.Fault.{Fault}
-use Rattle.fq_plan.specs.declared.faults.Fault.TheVariants.{Inputs}
+use Rattle.fq_run.specs.Run.{start_refusal, IsStartFault, IsOfMeaning}
+use Rattle.fq_plan.specs.Plan.{file_streams}
+use Rattle.fq_run.specs.declared.faults.Fault.{Fault}
+use Rattle.fq_run.specs.declared.faults.Fault.TheVariants.{Inputs}
 use Rattle.fq_program.specs.Ending.{IsOutside}
 use Rattle.fq_program.specs.Program.{frame_of}
 use Rattle.fq_program.specs.declared.failures.Failure.TheVariants.{Run}

@@ -4,9 +4,9 @@ use Rattle.std.specs.Prelude.{◌⊎◌, OnOk, IfErr}
 use Rattle.fq_column.specs.Frame.{Frame}
 use Rattle.fq_column.specs.declared.faults.StepFault.{StepFault}
 use Rattle.fq_column.specs.declared.faults.StepFault.TheVariants as code
-use Rattle.fq_plan.specs.Run.{IsStartFault, IsOfMeaning}
-use Rattle.fq_plan.specs.declared.faults.Fault.{Fault}
-use Rattle.fq_plan.specs.declared.faults.Fault.TheVariants as fault
+use Rattle.fq_run.specs.Run.{IsStartFault, IsOfMeaning}
+use Rattle.fq_run.specs.declared.faults.Fault.{Fault}
+use Rattle.fq_run.specs.declared.faults.Fault.TheVariants as fault
 use Rattle.fq_plan.specs.declared.faults.PlanFault.TheVariants as plan
 use Rattle.fq_program.specs.Ending.{status_of_fault, status_of, number_of, done, bad_device, no_memory, code_of, IsOutside}
 use Rattle.fq_program.specs.declared.failures.Failure.{Failure}

@@ -2,8 +2,8 @@
 use Rattle.std.specs.Prelude.{◌≡◌, ◌⊎◌, ℕ, Result, Ok, Err}
 use Rattle.fq_column.specs.declared.faults.StepFault.TheVariants as code
 use Rattle.fq_plan.specs.declared.faults.CheckFault.{CheckFault}
-use Rattle.fq_plan.specs.declared.faults.Fault.{Fault}
-use Rattle.fq_plan.specs.declared.faults.Fault.TheVariants.{Inputs, Setting, Memory, Read, Write}
+use Rattle.fq_run.specs.declared.faults.Fault.{Fault}
+use Rattle.fq_run.specs.declared.faults.Fault.TheVariants.{Inputs, Setting, Memory, Read, Write}
 use Rattle.fq_plan.specs.declared.faults.PlanFault.TheVariants as plan
 use Rattle.fq_program.specs.declared.failures.Failure.{Failure}
 use Rattle.fq_program.specs.declared.failures.Failure.TheVariants.{Words, InputTwice, PlanFile, Plan, Check, Run}

@@ -6,7 +6,7 @@ use Rattle.fq_csv.specs.Printed.{printed}
 use Rattle.fq_plan.specs.Judged.{refused_at}
 use Rattle.fq_plan.specs.declared.faults.PlanFault.TheVariants.{Json, Shape}
 use Rattle.fq_plan.specs.declared.faults.Place.TheVariants.{Step}
-use Rattle.fq_plan.specs.declared.faults.Fault.TheVariants.{Inputs, Header, BadCell}
+use Rattle.fq_run.specs.declared.faults.Fault.TheVariants.{Inputs, Header, BadCell}
 use Rattle.fq_program.specs.Ending.{code_of}
 use Rattle.fq_program.specs.Program.{program}
 use Rattle.fq_program.specs.declared.failures.Failure.{Failure}

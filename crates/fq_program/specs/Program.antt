@@ -5,9 +5,9 @@ use Rattle.fq_column.specs.Frame.{Frame}
 use Rattle.fq_plan.specs.Judged.{checked}
 use Rattle.fq_plan.specs.Meaning.{meaning}
 use Rattle.fq_plan.specs.Plan.{Query, files_wanted}
-use Rattle.fq_plan.specs.Sources.{file_streams}
+use Rattle.fq_plan.specs.Plan.{file_streams}
 use Rattle.fq_plan.specs.Spelling.{read_as_plan}
-use Rattle.fq_plan.specs.declared.faults.Fault.TheVariants.{Inputs}
+use Rattle.fq_run.specs.declared.faults.Fault.TheVariants.{Inputs}
 use Rattle.fq_program.specs.declared.failures.Failure.{Failure}
 use Rattle.fq_program.specs.declared.failures.Failure.TheVariants.{Plan, Check, Run}
 

@@ -1,7 +1,7 @@
 //! The program with arguments.
 ghost use Rattle.std.specs.Prelude.{◌≡◌, ◌≢◌, ◌<◌, ◌^◌, length, IfErr};
 ghost use Rattle.std.specs.Io.KnownBytes.{Keeps};
-ghost use Rattle.fq_plan.specs.declared.faults.Fault.TheVariants as fault;
+ghost use Rattle.fq_run.specs.declared.faults.Fault.TheVariants as fault;
 ghost use Rattle.fq_program.specs.Ending.{done, bad_device};
 ghost use Rattle.fq_program.specs.declared.failures.Failure.TheVariants as failure;
 

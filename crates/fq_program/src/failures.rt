@@ -2,7 +2,7 @@
 ghost use Rattle.std.specs.Prelude.{◌≡◌};
 ghost use Rattle.fq_program.specs.Ending.{code_of, status_of, status_of_fault};
 ghost use Rattle.fq_program.specs.declared.failures.Failure.TheVariants as failure;
-ghost use Rattle.fq_plan.specs.declared.faults.Fault.TheVariants as fault;
+ghost use Rattle.fq_run.specs.declared.faults.Fault.TheVariants as fault;
 
 use crate::status::Status;
 use fq_column::{Memory, StepFault};

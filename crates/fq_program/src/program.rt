@@ -3,7 +3,7 @@ ghost use Rattle.std.specs.Prelude.{◌≡◌, ◌≢◌, ◌⊎◌, ◌∷◌, 
 ghost use Rattle.std.specs.Io.KnownBytes.{Appends, Keeps};
 ghost use Rattle.fq_column.specs.Frame.{Frame};
 ghost use Rattle.fq_csv.specs.Printed.{printed};
-ghost use Rattle.fq_plan.specs.declared.faults.Fault.TheVariants as fault;
+ghost use Rattle.fq_run.specs.declared.faults.Fault.TheVariants as fault;
 ghost use Rattle.fq_program.specs.Ending.{code_of, done, bad_device, no_memory, IsOutside};
 ghost use Rattle.fq_program.specs.Program.{program, checked_plan as checked_plan_of, frame_of};
 ghost use Rattle.fq_program.specs.declared.failures.Failure.TheVariants as failure;

@@ -4,14 +4,14 @@ ghost use Rattle.fq_column.specs.Frame.{names_of};
 ghost use Rattle.fq_column.specs.Refusal.{first_refusal};
 ghost use Rattle.fq_column.specs.Schema.{schema_checks};
 ghost use Rattle.fq_plan.specs.Judged.{refused_at, source_refusal, IsPlaceOf};
-ghost use Rattle.fq_plan.specs.Stages.{checked_source_data};
+ghost use Rattle.fq_run.specs.Stages.{source_of_files};
 ghost use Rattle.fq_plan.specs.View.{source_data};
 
 use crate::faults::Place;
 use crate::plans::Source;
-use crate::stages::CheckedSource;
 use fq_column::{Kind, Memory, Schema, StepFault};
 use fq_csv::Layout;
+use fq_run::SourceFiles;
 use std::alloc::Global;
 
 /// The sources with their schemas, or the first refusal, which leaves the place of its source.
@@ -19,10 +19,10 @@ pub fn check_sources(
     alloc: Global,
     sources: Vec<Source>,
     place: &mut Place,
-) -> Result<Vec<CheckedSource>, StepFault>
+) -> Result<Vec<SourceFiles>, StepFault>
     requires { vec_len sources ≤ 8 }
     ensures place { (steps : ℕ) → IsPlaceOf (length sources.items) steps place.old → IsPlaceOf (length sources.items) steps place.new }
-    ensures sources { IfOk result (λ checked. map checked_source_data checked.items ≡ map source_data sources.items) }
+    ensures sources { IfOk result (λ checked. map source_of_files checked.items ≡ map source_data sources.items) }
     ensures passed { IfOk result (λ checked. source_refusal 0 (map source_data sources.items) ≡ None) }
     ensures refused { IfErr result (λ code. (source_refusal 0 (map source_data sources.items) ≡ Some (refused_at place.new code)) ⊎ (code ≡ StepFault.Memory)) }
 {
@@ -35,8 +35,8 @@ pub fn check_sources(
 }
 
 // A source with its schema, or its first refusal.
-fn check_source(alloc: Global, source: Source) -> Result<CheckedSource, StepFault>
-    ensures source { IfOk result (λ checked. checked_source_data checked ≡ source_data source) }
+fn check_source(alloc: Global, source: Source) -> Result<SourceFiles, StepFault>
+    ensures source { IfOk result (λ checked. source_of_files checked ≡ source_data source) }
     ensures passed { IfOk result (λ checked. first_refusal (schema_checks (names_of (source_data source).fields)) ≡ None) }
     ensures refused { IfErr result (λ code. (first_refusal (schema_checks (names_of (source_data source).fields)) ≡ Some code) ⊎ (code ≡ StepFault.Memory)) }
 {
@@ -47,7 +47,7 @@ fn check_source(alloc: Global, source: Source) -> Result<CheckedSource, StepFaul
     } = source;
     let (names, kinds) = unzip(alloc, columns)?;
     let schema = Schema::new(names, kinds)?;
-    Ok(CheckedSource {
+    Ok(SourceFiles {
         files,
         layout: Layout { schema, nulls },
     })

@@ -8,15 +8,15 @@ ghost use Rattle.fq_ops.specs.AggregateData.{outputs_of};
 ghost use Rattle.fq_ops.specs.Roll.{roll_schema as roll_schema_of};
 ghost use Rattle.fq_plan.specs.Judged.{judged_step, judged_steps, refused_at, IsPlaceOf};
 ghost use Rattle.fq_plan.specs.Plan.{PlanStep, front_of, group_by, item_at, join, rest_of, rolling_sum, row_wise};
-ghost use Rattle.fq_plan.specs.Stages.{checked_fields, operator_steps, stage_steps, Leads, Turns};
+ghost use Rattle.fq_plan.specs.Stages.{columns_of, operator_steps, stage_steps, Leads, Turns};
 ghost use Rattle.fq_plan.specs.View.{plan_step_of};
 
 use crate::faults::Place;
 use crate::plans::Step;
-use crate::stages::{CheckedSource, Operator, Stage};
 use fq_column::{Memory, Schema, StepFault};
 use fq_expr::{Front, MAX_STEPS, RowStep};
 use fq_ops::{Agg, How, group_schema, join_schema, roll_schema};
+use fq_run::{Operator, SourceFiles, Stage};
 use std::alloc::Global;
 
 /// The leading row-wise steps, and the steps after them.
@@ -66,7 +66,7 @@ pub fn check_leading(
 /// which leaves the place of its step.
 pub fn check_stages(
     alloc: Global,
-    joins: &[CheckedSource],
+    joins: &[SourceFiles],
     first: u16,
     mut schema: Schema,
     steps: Vec<Step>,
@@ -75,8 +75,8 @@ pub fn check_stages(
     requires { first + vec_len steps ≤ MAX_STEPS }
     ensures place { (sources total : ℕ) → first + length steps.items ≤ total → IsPlaceOf sources total place.old → IsPlaceOf sources total place.new }
     ensures steps { IfOk result (λ stages. stage_steps stages.items ≡ map plan_step_of steps.items) }
-    ensures leads { IfOk result (λ stages. (after : Fields) × Leads (checked_fields joins.now) first schema stages.items after) }
-    ensures refused { IfErr result (λ code. (judged_steps (checked_fields joins.now) first schema (map plan_step_of steps.items) ≡ Err (refused_at place.new code)) ⊎ (code ≡ StepFault.Memory)) }
+    ensures leads { IfOk result (λ stages. (after : Fields) × Leads (columns_of joins.now) first schema stages.items after) }
+    ensures refused { IfErr result (λ code. (judged_steps (columns_of joins.now) first schema (map plan_step_of steps.items) ≡ Err (refused_at place.new code)) ⊎ (code ≡ StepFault.Memory)) }
 {
     let mut stages = Vec::with_capacity(alloc, steps.len())?;
     for step in steps {
@@ -96,15 +96,15 @@ pub fn check_stages(
 // The operator of a step on rows of a schema, and the schema after it; or the step's first refusal.
 fn check_step(
     alloc: Global,
-    joins: &[CheckedSource],
+    joins: &[SourceFiles],
     number: u16,
     schema: Schema,
     step: Step,
 ) -> Result<(Operator, Schema), StepFault>
     requires { number + 1 ≤ MAX_STEPS }
     ensures step { IfOk result (λ r. operator_steps r.0 ≡ plan_step_of step ∷ []) }
-    ensures turns { IfOk result (λ r. Turns (checked_fields joins.now) number schema r.0 r.1) }
-    ensures refused { IfErr result (λ code. (judged_step (checked_fields joins.now) schema (plan_step_of step) ≡ Err code) ⊎ (code ≡ StepFault.Memory)) }
+    ensures turns { IfOk result (λ r. Turns (columns_of joins.now) number schema r.0 r.1) }
+    ensures refused { IfErr result (λ code. (judged_step (columns_of joins.now) schema (plan_step_of step) ≡ Err code) ⊎ (code ≡ StepFault.Memory)) }
 {
     match step {
         Step::Rows(step) => check_rows(alloc, number, schema, step),
@@ -146,7 +146,7 @@ fn check_rows(
 // `check_step` of a join.
 fn check_join(
     alloc: Global,
-    joins: &[CheckedSource],
+    joins: &[SourceFiles],
     schema: &Schema,
     source: i64,
     on: Vec<String>,
@@ -154,8 +154,8 @@ fn check_join(
     nulls_equal: bool,
 ) -> Result<(Operator, Schema), StepFault>
     ensures step { IfOk result (λ r. operator_steps r.0 ≡ join source (map string_bytes on.items) how nulls_equal ∷ []) }
-    ensures turns { IfOk result (λ r. (number : ℕ) → Turns (checked_fields joins.now) number schema.now r.0 r.1) }
-    ensures refused { IfErr result (λ code. (judged_step (checked_fields joins.now) schema.now (join source (map string_bytes on.items) how nulls_equal) ≡ Err code) ⊎ (code ≡ StepFault.Memory)) }
+    ensures turns { IfOk result (λ r. (number : ℕ) → Turns (columns_of joins.now) number schema.now r.0 r.1) }
+    ensures refused { IfErr result (λ code. (judged_step (columns_of joins.now) schema.now (join source (map string_bytes on.items) how nulls_equal) ≡ Err code) ⊎ (code ≡ StepFault.Memory)) }
 {
     let Some((source, right)) = source_at(joins, source) else {
         return Err(StepFault::NoSuchSource);
@@ -216,10 +216,10 @@ fn check_rolling(
 }
 
 // The source of a number, which may be no source's.
-fn source_at(sources: &[CheckedSource], number: i64) -> Option<(usize, &CheckedSource)>
+fn source_at(sources: &[SourceFiles], number: i64) -> Option<(usize, &SourceFiles)>
     ensures { MatchOption result
-        (item_at (checked_fields sources.now) number ≡ None)
-        (λ r. (pos r.0 ≡ number) × (item_at (checked_fields sources.now) number ≡ Some r.1.now.layout.schema)) }
+        (item_at (columns_of sources.now) number ≡ None)
+        (λ r. (pos r.0 ≡ number) × (item_at (columns_of sources.now) number ≡ Some r.1.now.layout.schema)) }
 {
     let place = usize::try_from(number).ok()?;
     let source = sources.get(place)?;

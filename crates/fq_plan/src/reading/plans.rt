@@ -1,19 +1,18 @@
 //! Sources, and whole plans.
 ghost use Rattle.std.specs.Prelude.{◌≡◌, map, option_map, string_bytes, codes, IfOk};
 ghost use Rattle.serde_json.specs.View.{view};
-ghost use Rattle.fq_plan.specs.Plan.{Source as SourceData};
+ghost use Rattle.fq_run.specs.Sources.{Source as SourceData};
 ghost use Rattle.fq_plan.specs.Parts.{member, whole_from_to as the_whole_from_to, with_length};
 ghost use Rattle.fq_plan.specs.Spelling.{names, plan_of, source_of, source_with, version_of};
 ghost use Rattle.fq_plan.specs.View.{source_data};
 
-use crate::plans::{
-    MAX_FILES, MAX_NULL_VALUES, MAX_SOURCES, Plan, Source, Step, Version, file_count,
-};
+use crate::plans::{MAX_NULL_VALUES, MAX_SOURCES, Plan, Source, Step, Version, file_count};
 use crate::reading::values::has_members;
 use crate::reading::{Spelled, read_member};
 use fq_column::Memory;
 use fq_csv::NullValues;
 use fq_expr::MAX_STEPS;
+use fq_run::MAX_FILES;
 use serde_json::Value;
 use std::alloc::Global;
 

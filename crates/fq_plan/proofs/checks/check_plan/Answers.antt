@@ -9,15 +9,18 @@ use Rattle.fq_expr.specs.ExpressionData.{step_of}
 use Rattle.fq_expr.specs.declared.steps.RowStep.{RowStep}
 use Rattle.fq_expr.specs.Steps.{fields_after_all}
 use Rattle.fq_plan.specs.Judged.{IsPlaceOf, checked, judged_steps, source_refusal}
-use Rattle.fq_plan.specs.Plan.{Source, PlanStep, Query, IsWithinLimits, join_files, row_wise}
-use Rattle.fq_plan.specs.Stages.{checked_fields, checked_source_data, query_of, stage_steps, IsChecked, Leads}
+use Rattle.fq_plan.specs.Plan.{PlanStep, Query, IsWithinLimits, row_wise}
+use Rattle.fq_run.specs.Sources.{Source}
+use Rattle.fq_plan.specs.Stages.{columns_of, query_of, stage_steps, IsChecked, Leads}
+use Rattle.fq_run.specs.Physical.{Physical, join_files}
+use Rattle.fq_run.specs.Stages.{physical_of, source_of_files, IsRunnable}
 use Rattle.fq_plan.specs.View.{plan_step_of, source_data}
-use Rattle.fq_plan.proofs.PreparedLemmas.{checked-is, leading-refuses, prepared, stages-refuse, steps-are}
+use Rattle.fq_plan.proofs.PreparedLemmas.{checked-is, leading-refuses, prepared, runnable, stages-refuse, steps-are}
 use Rattle.fq_plan.specs.declared.faults.Place.{Place}
-use Rattle.fq_plan.specs.declared.stages.CheckedSource.{CheckedSource}
-use Rattle.fq_plan.proofs.StageLemmas.{fields-after-all}
+use Rattle.fq_run.specs.declared.stages.SourceFiles.{SourceFiles}
+use Rattle.fq_run.proofs.StageLemmas.{fields-after-all}
 use Rattle.fq_plan.proofs.SplitLemmas.{few-split, length-split}
-use Rattle.fq_plan.proofs.RunStartLemmas.{join-count, wanted-is}
+use Rattle.fq_run.proofs.RunStartLemmas.{join-count, wanted-is}
 use Rattle.fq_plan.proofs.checks.check_plan.Goals as goal
 use Rattle.fq_plan.proofs.checks.check_plan.Goals.{In_ok-joins, In_ok-leading, In_ok-schema, In_ok-stages}
 
@@ -54,7 +57,7 @@ returns-in_err-schema-clause-refused c =
     let exit = err_from_is_err_and c.from_residual-in_err-schema.result c.from_residual-in_err-schema.ensures.1 in
     let sources = c.in_ok-joins.joins.items in
     let steps = map plan_step_of c.plan.inside.steps.items in
-    let parts = c.pop.ensures.items ∙ ap (λ (o : Option CheckedSource). c.pop.new.self.items ++ option_to_list o) c.in-Some.is in
+    let parts = c.pop.ensures.items ∙ ap (λ (o : Option SourceFiles). c.pop.new.self.items ++ option_to_list o) c.in-Some.is in
     let of_sources : List Source → Query = λ ss. record { sources = ss; steps = steps } in
     let passed = ap (source_refusal 0) c.in_ok-joins.ensures.sources ∙ c.in_ok-joins.ensures.passed in
     rw (exit.1, exit.2) (elim c.in_err-schema.ensures.refused [
@@ -72,7 +75,7 @@ returns-in_err-stages-clause-refused c =
     let steps = map plan_step_of c.plan.inside.steps.items in
     let leading = map step_of c.in_ok-leading.leading.items in
     let rest = map plan_step_of c.in_ok-leading.rest.items in
-    let parts = c.pop.ensures.items ∙ ap (λ (o : Option CheckedSource). c.pop.new.self.items ++ option_to_list o) c.in-Some.is in
+    let parts = c.pop.ensures.items ∙ ap (λ (o : Option SourceFiles). c.pop.new.self.items ++ option_to_list o) c.in-Some.is in
     let of_sources : List Source → Query = λ ss. record { sources = ss; steps = steps } in
     let passed = ap (source_refusal 0) c.in_ok-joins.ensures.sources ∙ c.in_ok-joins.ensures.passed in
     let to_mid = ap (λ (ss : List RowStep). steps_schema c.in-Some.main.layout.schema (map step_of ss)) (sym c.as_slice.ensures.value) ∙ c.in_ok-schema.ensures.ok in
@@ -81,76 +84,109 @@ returns-in_err-stages-clause-refused c =
       | inl e ↦ inl (
           ap checked (sym c.plan.view_is ∙ ap of_sources (sym c.in_ok-joins.ensures.sources))
           ∙ stages-refuse sources c.pop.new.self.items c.in-Some.main parts steps leading c.in_ok-leading.ensures.leading rest c.in_ok-schema.schema _ passed c.in_ok-leading.ensures.rest to_mid
-          (ap (λ n. judged_steps (checked_fields c.pop.new.self.items) n c.in_ok-schema.schema rest) count
-          ∙ ap (λ (js : List CheckedSource). judged_steps (checked_fields js) c.len.result c.in_ok-schema.schema rest) (sym c.as_slice-2.ensures.value) ∙ e))
+          (ap (λ n. judged_steps (columns_of c.pop.new.self.items) n c.in_ok-schema.schema rest) count
+          ∙ ap (λ (js : List SourceFiles). judged_steps (columns_of js) c.len.result c.in_ok-schema.schema rest) (sym c.as_slice-2.ensures.value) ∙ e))
       | inr memory ↦ inr memory
     ])
 
-front_of : goal.In_ok-front → NumberedSteps
+-- the leading steps, and the parts of the sources
+front_of : In_ok-stages → NumberedSteps
 front_of c = record { steps = map step_of c.in_ok-leading.leading.items; fields = c.in-Some.main.layout.schema; first = 0 }
 
-front-is : (c : goal.In_ok-front) → c.in_ok-front.front ≡ front_of c
+front-is : (c : In_ok-stages) (front : NumberedSteps) → front ≡ (let f : NumberedSteps = record { steps = map step_of c.in_ok-leading.leading.items; fields = c.in_ok-front_schema.front_schema; first = 0 } in f) → front ≡ front_of c
 unfolding front_of
-front-is c =
+front-is c front e =
     let chain : Fields → NumberedSteps = λ fields. record { steps = map step_of c.in_ok-leading.leading.items; fields = fields; first = 0 } in
-    c.in_ok-front.ensures.front ∙ ap chain c.in_ok-front_schema.ensures
+    e ∙ ap chain c.in_ok-front_schema.ensures
 
-parts_of : (c : goal.In_ok-front) → c.in_ok-joins.joins.items ≡ c.pop.new.self.items ++ c.in-Some.main ∷ []
-parts_of c = c.pop.ensures.items ∙ ap (λ (o : Option CheckedSource). c.pop.new.self.items ++ option_to_list o) c.in-Some.is
+parts_of : (c : In_ok-stages) → c.in_ok-joins.joins.items ≡ c.pop.new.self.items ++ c.in-Some.main ∷ []
+parts_of c = c.pop.ensures.items ∙ ap (λ (o : Option SourceFiles). c.pop.new.self.items ++ option_to_list o) c.in-Some.is
 
-is-prepared : (c : goal.In_ok-front) → IsChecked c.in_ok-joins.joins.items (front_of c) c.in_ok-stages.stages.items c.file_count-inputs.result
+-- what is known of them
+abbrev Leading : In_ok-stages → Type 0
+Leading c = (after : Fields) × Leads (columns_of c.pop.new.self.items) (length (map step_of c.in_ok-leading.leading.items)) c.in_ok-schema.schema c.in_ok-stages.stages.items after
+
+leads-of : (c : In_ok-stages) → Leading c
+leads-of c =
+    let leads = subst (λ (js : List SourceFiles). (after : Fields) × Leads (columns_of js) c.len.result c.in_ok-schema.schema c.in_ok-stages.stages.items after) c.as_slice-2.ensures.value c.in_ok-stages.ensures.leads in
+    let count : c.len.result ≡ length (map step_of c.in_ok-leading.leading.items) = omega (arith, length-map c.in_ok-leading.leading.items step_of, c.in_ok-leading.leading.ok.0, c.len.ensures) in
+    (leads.0, subst (λ n. Leads (columns_of c.pop.new.self.items) n c.in_ok-schema.schema c.in_ok-stages.stages.items leads.0) count leads.1)
+
+to-mid : (c : In_ok-stages) → steps_schema c.in-Some.main.layout.schema (map step_of c.in_ok-leading.leading.items) ≡ Ok c.in_ok-schema.schema
+to-mid c = ap (λ (ss : List RowStep). steps_schema c.in-Some.main.layout.schema (map step_of ss)) (sym c.as_slice.ensures.value) ∙ c.in_ok-schema.ensures.ok
+
+within : (c : In_ok-stages) → (let q : Query = record { sources = map source_of_files c.in_ok-joins.joins.items; steps = map plan_step_of c.plan.inside.steps.items } in IsWithinLimits q)
+within c =
+    let of_sources : List Source → Query = λ ss. record { sources = ss; steps = map plan_step_of c.plan.inside.steps.items } in
+    subst IsWithinLimits (ap of_sources (sym c.in_ok-joins.ensures.sources)) c.plan.invariant
+
+is-prepared : (c : In_ok-stages) → IsChecked (physical_of c.in_ok-joins.joins.items (front_of c) c.in_ok-stages.stages.items)
 unfolding front_of
 is-prepared c =
-    let steps = map plan_step_of c.plan.inside.steps.items in
-    let leading = map step_of c.in_ok-leading.leading.items in
-    let joins = checked_fields c.pop.new.self.items in
-    let stages = c.in_ok-stages.stages.items in
-    let leads = subst (λ (js : List CheckedSource). (after : Fields) × Leads (checked_fields js) c.len.result c.in_ok-schema.schema stages after) c.as_slice-2.ensures.value c.in_ok-stages.ensures.leads in
-    let count : c.len.result ≡ length leading = omega (arith, length-map c.in_ok-leading.leading.items step_of, c.in_ok-leading.leading.ok.0, c.len.ensures) in
-    let of_sources : List Source → Query = λ ss. record { sources = ss; steps = steps } in
-    prepared c.in_ok-joins.joins.items c.pop.new.self.items c.in-Some.main (parts_of c) steps leading c.in_ok-leading.ensures.leading
-    stages c.in_ok-schema.schema leads.0 (c.in_ok-stages.ensures.steps ∙ c.in_ok-leading.ensures.rest) (ap (source_refusal 0) c.in_ok-joins.ensures.sources ∙ c.in_ok-joins.ensures.passed)
-    (ap (λ (ss : List RowStep). steps_schema c.in-Some.main.layout.schema (map step_of ss)) (sym c.as_slice.ensures.value) ∙ c.in_ok-schema.ensures.ok)
-    (subst (λ n. Leads joins n c.in_ok-schema.schema stages leads.0) count leads.1)
-    c.file_count-inputs.result
-    (subst IsWithinLimits (ap of_sources (sym c.in_ok-joins.ensures.sources)) c.plan.invariant)
+    prepared c.in_ok-joins.joins.items c.pop.new.self.items c.in-Some.main (parts_of c) (map plan_step_of c.plan.inside.steps.items) (map step_of c.in_ok-leading.leading.items) c.in_ok-leading.ensures.leading
+    c.in_ok-stages.stages.items c.in_ok-schema.schema (leads-of c).0 (c.in_ok-stages.ensures.steps ∙ c.in_ok-leading.ensures.rest) (ap (source_refusal 0) c.in_ok-joins.ensures.sources ∙ c.in_ok-joins.ensures.passed)
+    (to-mid c) (leads-of c).1 (within c)
+
+is-runnable : (c : In_ok-stages) → IsRunnable c.in_ok-joins.joins.items (front_of c) c.in_ok-stages.stages.items c.file_count-inputs.result
+unfolding front_of
+is-runnable c =
+    runnable c.in_ok-joins.joins.items c.pop.new.self.items c.in-Some.main (parts_of c) (map plan_step_of c.plan.inside.steps.items) (map step_of c.in_ok-leading.leading.items) c.in_ok-leading.ensures.leading
+    c.in_ok-stages.stages.items c.in_ok-schema.schema (leads-of c).0 (c.in_ok-stages.ensures.steps ∙ c.in_ok-leading.ensures.rest) (ap (source_refusal 0) c.in_ok-joins.ensures.sources ∙ c.in_ok-joins.ensures.passed)
+    (to-mid c) (leads-of c).1 c.file_count-inputs.result (within c)
     (c.file_count-inputs.ensures ∙ ap (λ ss. sum_by (λ (s : Source). s.files) (map source_data ss)) c.deref.ensures.value ∙ ap (sum_by (λ (s : Source). s.files)) (sym c.in_ok-joins.ensures.sources))
 
 pub overflow_sub-join_files : goal.overflow_sub-join_files
-overflow_sub-join_files c = omega (arith, (is-prepared c).inputs_wanted, wanted-is c.in_ok-joins.joins.items (front_of c) c.in_ok-stages.stages.items c.file_count-inputs.result (is-prepared c) c.pop.new.self.items c.in-Some.main (parts_of c))
+overflow_sub-join_files c =
+    let d = (goal.at.overflow_sub-join_files c).In_ok-stages in
+    omega (arith, (is-runnable d).inputs_wanted, wanted-is c.in_ok-joins.joins.items (front_of d) c.in_ok-stages.stages.items c.file_count-inputs.result (is-runnable d) c.pop.new.self.items c.in-Some.main (parts_of d))
+
+pub new-physical-requires-clause-runnable : goal.new-physical-requires-clause-runnable
+new-physical-requires-clause-runnable c =
+    let d = (goal.at.new-physical-requires-clause-runnable c).In_ok-stages in
+    subst (λ ss. IsRunnable ss c.in_ok-front.front c.in_ok-stages.stages.items c.file_count-inputs.result) (parts_of d)
+    (subst (λ front. IsRunnable c.in_ok-joins.joins.items front c.in_ok-stages.stages.items c.file_count-inputs.result) (sym (front-is d c.in_ok-front.front c.in_ok-front.ensures.front)) (is-runnable d))
+
+pub new-physical-requires-clause-before_main : goal.new-physical-requires-clause-before_main
+new-physical-requires-clause-before_main c =
+    let d = (goal.at.new-physical-requires-clause-before_main c).In_ok-stages in
+    subst (λ ss. c.file_count-inputs.result - c.in-Some.main.files ≡ join_files (physical_of ss c.in_ok-front.front c.in_ok-stages.stages.items)) (parts_of d)
+    (join-count c.in_ok-joins.joins.items (front_of d) c.in_ok-stages.stages.items c.file_count-inputs.result (is-runnable d) c.pop.new.self.items c.in-Some.main (parts_of d))
+
+pub new-physical-requires-clause-columns : goal.new-physical-requires-clause-columns
+unfolding front_of
+new-physical-requires-clause-columns c =
+    let d = (goal.at.new-physical-requires-clause-columns c).In_ok-stages in
+    c.in_ok-after_leading.ensures ∙ sym (fields-after-all c.in-Some.main.layout.schema c.in_ok-schema.schema (map step_of c.in_ok-leading.leading.items) (to-mid d))
+    ∙ ap (λ (f : NumberedSteps). fields_after_all f.fields f.steps) (sym (front-is d c.in_ok-front.front c.in_ok-front.ensures.front))
+
+-- the physical plan, by its parts as they were checked
+physical-is : (c : In_ok-stages) (front : NumberedSteps) (p : Physical) → front ≡ front_of c → p ≡ physical_of (c.pop.new.self.items ++ c.in-Some.main ∷ []) front c.in_ok-stages.stages.items →
+    physical_of c.in_ok-joins.joins.items (front_of c) c.in_ok-stages.stages.items ≡ p
+physical-is c front p e made = (λ i. physical_of (parts_of c i) (sym e i) c.in_ok-stages.stages.items) ∙ sym made
 
 pub invariant_of-result : goal.invariant_of-result
-unfolding front_of
 invariant_of-result c =
-    let sources = c.in_ok-joins.joins.items in
-    let stages = c.in_ok-stages.stages.items in
-    let inputs = c.file_count-inputs.result in
-    let leading = map step_of c.in_ok-leading.leading.items in
-    let after = c.in_ok-after_leading.after_leading in
-    subst (λ ss. IsChecked ss c.in_ok-front.front stages inputs × (inputs - c.in-Some.main.files ≡ join_files (query_of ss c.in_ok-front.front stages)) × (after ≡ fields_after_all c.in_ok-front.front.fields c.in_ok-front.front.steps)) (parts_of c)
-    (subst (λ front. IsChecked sources front stages inputs × (inputs - c.in-Some.main.files ≡ join_files (query_of sources front stages)) × (after ≡ fields_after_all front.fields front.steps)) (sym (front-is c)) (
-      is-prepared c,
-      join-count sources (front_of c) stages inputs (is-prepared c) c.pop.new.self.items c.in-Some.main (parts_of c),
-      c.in_ok-after_leading.ensures ∙ sym (fields-after-all c.in-Some.main.layout.schema c.in_ok-schema.schema leading
-          (ap (λ (ss : List RowStep). steps_schema c.in-Some.main.layout.schema (map step_of ss)) (sym c.as_slice.ensures.value) ∙ c.in_ok-schema.ensures.ok)),
-    ))
+    let d = (goal.at.invariant_of-result c).In_ok-stages in
+    subst IsChecked (physical-is d c.in_ok-front.front c.new-physical.result (front-is d c.in_ok-front.front c.in_ok-front.ensures.front) c.new-physical.ensures) (is-prepared d)
 
-passes : (c : goal.In_ok-front) → checked (query_of c.in_ok-joins.joins.items (front_of c) c.in_ok-stages.stages.items) ≡ Ok (query_of c.in_ok-joins.joins.items (front_of c) c.in_ok-stages.stages.items)
-passes c = checked-is c.in_ok-joins.joins.items (front_of c) c.in_ok-stages.stages.items c.file_count-inputs.result (is-prepared c)
+-- the steps are those of the parts
+steps-checked : (d : In_ok-stages) → (let q : Query = record { sources = map source_of_files d.in_ok-joins.joins.items; steps = map plan_step_of d.plan.inside.steps.items } in q) ≡ query_of (physical_of d.in_ok-joins.joins.items (front_of d) d.in_ok-stages.stages.items)
+unfolding front_of
+steps-checked d =
+    let of_steps : List PlanStep → Query = λ ss. record { sources = map source_of_files d.in_ok-joins.joins.items; steps = ss } in
+    ap of_steps (sym (steps-are (map plan_step_of d.plan.inside.steps.items) (map step_of d.in_ok-leading.leading.items) d.in_ok-leading.ensures.leading (stage_steps d.in_ok-stages.stages.items) (d.in_ok-stages.ensures.steps ∙ d.in_ok-leading.ensures.rest)))
 
 pub returns-clause-ok : goal.returns-clause-ok
-unfolding front_of
 returns-clause-ok c =
+    let d = (goal.at.returns-clause-ok c).In_ok-stages in
     let sources = c.in_ok-joins.joins.items in
     let stages = c.in_ok-stages.stages.items in
     let steps = map plan_step_of c.plan.inside.steps.items in
     let of_sources : List Source → Query = λ ss. record { sources = ss; steps = steps } in
-    let of_steps : List PlanStep → Query = λ ss. record { sources = map checked_source_data sources; steps = ss } in
     ap checked (sym c.plan.view_is ∙ ap of_sources (sym c.in_ok-joins.ensures.sources))
-    ∙ ap checked (ap of_steps (sym (steps-are steps (map step_of c.in_ok-leading.leading.items) c.in_ok-leading.ensures.leading (stage_steps stages) (c.in_ok-stages.ensures.steps ∙ c.in_ok-leading.ensures.rest))))
-    ∙ passes c
-    ∙ ap (λ front. Ok (query_of sources front stages)) (sym (front-is c))
-    ∙ ap (λ ss. Ok (query_of ss c.in_ok-front.front stages)) (parts_of c)
+    ∙ ap checked (steps-checked d)
+    ∙ checked-is (physical_of sources (front_of d) stages) (is-prepared d)
+    ∙ ap (λ (p : Physical). Ok (query_of p)) (physical-is d c.in_ok-front.front c.new-physical.result (front-is d c.in_ok-front.front c.in_ok-front.ensures.front) c.new-physical.ensures)
 
 -- ---- the place at which the check stands
 

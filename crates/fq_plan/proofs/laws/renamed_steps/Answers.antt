@@ -1,6 +1,6 @@
 use Rattle.fq_expr.specs.Front.{fault_at}
-use Rattle.fq_plan.specs.Sources.{row_fault}
-use Rattle.fq_plan.proofs.LeadingStepLemmas.{rename_fault-apply_steps}
+use Rattle.fq_run.specs.Sources.{row_fault}
+use Rattle.fq_run.proofs.LeadingStepLemmas.{rename_fault-apply_steps}
 use Rattle.fq_plan.proofs.laws.renamed_steps.Goals as goal
 
 pub returns : goal.returns

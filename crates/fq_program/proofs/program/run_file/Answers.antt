@@ -1,7 +1,7 @@
 use Rattle.std.proofs.Common.{◌≡◌, ◌∷◌, [], ℕ, Some, Ok, refl, subst}
 use Rattle.std.proofs.lemmas.Result.{err_from_is_err_and}
 use Rattle.fq_plan.specs.Plan.{files_wanted}
-use Rattle.fq_plan.specs.Run.{start_refusal, IsStartFault}
+use Rattle.fq_run.specs.Run.{start_refusal, IsStartFault}
 use Rattle.fq_program.proofs.ClauseLemmas.{StopsAsRefused, start_at, run-printed, run-failed}
 use Rattle.fq_program.proofs.program.run_file.Goals as goal
 

@@ -1,4 +1,4 @@
-use Rattle.std.proofs.Common.{◌++◌, ◌∷◌, [], subst}
+use Rattle.std.proofs.Common.{subst}
 use Rattle.std.specs.Prelude.{IsOk}
 use Rattle.fq_plan.specs.Judged.{judged}
 use Rattle.fq_plan.specs.Plan.{Query}
@@ -6,6 +6,4 @@ use Rattle.fq_plan.proofs.PreparedLemmas.{checked-passes}
 use Rattle.fq_plan.proofs.checks.Checked.inputs.Goals as goal
 
 pub returns-clause-not_refused : goal.returns-clause-not_refused
-returns-clause-not_refused c =
-    subst (λ (q : Query). IsOk (judged q)) c.self.view_is
-    (checked-passes (c.self.inside.joins.items ++ c.self.inside.main ∷ []) c.self.inside.leading.front c.self.inside.stages.items c.self.inside.inputs c.self.invariant.0)
+returns-clause-not_refused c = subst (λ (q : Query). IsOk (judged q)) c.self.view_is (checked-passes c.self.inside.physical c.self.invariant)

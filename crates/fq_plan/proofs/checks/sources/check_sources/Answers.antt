@@ -2,7 +2,7 @@ use Rattle.std.proofs.Common.{◌≡◌, ◌<◌, ◌++◌, ◌∷◌, [], Some,
 use Rattle.std.proofs.lemmas.List.{length-map, map-append}
 use Rattle.std.proofs.lemmas.Result.{err_from_is_err_and}
 use Rattle.fq_plan.specs.Judged.{refused_at, source_refusal}
-use Rattle.fq_plan.specs.Stages.{checked_source_data}
+use Rattle.fq_run.specs.Stages.{source_of_files}
 use Rattle.fq_plan.specs.View.{source_data}
 use Rattle.fq_plan.specs.declared.faults.Place.TheVariants as place
 use Rattle.fq_plan.proofs.CheckLemmas.{source-refused, sources-passed}
@@ -18,7 +18,7 @@ returns-in_err-check_source-clause-refused c =
       arith,
       c.len-in-loop-source.ensures,
       c.loop-source.checked.ok.0,
-      length-map c.loop-source.checked.items checked_source_data,
+      length-map c.loop-source.checked.items source_of_files,
       ap length c.loop-source.invariant.same,
     ) in
     let code = c.in_err-check_source.field-0.0 in
@@ -39,7 +39,7 @@ to-come c = omega (
   length-append c.loop-source.yielded (c.in-Some.source ∷ c.next.new.self.rest.items),
   c.len-in-loop-source.ensures,
   c.loop-source.checked.ok.0,
-  length-map c.loop-source.checked.items checked_source_data,
+  length-map c.loop-source.checked.items source_of_files,
   length-map c.loop-source.yielded source_data,
   ap length c.loop-source.invariant.same,
 )
@@ -54,8 +54,8 @@ pub loop-source-preserved : goal.loop-source-preserved
 loop-source-preserved c =
     let source = c.in-Some.source in record {
       left = c.loop-source.invariant.left ∙ ap (λ rest. c.loop-source.yielded ++ rest) c.in-Some.ensures.steps.0 ∙ sym (append_assoc c.loop-source.yielded (source ∷ []) c.next.new.self.rest.items);
-      same = ap (map checked_source_data) c.in_ok-push.ensures.items
-          ∙ map-append checked_source_data c.loop-source.checked.items (c.in_ok-check_source.field-0 ∷ [])
+      same = ap (map source_of_files) c.in_ok-push.ensures.items
+          ∙ map-append source_of_files c.loop-source.checked.items (c.in_ok-check_source.field-0 ∷ [])
           ∙ (λ i. c.loop-source.invariant.same i ++ (c.in_ok-check_source.ensures.source i ∷ []))
           ∙ sym (map-append source_data c.loop-source.yielded (source ∷ []));
       passed = ap (source_refusal 0) (map-append source_data c.loop-source.yielded (source ∷ []))

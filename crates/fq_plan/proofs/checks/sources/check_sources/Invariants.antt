@@ -1,13 +1,13 @@
 use Rattle.std.proofs.Common.{◌≡◌, ◌++◌, ℕ, length, map, None}
 use Rattle.fq_plan.specs.Judged.{source_refusal, IsPlaceOf}
-use Rattle.fq_plan.specs.Stages.{checked_source_data}
+use Rattle.fq_run.specs.Stages.{source_of_files}
 use Rattle.fq_plan.specs.View.{source_data}
 use Rattle.fq_plan.proofs.checks.sources.check_sources.Given as goal
 
 abbrev pub invariant-loop-source : goal.invariant-loop-source
 invariant-loop-source l = record {
   left : l.fn.sources.items ≡ l.yielded ++ l.source-iterator.rest.items;
-  same : map checked_source_data l.checked.items ≡ map source_data l.yielded;
+  same : map source_of_files l.checked.items ≡ map source_data l.yielded;
   passed : source_refusal 0 (map source_data l.yielded) ≡ None;
   place : (steps : ℕ) → IsPlaceOf (length l.fn.sources.items) steps l.fn.place → IsPlaceOf (length l.fn.sources.items) steps l.place;
 }

@@ -3,10 +3,10 @@ use Rattle.std.proofs.lemmas.List.{length-map, map-append}
 use Rattle.std.proofs.lemmas.Result.{err_from_is_err_and}
 use Rattle.fq_column.specs.Frame.{Fields}
 use Rattle.fq_plan.specs.Judged.{judged_steps, refused_at}
-use Rattle.fq_plan.specs.Stages.{checked_fields, stage_steps, Leads}
+use Rattle.fq_plan.specs.Stages.{columns_of, stage_steps, Leads}
 use Rattle.fq_plan.specs.View.{plan_step_of}
 use Rattle.fq_plan.specs.declared.faults.Place.TheVariants as place
-use Rattle.fq_plan.specs.declared.stages.Stage.{Stage}
+use Rattle.fq_run.specs.declared.stages.Stage.{Stage}
 use Rattle.fq_plan.proofs.CheckLemmas.{leads-further, stage_steps-snoc, stages-refused}
 use Rattle.fq_plan.proofs.checks.steps.check_stages.Goals as goal
 use Rattle.fq_plan.proofs.checks.steps.check_stages.Goals.{After-len-in-loop-step}
@@ -24,7 +24,7 @@ so-far c = omega (
 pub returns-in_err-operator-clause-refused : goal.returns-in_err-operator-clause-refused
 returns-in_err-operator-clause-refused c =
     let exit = err_from_is_err_and c.from_residual-in_err-operator.result c.from_residual-in_err-operator.ensures.1 in
-    let joins = checked_fields c.args.joins.now in
+    let joins = columns_of c.args.joins.now in
     let step = c.in-Some.step in
     let left = c.next.new.self.rest.items in
     let stages = c.loop-step.stages.items in
@@ -61,7 +61,7 @@ returns-in_err-push-clause-place c sources total few h = to-come (goal.at.return
 
 pub loop-step-preserved : goal.loop-step-preserved
 loop-step-preserved c =
-    let joins = checked_fields c.args.joins.now in
+    let joins = columns_of c.args.joins.now in
     let step = c.in-Some.step in
     let stages = c.loop-step.stages.items in
     let number = c.args.first + c.len-in-loop-step.result in

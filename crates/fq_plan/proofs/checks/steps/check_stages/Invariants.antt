@@ -1,6 +1,6 @@
 use Rattle.std.proofs.Common.{◌≡◌, ◌≤◌, ◌+◌, ◌++◌, ℕ, map, length, vec_len}
 use Rattle.fq_plan.specs.Judged.{IsPlaceOf}
-use Rattle.fq_plan.specs.Stages.{checked_fields, stage_steps, Leads}
+use Rattle.fq_plan.specs.Stages.{columns_of, stage_steps, Leads}
 use Rattle.fq_plan.specs.View.{plan_step_of}
 use Rattle.fq_plan.proofs.checks.steps.check_stages.Given as goal
 
@@ -9,6 +9,6 @@ invariant-loop-step l = record {
   left : l.fn.steps.items ≡ l.yielded ++ l.step-iterator.rest.items;
   count : vec_len l.stages ≡ length l.yielded;
   steps : stage_steps l.stages.items ≡ map plan_step_of l.yielded;
-  leads : Leads (checked_fields l.joins) l.first l.fn.schema l.stages.items l.schema;
+  leads : Leads (columns_of l.joins) l.first l.fn.schema l.stages.items l.schema;
   place : (sources total : ℕ) → l.first + length l.fn.steps.items ≤ total → IsPlaceOf sources total l.fn.place → IsPlaceOf sources total l.place;
 }

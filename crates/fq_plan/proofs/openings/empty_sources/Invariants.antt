@@ -1,6 +1,0 @@
-use Rattle.std.proofs.Common.{◌≡◌, map, take}
-use Rattle.fq_plan.specs.EngineRun.{no_rows}
-use Rattle.fq_plan.proofs.openings.empty_sources.Given as goal
-
-abbrev pub invariant-loop-source : goal.invariant-loop-source
-invariant-loop-source l = l.sources.items ≡ map (λ s. no_rows s.files s.layout.schema) (take l.source-index l.joins)

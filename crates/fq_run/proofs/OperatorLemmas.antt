@@ -1,0 +1,222 @@
+-- What one running operator makes of one more batch.
+use Rattle.std.proofs.Common.{◌≡◌, ℕ, ◌+◌, ◌-◌, ◌≤◌, nat_le, Bool, true, false, List, [], ◌∷◌, ◌++◌, map, length, take, drop, zip, Option, Some, None, is_some, IsOk, Result, length-drop, length-take-le, refl, ap, sym, ◌∙◌, arith, subst, length-append, pos}
+use Rattle.std.specs.Prelude.{option_map}
+use Rattle.std.specs.Option.{option_or}
+use Rattle.std.proofs.lemmas.List.{length-map, map-append}
+use Rattle.std.proofs.lemmas.Bool.Decides.{nat_tests}
+use Rattle.fq_column.specs.Batch.{row_with}
+use Rattle.fq_column.specs.declared.cells.Cell.{Cell}
+use Rattle.fq_column.specs.Frame.{Fields, Frame, Name, Row, value_named}
+use Rattle.fq_column.specs.Lists.{zip_with, before_missing, first_missing, numbers}
+use Rattle.fq_column.specs.Stream.{Stream, done, then_stream, one_by_one, rename_fault}
+use Rattle.fq_expr.specs.Front.{NumberedSteps, fault_at}
+use Rattle.fq_expr.specs.Steps.{apply_steps, fields_after_all}
+use Rattle.fq_expr.specs.declared.fronts.RowFault.{RowFault}
+use Rattle.fq_column.proofs.StreamLemmas.{one_by_one-append}
+use Rattle.fq_expr.proofs.StepLemmas.{apply_steps-then, rename_fault-then}
+use Rattle.fq_ops.specs.Join.{join_rows, joined, joined_fields, within_room}
+use Rattle.fq_ops.specs.Roll.{roll_rows, roll_schema, rolled, rolled_at, with_sum}
+use Rattle.fq_ops.specs.Taken.{HasTakenCells, Window}
+use Rattle.fq_ops.specs.declared.joins.How.{How}
+use Rattle.fq_ops.proofs.JoinLemmas.{within-parts}
+use Rattle.fq_ops.proofs.RollLemmas.{rolled-append, rolled-added}
+use Rattle.fq_run.specs.Transforms.{Transform, join_room, roll_transform, steps_transform}
+use Rattle.fq_run.specs.RunningOperators.{HasJoined, HasSummed, IsNext}
+use Rattle.fq_run.specs.Sources.{row_fault}
+use Rattle.fq_run.specs.declared.faults.Fault.{Fault}
+use Rattle.fq_run.specs.declared.faults.Fault.TheVariants.{JoinRows, Overflow, RollRange}
+use Rattle.fq_run.specs.declared.operators.joining.Joining.{Joining}
+use Rattle.fq_run.specs.declared.operators.rolling.Summing.{Summing}
+use Rattle.fq_run.proofs.StageLemmas.{length-before, length-range, length-sums, steps-on-stream, sums_of, with-sums}
+
+abbrev stream : {F : Type 0} → List Row → Option F → Stream F
+stream rows fault = record { rows = rows; fault = fault }
+
+-- ---- row-wise steps
+
+pub steps-next : (front : NumberedSteps) (m : Transform) (rows : List Row) (batch made : Frame) (fault : Option RowFault) (end : Option Fault) → m ≡ steps_transform front →
+    end ≡ option_map row_fault fault →
+    made.fields ≡ fields_after_all front.fields front.steps →
+    made.rows ≡ (apply_steps fault_at front.first front.fields front.steps (done batch.rows)).rows →
+    fault ≡ (apply_steps fault_at front.first front.fields front.steps (done batch.rows)).fault →
+    IsNext m rows batch (λ (m : Transform) (rows : List Row). m ≡ steps_transform front) (record { batch = Some made; fault = end })
+steps-next front m rows batch made fault end is e columns r f = record {
+  columns = columns ∙ ap (λ (m : Transform). m.gives) (sym is);
+  next =
+      (λ i. then_stream ((is i).at_once rows) (stream made.rows ((e ∙ same fault) i)))
+      ∙ ap (then_stream (apply_steps Overflow front.first front.fields front.steps (done rows))) (steps-on-stream front.first front.fields front.steps (done batch.rows) made.rows fault r f)
+      ∙ sym (apply_steps-then Overflow front.first front.fields front.steps (done rows) (done batch.rows))
+      ∙ (λ i. (sym is i).at_once (rows ++ batch.rows));
+  kept = λ none. is;
+}
+  where
+    same : (o : Option RowFault) → option_map row_fault o ≡ option_or (option_map row_fault o) None
+    same None = refl
+    same (Some f) = refl
+
+-- ---- joins
+
+-- a join gives no more rows than there is room for
+within-bound : (out : Row → List Row) (room : ℕ) (ls : List Row) → length (within_room out room ls).rows ≤ room
+within-bound out room [] = omega arith
+within-bound out room (l ∷ ls) = go (nat_le (length (out l)) room) refl (within-bound out (room - length (out l)) ls)
+  where
+    go : (b : Bool) → nat_le (length (out l)) room ≡ b → length (within_room out (room - length (out l)) ls).rows ≤ room - length (out l) → length (within_room out room (l ∷ ls)).rows ≤ room
+    go true e h = rw e (grind (arith, nat_tests, e, h, length-append (out l) (within_room out (room - length (out l)) ls).rows))
+    go false e h = rw e (omega arith)
+
+pub join-bound : (how : How) (nulls_equal : Bool) (left right : Fields) (on : List Name) (rows : List Row) (room : ℕ) (ls : List Row) → length (join_rows how nulls_equal left right on rows room ls).rows ≤ room
+join-bound how nulls_equal left right on rows room ls = within-bound (joined left right on how nulls_equal rows) room ls
+
+-- the rows after one more batch
+pub rows-after : (m : Transform) (rows more : List Row) (p : Stream Fault) → (m.at_once rows).fault ≡ None → then_stream (m.at_once rows) p ≡ m.at_once (rows ++ more) →
+    (m.at_once (rows ++ more)).rows ≡ (m.at_once rows).rows ++ p.rows
+rows-after m rows more p unended next =
+    ap (λ (a : Stream Fault). a.rows) (sym next)
+    ∙ ap (λ (o : Option Fault). (then_stream (stream (m.at_once rows).rows o) p).rows) unended
+
+module _ (j : Joining) (m : Transform) (rows : List Row) (batch : Frame) (h : HasJoined j m rows) (same : m.takes ≡ batch.fields) (unended : (m.at_once rows).fault ≡ None) where
+  abbrev joins : ℕ → List Row → Stream ℕ
+  joins room ls = join_rows j.how j.table.nulls_equal m.takes j.table.fields j.table.on j.table.rows room ls
+
+  abbrev full : ℕ → Fault
+  full _ = JoinRows j.number
+
+  room-left : j.room ≡ join_room - length (joins join_room rows).rows
+  room-left = h.room ∙ ap (λ (m : Transform). join_room - length (m.at_once rows).rows) h.transform
+
+  constant : (n : ℕ) (o : Option ℕ) → option_map full (option_map (λ p. n + p) o) ≡ option_map full o
+  constant n None = refl
+  constant n (Some p) = refl
+
+  joined-on : joins join_room (rows ++ batch.rows) ≡ then_stream (joins join_room rows) (rename_fault (λ p. length rows + p) (joins j.room batch.rows))
+  joined-on =
+      within-parts (joined m.takes j.table.fields j.table.on j.how j.table.nulls_equal j.table.rows) join_room rows batch.rows
+      ∙ ap (λ n. then_stream (joins join_room rows) (rename_fault (λ p. length rows + p) (joins n batch.rows))) (sym room-left)
+
+  join-next : (p : Stream Fault) → p ≡ rename_fault full (joins j.room batch.rows) → then_stream (m.at_once rows) p ≡ m.at_once (rows ++ batch.rows)
+  join-next p e =
+      (λ i. then_stream ((h.transform i).at_once rows) (e i))
+      ∙ (λ i. then_stream (rename_fault full (joins join_room rows)) (stream (joins j.room batch.rows).rows (sym (constant (length rows) (joins j.room batch.rows).fault) i)))
+      ∙ sym (rename_fault-then full (joins join_room rows) (rename_fault (λ p. length rows + p) (joins j.room batch.rows)))
+      ∙ ap (rename_fault full) (sym joined-on)
+      ∙ (λ i. (sym h.transform i).at_once (rows ++ batch.rows))
+
+  pub joined-next : (made : Frame) (fault : Option ℕ) (end : Option Fault) (left : ℕ) → end ≡ option_map full fault → left ≡ j.room - length made.rows →
+      made.fields ≡ joined_fields j.how batch.fields j.table.fields j.table.on →
+      made.rows ≡ (join_rows j.how j.table.nulls_equal batch.fields j.table.fields j.table.on j.table.rows j.room batch.rows).rows →
+      fault ≡ (join_rows j.how j.table.nulls_equal batch.fields j.table.fields j.table.on j.table.rows j.room batch.rows).fault →
+      IsNext m rows batch (HasJoined (record j { room = left })) (record { batch = Some made; fault = end })
+  joined-next made fault end left e l columns r f =
+      let p : Stream Fault = stream made.rows end in
+      let is : p ≡ rename_fault full (joins j.room batch.rows) =
+      (λ i. stream ((r ∙ ap (λ fs. (join_rows j.how j.table.nulls_equal fs j.table.fields j.table.on j.table.rows j.room batch.rows).rows) (sym same)) i)
+      ((e ∙ ap (option_map full) (f ∙ ap (λ fs. (join_rows j.how j.table.nulls_equal fs j.table.fields j.table.on j.table.rows j.room batch.rows).fault) (sym same))) i)) in
+      let next = join-next p is in record {
+        columns = columns ∙ ap (λ fs. joined_fields j.how fs j.table.fields j.table.on) (sym same) ∙ ap (λ (m : Transform). m.gives) (sym h.transform);
+        next = next;
+        kept = λ none. record {
+          transform = h.transform;
+          accepted = h.accepted;
+          room = omega (arith, l, h.room, ap length (rows-after m rows batch.rows p unended next), length-append (m.at_once rows).rows made.rows);
+        };
+      }
+
+-- ---- rolling sums
+
+zip-append : {X Y : Type 0} (xs us : List X) (ys vs : List Y) → length ys ≡ length xs → zip (xs ++ us) (ys ++ vs) ≡ zip xs ys ++ zip us vs
+zip-append [] us [] vs e = refl
+zip-append [] us (y ∷ ys) vs e = absurd (omega (arith, e))
+zip-append (x ∷ xs) us [] vs e = absurd (omega (arith, e))
+zip-append (x ∷ xs) us (y ∷ ys) vs e = ap (λ l. (x, y) ∷ l) (zip-append xs us ys vs (omega (arith, e)))
+
+length-rolled : (n m : ℕ) (cells : List Cell) → length (rolled n m cells) ≡ length cells
+length-rolled n m cells = length-map (numbers (length cells)) (rolled_at n m cells) ∙ length-range 0 (length cells)
+
+module _ (n m : ℕ) (fields : Fields) (column name : Name) (rows more : List Row) where
+  abbrev cells : List Row → List Cell
+  cells rs = map (value_named fields column) rs
+
+  -- the sums at further rows
+  abbrev pub more-sums : List (Option Cell)
+  more-sums = drop (length (cells rows)) (rolled n m (cells rows ++ cells more))
+
+  pub length-more : length more-sums ≡ length more
+  length-more = omega (
+    arith,
+    length-drop (length (cells rows)) (rolled n m (cells rows ++ cells more)),
+    length-rolled n m (cells rows ++ cells more),
+    length-append (cells rows) (cells more),
+    length-map more (value_named fields column),
+  )
+
+  pub sums-on : rolled n m (cells rows ++ cells more) ≡ rolled n m (cells rows) ++ more-sums
+  sums-on = rolled-append n m (cells rows) (cells more) ∙ ap (λ (os : List (Option Cell)). rolled n m (cells rows) ++ os) (sym (rolled-added n m (cells rows) (cells more)))
+
+  abbrev summed : Row × Option Cell → Result (List Row) (Unit {0})
+  summed p = with_sum fields name p.0 p.1
+
+  pub roll-on : roll_rows fields column n m name (rows ++ more) ≡ then_stream (roll_rows fields column n m name rows) (one_by_one summed (zip more more-sums))
+  roll-on =
+      ap (λ cs. one_by_one summed (zip (rows ++ more) (rolled n m cs))) (map-append (value_named fields column) rows more)
+      ∙ ap (λ os. one_by_one summed (zip (rows ++ more) os)) sums-on
+      ∙ ap (one_by_one summed) (zip-append rows more (rolled n m (cells rows)) more-sums (length-sums fields column n m rows))
+      ∙ one_by_one-append summed (zip rows (rolled n m (cells rows))) (zip more more-sums)
+
+module _ (s : Summing) (m : Transform) (rows : List Row) (batch : Frame) (h : HasSummed s m rows) (same : m.takes ≡ batch.fields) (unended : (m.at_once rows).fault ≡ None) where
+  abbrev n : ℕ
+  n = s.rolling.window
+
+  abbrev least : ℕ
+  least = s.rolling.min_samples
+
+  abbrev out_of_range : Unit {0} → Fault
+  out_of_range _ = RollRange s.number
+
+  abbrev name : Name
+  name = s.name.now
+
+  abbrev pub further : List (Option Cell)
+  further = more-sums n least m.takes h.column name rows batch.rows
+
+  there : (o : Option ℕ) → option_map out_of_range (option_map (λ (_ : ℕ). let t : Unit {0} = tt in t) o) ≡ None → is_some o ≡ false
+  there None e = refl
+  there (Some i) e = absurd (cc)
+
+  pub not-faulted : s.rolling.faulted ≡ false
+  not-faulted =
+      h.cells.faulted
+      ∙ there (first_missing (sums_of m.takes h.column n least rows))
+      (ap (λ (v : Stream (Unit {0})). option_map out_of_range v.fault) (sym (with-sums m.takes name (sums_of m.takes h.column n least rows) rows (length-sums m.takes h.column n least rows)))
+      ∙ ap (λ (m : Transform). (m.at_once rows).fault) (sym h.transform) ∙ unended)
+
+  named : (o : Option ℕ) → option_map (λ (_ : ℕ). RollRange s.number) o ≡ option_map out_of_range (option_map (λ (_ : ℕ). let t : Unit {0} = tt in t) o)
+  named None = refl
+  named (Some i) = refl
+
+  pub height-of-more : (sums : List Cell) → sums ≡ before_missing further → length sums ≡ length (take (length sums) batch.rows)
+  height-of-more sums e =
+      grind (arith, length-take-le (length sums) batch.rows (omega (arith, ap length e, length-before further, length-more n least m.takes h.column name rows batch.rows)))
+
+  pub summed-next : (p : Stream Fault) (sums : List Cell) (fault : Option ℕ) → sums ≡ before_missing further → fault ≡ first_missing further →
+      p.rows ≡ zip_with (row_with m.takes name) (take (length sums) batch.rows) sums → p.fault ≡ option_map (λ _. RollRange s.number) fault →
+      then_stream (m.at_once rows) p ≡ m.at_once (rows ++ batch.rows)
+  summed-next p sums fault e f r g =
+      let all = with-sums m.takes name further batch.rows (length-more n least m.takes h.column name rows batch.rows) in
+      (λ i. then_stream ((h.transform i).at_once rows)
+      (stream ((r ∙ (λ j. zip_with (row_with m.takes name) (take (length (e j)) batch.rows) (e j)) ∙ ap (λ (v : Stream (Unit {0})). v.rows) (sym all)) i)
+      ((g ∙ named fault ∙ ap (λ (o : Option ℕ). option_map out_of_range (option_map (λ (_ : ℕ). let t : Unit {0} = tt in t) o)) f ∙ ap (λ (v : Stream (Unit {0})). option_map out_of_range v.fault) (sym all)) i)))
+      ∙ sym (rename_fault-then out_of_range (roll_rows m.takes h.column n least name rows) (one_by_one (λ (p : Row × Option Cell). with_sum m.takes name p.0 p.1) (zip batch.rows further)))
+      ∙ ap (rename_fault out_of_range) (sym (roll-on n least m.takes h.column name rows batch.rows))
+      ∙ (λ i. (sym h.transform i).at_once (rows ++ batch.rows))
+
+  -- the rolling sum after that
+  pub summed-kept : (r : Window) (cells : List Cell) → r.window ≡ n → r.min_samples ≡ least → cells ≡ map (value_named m.takes h.column) batch.rows →
+      ((before : List Cell) → HasTakenCells s.rolling before → HasTakenCells r (before ++ cells)) → HasSummed (record s { rolling = r }) m (rows ++ batch.rows)
+  summed-kept r cells w l e taken = record {
+    column = h.column;
+    place = h.place;
+    transform = h.transform ∙ (λ i. roll_transform s.number m.takes h.column (sym w i) (sym l i) name);
+    accepted = subst (λ (k : ℕ). IsOk (roll_schema m.takes h.column (pos k) (pos r.min_samples) name)) (sym w) (subst (λ (k : ℕ). IsOk (roll_schema m.takes h.column (pos n) (pos k) name)) (sym l) h.accepted);
+    cells = subst (λ (cs : List Cell). HasTakenCells r cs) (ap (λ (cs : List Cell). map (value_named m.takes h.column) rows ++ cs) e ∙ sym (map-append (value_named m.takes h.column) rows batch.rows)) (taken (map (value_named m.takes h.column) rows) h.cells);
+  }

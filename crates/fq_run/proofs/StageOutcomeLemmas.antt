@@ -1,0 +1,75 @@
+-- What the stages make of what a run gathered is a frame or a fault of a run, and the stages fit what it starts from.
+use Rattle.std.proofs.Common.{◌≡◌, ℕ, List, [], ◌∷◌, ◌++◌, map, Option, Some, None, Result, Ok, Err, sym, subst}
+use Rattle.std.specs.Prelude.{IfErr}
+use Rattle.fq_column.specs.Frame.{Fields, Frame}
+use Rattle.fq_column.specs.Stream.{Stream}
+use Rattle.fq_expr.specs.Front.{NumberedSteps}
+use Rattle.fq_expr.specs.Steps.{fields_after_all}
+use Rattle.fq_run.specs.EngineRun.{main_files, no_rows, nothing_taken}
+use Rattle.fq_run.specs.Gathering.{gathered_stream}
+use Rattle.fq_run.specs.Kept.{IsSound, AreSound}
+use Rattle.fq_run.specs.Outcome.{columns_after, frame_or_fault, outcome, outcome_of_stages}
+use Rattle.fq_run.specs.Physical.{Physical, front_fields, join_fields}
+use Rattle.fq_run.specs.Run.{IsRunFault}
+use Rattle.fq_run.specs.Sources.{Source, but_last, first_fault}
+use Rattle.fq_run.specs.Stages.{Fit, IsRunnable}
+use Rattle.fq_run.specs.Standing.{FitOver}
+use Rattle.fq_run.specs.Starting.{transforms_of}
+use Rattle.fq_run.specs.Transforms.{whole_all}
+use Rattle.fq_run.specs.declared.faults.Fault.{Fault}
+use Rattle.fq_run.specs.declared.gathering.Gathered.{Gathered}
+use Rattle.fq_run.specs.declared.stages.SourceFiles.{SourceFiles}
+use Rattle.fq_run.specs.declared.stages.Stage.{Stage}
+use Rattle.fq_run.proofs.KeptSourceLemmas.{sound-first, sound-stages}
+use Rattle.fq_run.proofs.RunStartLemmas.{plan, join-columns}
+
+-- ---- faults
+
+sound-ends : (joins : List Gathered) (main : Gathered) → AreSound (joins ++ main ∷ []) → AreSound joins × IsSound main.fault
+sound-ends [] main s = (tt, s.0)
+sound-ends (j ∷ joins) main s = let more = sound-ends joins main s.1 in ((s.0, more.0), more.1)
+
+sound-rows : (ss : List Source) (files : ℕ) (fields : Fields) → AreSound (map (λ (s : Source). no_rows s.files s.fields) ss ++ no_rows files fields ∷ [])
+sound-rows [] files fields = (tt, tt)
+sound-rows (s ∷ ss) files fields = (tt, sound-rows ss files fields)
+
+pub sound-nothing : (p : Physical) → AreSound (nothing_taken p)
+sound-nothing p = sound-rows (but_last p.sources) (main_files p) (front_fields p)
+
+sound-frame : (fields : Fields) (u : Stream Fault) → IsSound u.fault → IfErr (frame_or_fault fields u) IsRunFault
+sound-frame fields u s = go u.fault s
+  where
+    go : (o : Option Fault) → IsSound o → IfErr (elim o as (λ _. Result Frame Fault) [ None ↦ Ok (record { fields = fields; rows = u.rows }) | Some f ↦ Err f ]) IsRunFault
+    go None s = tt
+    go (Some f) s = s
+
+pub sound-outcome : (stages : List Stage) (joins : List Gathered) (main : Gathered) → AreSound (joins ++ main ∷ []) → IfErr (outcome_of_stages stages joins main) IsRunFault
+sound-outcome stages joins main s = go (first_fault (map gathered_stream joins)) (sound-first joins both.0)
+  where
+    both : AreSound joins × IsSound main.fault
+    both = sound-ends joins main s
+
+    batches : List Frame
+    batches = map (λ (g : Gathered). g.batch) joins
+
+    go : (o : Option Fault) → IsSound o →
+        IfErr (elim o as (λ _. Result Frame Fault) [ Some f ↦ Err f | None ↦ outcome (map (λ (g : Gathered). g.batch) joins) main.batch.fields stages (gathered_stream main) ]) IsRunFault
+    go None t =
+        sound-frame (columns_after main.batch.fields (transforms_of batches main.batch.fields stages)) (whole_all (transforms_of batches main.batch.fields stages) (gathered_stream main))
+        (sound-stages batches main.batch.fields stages (gathered_stream main) both.1)
+    go (Some f) t = t
+
+-- ---- the stages over nothing taken
+
+-- the sources before the last, of which nothing was taken, and the last one's columns after the leading steps
+module _ (sources : List SourceFiles) (front : NumberedSteps) (stages : List Stage) (inputs : ℕ) (c : IsRunnable sources front stages inputs) (joins : List SourceFiles) (main : SourceFiles) (parts : sources ≡ joins ++ main ∷ []) where
+  abbrev pub before_main : List Gathered
+  before_main = map (λ (s : SourceFiles). no_rows s.files s.layout.schema) joins
+
+  abbrev pub main_one : Gathered
+  main_one = no_rows main.files (fields_after_all front.fields front.steps)
+
+  pub fit-over : FitOver stages c.fits.0 before_main main_one
+  fit-over =
+      subst (λ (fs : List Fields). Fit fs main_one.batch.fields stages c.fits.0) (sym (join-columns sources front stages inputs c joins main parts))
+      (subst (λ (f : Fields). Fit (join_fields (plan sources front stages inputs c)) (fields_after_all f front.steps) stages c.fits.0) (sym c.on_main) c.fits.1)

@@ -1,0 +1,44 @@
+use Rattle.std.proofs.Common.{◌≡◌, List, [], map, Result, Ok, Err, None, ap, sym, subst}
+use Rattle.std.specs.Prelude.{IfOk}
+use Rattle.fq_column.specs.Frame.{Fields, Row}
+use Rattle.fq_column.specs.Stream.{Stream}
+use Rattle.fq_csv.specs.Printed.{printed}
+use Rattle.fq_run.specs.Gathering.{gathered_stream}
+use Rattle.fq_run.specs.Later.{later_steps}
+use Rattle.fq_run.specs.Pipelines.{HasRun}
+use Rattle.fq_run.specs.Sources.{first_fault}
+use Rattle.fq_run.specs.Stages.{Fit}
+use Rattle.fq_run.specs.Standing.{FitOver, IsStreaming, IsWaiting, Stands}
+use Rattle.fq_run.specs.Streaming.{Streaming}
+use Rattle.fq_run.specs.WaitingSources.{WaitingSources}
+use Rattle.fq_run.specs.declared.faults.Fault.{Fault}
+use Rattle.fq_run.specs.declared.gathering.Gathered.{Gathered}
+use Rattle.fq_run.specs.declared.run_tail.TailState.{TailState}
+use Rattle.fq_run.specs.declared.stages.Stage.{Stage}
+use Rattle.fq_run.proofs.run_tail.TailState.open.Goals as goal
+
+on-ok : {A B : Type 0} {P Q : A → Type 0} (r : Result A B) → ((x : A) → P x → Q x) → IfOk r P → IfOk r Q
+on-ok (Ok x) f h = f x h
+on-ok (Err e) f h = tt
+
+-- the main source's rows on their way, which have taken no row
+abbrev HasStarted : Fields → WaitingSources → Streaming → Type 0
+HasStarted after w s = Fit (map (λ (g : Gathered). g.batch.fields) w.joins) w.before w.stages after →
+    (first_fault (map gathered_stream w.joins) ≡ None) × (HasRun s.operators (later_steps w.stages w.joins w.before after) [] [] × ((s.before ≡ w.before) × (s.text ≡ printed (record { fields = after; rows = [] }))))
+
+streams : (stages : List Stage) (after : Fields) (joins : List Gathered) (main : Gathered) (w : WaitingSources) (s : Streaming) →
+    FitOver stages after joins main → IsWaiting stages joins main w → HasStarted after w s → IsStreaming stages after joins main s
+streams stages after joins main w s fits i has =
+    let started = subst (λ (v : WaitingSources). HasStarted after v s) i.sources has fits in record {
+      none = started.0;
+      faultless = ap (λ (u : Stream Fault). u.fault) i.nothing;
+      before = started.1.1.0;
+      out = [];
+      run = subst (λ (rows : List Row). HasRun s.operators (later_steps stages joins main.batch.fields after) rows []) (sym (ap (λ (u : Stream Fault). u.rows) i.nothing)) started.1.0;
+      text = started.1.1.1;
+    }
+
+pub returns-in-Waiting-clause-streaming : goal.returns-in-Waiting-clause-streaming
+returns-in-Waiting-clause-streaming c =
+    on-ok c.start.result (λ s has stages after joins main fits stands.
+    streams stages after joins main c.in-Waiting.waiting s fits (subst (λ (t : TailState). Stands stages after joins main t) c.in-Waiting.is stands) (has after)) c.start.ensures.started

@@ -1,0 +1,54 @@
+-- What a physical plan of the program holds: sources that are read, leading row-wise steps, and the stages after them.
+use Rattle.std.specs.Prelude.{◌≡◌, ◌≤◌, ℕ, pos, List, [], ◌∷◌, map, length, slice_get, string_bytes, Option, Some, None, Result, Ok, Err}
+use Rattle.fq_column.specs.Frame.{Fields, Name}
+use Rattle.fq_column.specs.declared.faults.StepFault.{StepFault}
+use Rattle.fq_column.specs.declared.faults.StepFault.TheVariants.{NoSuchSource}
+use Rattle.fq_expr.specs.Front.{NumberedSteps}
+use Rattle.fq_expr.specs.Kinds.{steps_schema}
+use Rattle.fq_ops.specs.AggregateData.{outputs_of}
+use Rattle.fq_ops.specs.Group.{group_schema}
+use Rattle.fq_ops.specs.Join.{join_schema}
+use Rattle.fq_ops.specs.Roll.{roll_schema}
+use Rattle.fq_ops.specs.declared.joins.How.{How}
+use Rattle.fq_run.specs.Physical.{Physical, files_wanted, front_fields, join_fields, main_fields}
+use Rattle.fq_run.specs.Sources.{Source}
+use Rattle.fq_run.specs.declared.physical_plans.TheConstants.{MAX_FILES}
+use Rattle.fq_run.specs.declared.stages.SourceFiles.{SourceFiles}
+use Rattle.fq_run.specs.declared.stages.Operator.{Operator}
+use Rattle.fq_run.specs.declared.stages.Operator.TheVariants.{Rows, Join, GroupBy, RollingSum}
+use Rattle.fq_run.specs.declared.stages.Stage.{Stage}
+
+abbrev pub source_of_files : SourceFiles → Source
+source_of_files s = record { files = s.files; fields = s.layout.schema; nulls = s.layout.nulls }
+
+-- the physical plan that sources, leading row-wise steps and stages are
+abbrev pub physical_of : List SourceFiles → NumberedSteps → List Stage → Physical
+physical_of sources front stages = record { sources = map source_of_files sources; front = front.steps; stages = stages }
+
+-- the columns after a join with a source of these columns, if it is there
+abbrev pub schema_with : How → Fields → List Name → Option Fields → Result Fields StepFault
+schema_with how fields on o = elim o [ None ↦ Err NoSuchSource | Some right ↦ join_schema how fields right on ]
+
+-- below, `joins` are the columns of the sources before the last
+module _ (joins : List Fields) where
+  -- an operator takes rows with these columns to rows with those
+  abbrev pub Accepts : Fields → Operator → Fields → Type 0
+  Accepts fields (Rows front) after = (front.fields ≡ fields) × (steps_schema fields front.steps ≡ Ok after)
+  Accepts fields (Join source on how nulls_equal) after = schema_with how fields (map string_bytes on.items) (slice_get joins source) ≡ Ok after
+  Accepts fields (GroupBy keys aggs) after = group_schema fields (map string_bytes keys.items) (outputs_of aggs.items) ≡ Ok after
+  Accepts fields (RollingSum column window min_samples name) after =
+      roll_schema fields (string_bytes column) (pos window) (pos min_samples) (string_bytes name) ≡ Ok after
+
+  -- so do stages, one after the other, each of which has the columns that it leaves
+  abbrev pub Fit : Fields → List Stage → Fields → Type 0
+  Fit fields [] after = fields ≡ after
+  Fit fields (s ∷ stages) after = Accepts fields s.operator s.after × Fit s.after stages after
+
+-- a physical plan that can run: few files, leading steps on the main source's columns that are numbered from 0, and stages that fit
+pub record IsRunnable (sources : List SourceFiles) (front : NumberedSteps) (stages : List Stage) (inputs : ℕ) : Type 0 where
+  pub some_source : 1 ≤ length sources
+  pub inputs_wanted : inputs ≡ files_wanted (physical_of sources front stages)
+  pub few_files : files_wanted (physical_of sources front stages) ≤ MAX_FILES
+  pub from_first : front.first ≡ 0
+  pub on_main : front.fields ≡ main_fields (physical_of sources front stages)
+  pub fits : (after : Fields) × Fit (join_fields (physical_of sources front stages)) (front_fields (physical_of sources front stages)) stages after

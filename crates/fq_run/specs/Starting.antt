@@ -1,0 +1,25 @@
+-- The transforms that stages are.
+use Rattle.std.specs.Prelude.{ℕ, List, [], ◌∷◌, map, string_bytes, slice_index_or}
+use Rattle.fq_column.specs.Frame.{Fields, Frame}
+use Rattle.fq_ops.specs.AggregateData.{outputs_of}
+use Rattle.fq_run.specs.Transforms.{Transform, group_transform, join_transform, roll_transform, steps_transform}
+use Rattle.fq_run.specs.declared.stages.Operator.{Operator}
+use Rattle.fq_run.specs.declared.stages.Operator.TheVariants.{Rows, Join, GroupBy, RollingSum}
+use Rattle.fq_run.specs.declared.stages.Stage.{Stage}
+
+-- no columns and no rows
+abbrev pub nothing : Frame
+nothing = record { fields = []; rows = [] }
+
+module _ (joins : List Frame) where
+  -- an operator whose first step is step n, on rows with these columns
+  abbrev pub transform_of : ℕ → Fields → Operator → Transform
+  transform_of n fields (Rows front) = steps_transform front
+  transform_of n fields (Join source on how nulls_equal) = let right = slice_index_or joins source nothing in
+      join_transform n how (record { fields = right.fields; rows = right.rows; on = map string_bytes on.items; nulls_equal = nulls_equal }) fields
+  transform_of n fields (GroupBy keys aggs) = group_transform n fields (map string_bytes keys.items) (outputs_of aggs.items)
+  transform_of n fields (RollingSum column window min_samples name) = roll_transform n fields (string_bytes column) window min_samples (string_bytes name)
+
+  abbrev pub transforms_of : Fields → List Stage → List Transform
+  transforms_of fields [] = []
+  transforms_of fields (s ∷ stages) = transform_of s.number fields s.operator ∷ transforms_of (transform_of s.number fields s.operator).gives stages

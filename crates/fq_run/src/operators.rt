@@ -1,0 +1,163 @@
+//! Running operators: each takes a stream piece by piece, and passes on what it makes of a piece at once.
+ghost use Rattle.std.specs.Prelude.{◌≡◌, List, [], None, map, IfOk};
+ghost use Rattle.fq_column.specs.Frame.{Fields, Row};
+ghost use Rattle.fq_run.specs.Transforms.{Transform, steps_transform};
+ghost use Rattle.fq_run.specs.Stages.{Accepts};
+ghost use Rattle.fq_run.specs.Starting.{transform_of};
+ghost use Rattle.fq_run.specs.RunningOperators.{HasEnded, HasPassed, HasTaken, IsUnder, Keeps, Takes};
+
+mod grouping;
+mod joining;
+mod rolling;
+
+use crate::passed::Passed;
+use crate::stages::{Operator, Stage};
+use fq_column::{Batch, Memory, Schema};
+use fq_expr::{Front, Piece};
+pub(crate) use grouping::Grouping;
+pub(crate) use joining::Joining;
+pub(crate) use rolling::Summing;
+use std::alloc::Global;
+
+/// An operator, with what it keeps of the rows that it has taken.
+#[derive(Drop)]
+pub(crate) enum Running<'a> {
+    /// Row-wise steps.
+    Rows(&'a Front),
+    /// A join with rows that are there.
+    Join(Joining),
+    /// A rolling sum.
+    Roll(Summing<'a>),
+    /// Aggregates of groups, which are given at the end.
+    Group(Grouping),
+}
+
+impl<'a> Running<'a> {
+    /// The operator of a stage that has taken no row, on rows of a schema.
+    pub(crate) fn start(
+        alloc: Global,
+        joins: &[Batch],
+        schema: &Schema,
+        stage: &'a Stage,
+    ) -> Result<Running<'a>, Memory>
+        requires { (after : Fields) × Accepts (map (λ f. f.fields) joins.now) schema.now stage.now.operator after }
+        ensures { IfOk result (λ r. (after : Fields) → Accepts (map (λ f. f.fields) joins.now) schema.now stage.entry.now.operator after →
+            HasTaken r (transform_of joins.now stage.entry.now.number schema.now stage.entry.now.operator) []) }
+    {
+        let number = stage.number;
+        match &stage.operator {
+            Operator::Rows(front) => Ok(Running::Rows(front)),
+            Operator::Join {
+                source,
+                on,
+                how,
+                nulls_equal,
+            } => {
+                let right = &joins[*source];
+                let joining = Joining::new(
+                    alloc,
+                    number,
+                    right,
+                    on.as_slice(),
+                    *how,
+                    *nulls_equal,
+                )?;
+                Ok(Running::Join(joining))
+            }
+            Operator::GroupBy { keys, aggs } => {
+                let grouping = Grouping::new(
+                    alloc,
+                    number,
+                    schema,
+                    keys.as_slice(),
+                    aggs.as_slice(),
+                )?;
+                Ok(Running::Group(grouping))
+            }
+            Operator::RollingSum {
+                column,
+                window,
+                min_samples,
+                name,
+            } => {
+                let column = column.as_str();
+                let name = name.as_str();
+                let summing = Summing::new(
+                    alloc,
+                    number,
+                    schema,
+                    column,
+                    *window,
+                    *min_samples,
+                    name,
+                )?;
+                Ok(Running::Roll(summing))
+            }
+        }
+    }
+
+    /// Takes what the operator before it passed on, and passes on what it makes of that at once.
+    pub(crate) fn push(&mut self, alloc: Global, came: Passed) -> Result<Passed, Memory>
+        requires { (m : Transform) × ((rows : List Row) × (HasTaken self.old m rows × IsUnder m.takes came.batch)) }
+        ensures { IfOk result (λ p. (m : Transform) (rows : List Row) → HasTaken self.old m rows → IsUnder m.takes came.batch →
+            HasPassed self.new m rows came p) }
+    {
+        let Passed { batch, fault } = came;
+        let Some(batch) = batch else {
+            return Ok(Passed { batch: None, fault });
+        };
+        let passed = self.take(alloc, batch)?;
+        match passed.fault {
+            Some(_) => Ok(passed),
+            None => Ok(Passed {
+                batch: passed.batch,
+                fault,
+            }),
+        }
+    }
+
+    /// Takes the last that comes, and passes on all that is left. No more can be taken.
+    pub(crate) fn finish(&mut self, alloc: Global, came: Passed) -> Result<Passed, Memory>
+        requires { (m : Transform) × ((rows : List Row) × (HasTaken self.old m rows × IsUnder m.takes came.batch)) }
+        ensures { IfOk result (λ p. (m : Transform) (rows : List Row) → HasTaken self.old m rows → IsUnder m.takes came.batch →
+            HasEnded m rows came p) }
+    {
+        let passed = self.push(alloc, came)?;
+        if passed.fault.is_some() {
+            return Ok(passed);
+        }
+        match self {
+            Running::Group(grouping) => grouping.finish(alloc),
+            Running::Rows(_) | Running::Join(_) | Running::Roll(_) => Ok(passed),
+        }
+    }
+
+    // Takes one more batch.
+    fn take(&mut self, alloc: Global, batch: Batch) -> Result<Passed, Memory>
+        requires { (m : Transform) × ((rows : List Row) × ((m.takes ≡ batch.fields) × ((m.at_once rows).fault ≡ None) × Keeps self.old m rows)) }
+        ensures { IfOk result (λ p. Takes (Keeps self.old) (Keeps self.new) batch p) }
+    {
+        match self {
+            Running::Rows(front) => step(alloc, front, batch),
+            Running::Join(joining) => joining.take(alloc, batch),
+            Running::Roll(summing) => summing.take(alloc, batch),
+            Running::Group(grouping) => grouping.take(alloc, batch),
+        }
+    }
+}
+
+// Row-wise steps on one more batch.
+fn step(alloc: Global, front: &Front, batch: Batch) -> Result<Passed, Memory>
+    requires { batch.fields ≡ front.now.fields }
+    ensures { IfOk result (λ p. Takes (λ m rows. m ≡ steps_transform front.now) (λ m rows. m ≡ steps_transform front.now) batch p) }
+{
+    let Piece { batch, fault } = front.apply(alloc, batch)?;
+    let fault = match fault {
+        Some(fault) => Some(fault.into()),
+        None => None,
+    };
+    Ok(Passed {
+        batch: Some(batch),
+        fault,
+    })
+}

@@ -1,0 +1,64 @@
+//! A join that runs.
+ghost use Rattle.std.specs.Prelude.{◌≡◌, List, [], None, map, string_bytes, IfOk, IsOk};
+ghost use Rattle.fq_column.specs.Frame.{Fields, Row};
+ghost use Rattle.fq_run.specs.Transforms.{Transform, join_transform};
+ghost use Rattle.fq_ops.specs.Join.{join_schema};
+ghost use Rattle.fq_run.specs.RunningOperators.{HasJoined, Takes};
+
+use crate::faults::Fault;
+use crate::passed::Passed;
+use fq_column::{Batch, Memory};
+use fq_ops::{How, JoinTable, Probed};
+use std::alloc::Global;
+
+/// The most rows that a join gives.
+const MAX_JOINED_ROWS: u64 = 4_294_967_295;
+
+/// A join with a table, and how many rows it may still give.
+#[derive(Drop)]
+pub(crate) struct Joining {
+    pub(crate) number: u16,
+    pub(crate) table: JoinTable,
+    pub(crate) how: How,
+    pub(crate) room: u64,
+}
+
+impl Joining {
+    /// A join with a right batch, with room for all rows that a join gives.
+    pub(crate) fn new(
+        alloc: Global,
+        number: u16,
+        right: &Batch,
+        on: &[String],
+        how: How,
+        nulls_equal: bool,
+    ) -> Result<Joining, Memory>
+        requires { (left : Fields) × IsOk (join_schema how left right.now.fields (map string_bytes on.now)) }
+        ensures { IfOk result (λ j. (left : Fields) → IsOk (join_schema how left right.now.fields (map string_bytes on.now)) →
+            HasJoined j (join_transform number how (record { fields = right.now.fields; rows = right.now.rows; on = map string_bytes on.now; nulls_equal = nulls_equal }) left) []) }
+    {
+        Ok(Joining {
+            number,
+            table: JoinTable::build(alloc, right, on, nulls_equal)?,
+            how,
+            room: MAX_JOINED_ROWS,
+        })
+    }
+
+    /// Takes one more batch, and passes on the rows that it gives.
+    pub(crate) fn take(&mut self, alloc: Global, batch: Batch) -> Result<Passed, Memory>
+        requires { (m : Transform) × ((rows : List Row) × ((m.takes ≡ batch.fields) × ((m.at_once rows).fault ≡ None) × HasJoined self.old m rows)) }
+        ensures { IfOk result (λ p. Takes (HasJoined self.old) (HasJoined self.new) batch p) }
+    {
+        let Probed { batch, fault } = self.table.probe(alloc, &batch, self.how, self.room)?;
+        self.room -= batch.rows() as u64;
+        let fault = match fault {
+            Some(_) => Some(Fault::JoinRows { step: self.number }),
+            None => None,
+        };
+        Ok(Passed {
+            batch: Some(batch),
+            fault,
+        })
+    }
+}

@@ -1,0 +1,93 @@
+//! Physical plans.
+ghost use Rattle.std.specs.Prelude.{◌≡◌, ◌++◌, ◌∷◌, []};
+ghost use Rattle.fq_expr.specs.Steps.{fields_after_all};
+ghost use Rattle.fq_run.specs.Physical.{files_wanted, join_files as files_before_main};
+ghost use Rattle.fq_run.specs.Stages.{IsRunnable, physical_of};
+
+use crate::leading_steps::LeadingSteps;
+use crate::stages::{SourceFiles, Stage};
+use fq_column::Schema;
+use fq_expr::Front;
+use fq_lanes::MAX_FEEDS;
+use std::alloc::Global;
+use std::marker::Model;
+
+/// The most files of a run, each of which is a feed of it.
+pub const MAX_FILES: u16 = 16;
+
+const _: () = prove!(MAX_FILES as usize == MAX_FEEDS);
+
+/// What a run does: it reads sources, of which the last is the main one, takes leading row-wise steps on the rows of that in the
+/// workers, and passes these rows through stages.
+#[derive(Drop)]
+pub struct PhysicalPlan {
+    /// The sources before the main one.
+    pub(crate) joins: Vec<SourceFiles>,
+    pub(crate) main: SourceFiles,
+    pub(crate) leading: LeadingSteps,
+    /// The main source's columns after the leading steps.
+    pub(crate) after_leading: Schema,
+    pub(crate) stages: Vec<Stage>,
+    pub(crate) inputs: u16,
+}
+
+impl Model for PhysicalPlan {
+    ghost use Rattle.fq_run.specs.Physical.{Physical};
+
+    ghost Value = { Physical };
+
+    ghost use Rattle.std.specs.Coded.{codes};
+    ghost use Rattle.fq_expr.specs.ExpressionCode.{expression_code};
+
+    ghost coded = { Prim.hlevel (codes, expression_code (Prim.hlevel codes)) };
+
+    ghost use Rattle.std.specs.Prelude.{◌≡◌, ◌++◌, ◌∷◌, []};
+    ghost use Rattle.fq_expr.specs.Steps.{fields_after_all};
+    ghost use Rattle.fq_run.specs.Physical.{join_files};
+    ghost use Rattle.fq_run.specs.Stages.{IsRunnable, physical_of};
+
+    ghost view = { λ p. physical_of (p.joins.items ++ p.main ∷ []) p.leading.front p.stages.items };
+
+    ghost invariant = { λ p. IsRunnable (p.joins.items ++ p.main ∷ []) p.leading.front p.stages.items p.inputs
+        × (p.leading.join_files ≡ join_files (physical_of (p.joins.items ++ p.main ∷ []) p.leading.front p.stages.items))
+        × (p.after_leading ≡ fields_after_all p.leading.front.fields p.leading.front.steps) };
+}
+
+impl PhysicalPlan {
+    /// A plan over so many files, of which so many are of the sources before the main one.
+    pub fn new(
+        alloc: Global,
+        joins: Vec<SourceFiles>,
+        main: SourceFiles,
+        front: Front,
+        after_leading: Schema,
+        stages: Vec<Stage>,
+        inputs: u16,
+        join_files: u16,
+    ) -> PhysicalPlan
+        requires runnable { IsRunnable (joins.items ++ main ∷ []) front stages.items inputs }
+        requires before_main { join_files ≡ files_before_main (physical_of (joins.items ++ main ∷ []) front stages.items) }
+        requires columns { after_leading ≡ fields_after_all front.fields front.steps }
+        ensures { result ≡ physical_of (joins.items ++ main ∷ []) front stages.items }
+    {
+        PhysicalPlan {
+            joins,
+            main,
+            leading: LeadingSteps {
+                alloc,
+                front,
+                join_files,
+            },
+            after_leading,
+            stages,
+            inputs,
+        }
+    }
+
+    /// How many files the plan wants, from 1 to [`MAX_FILES`]: those of the first source, then those of the next, and so on.
+    pub fn inputs(&self) -> u16
+        ensures { result ≡ files_wanted self.now }
+    {
+        self.inputs
+    }
+}

@@ -1,0 +1,145 @@
+//! The tail of a run: each worked item goes through the remaining steps as soon as it is taken.
+ghost use Rattle.std.specs.Prelude.{◌≡◌, ◌⊎◌, List, IfOk, IfErr};
+ghost use Rattle.fq_column.specs.Frame.{Fields};
+ghost use Rattle.fq_run.specs.Gathering.{gathered, taken_in};
+ghost use Rattle.fq_run.specs.Outcome.{outcome_of_stages};
+ghost use Rattle.fq_run.specs.PrintedText.{Prints};
+ghost use Rattle.fq_run.specs.Standing.{IsSettled, IsStreaming, IsWaiting, FitOver, Stands, TailTakes, Waits};
+ghost use Rattle.fq_run.specs.declared.faults.Fault.TheVariants as fault;
+ghost use Rattle.fq_run.specs.declared.gathering.Gathered.{Gathered as Source};
+ghost use Rattle.fq_run.specs.declared.stages.Stage.{Stage};
+
+use crate::faults::Fault;
+use crate::leading_steps::Worked;
+use crate::main_stream::MainStream;
+use crate::printed_text::PrintedText;
+use crate::waiting::Waiting;
+use fq_column::Memory;
+use fq_lanes::Tail;
+use std::alloc::Global;
+use std::mem;
+
+/// How far the sources have come.
+#[derive(Drop)]
+pub(crate) enum TailState<'a> {
+    /// Those before the main one still come.
+    Waiting(Waiting<'a>),
+    /// The main one is on its way through the steps.
+    Streaming(MainStream<'a>),
+    /// A fault has ended all.
+    Ended(Fault),
+}
+
+impl<'a> TailState<'a> {
+    // Takes a worked item of a source before the main one.
+    fn take_before_main(self, file: u16, item: Worked) -> Result<TailState<'a>, Memory>
+        ensures { IfOk result (λ t. (stages : List Stage) (joins : List Source) (main : Source) → Waits stages joins main self.entry → Waits stages (taken_in file item joins) main t) }
+    {
+        match self {
+            TailState::Waiting(waiting) => Ok(TailState::Waiting(waiting.take(file, item)?)),
+            state => Ok(state),
+        }
+    }
+
+    // Takes a worked item of the main source.
+    fn take_main(self, alloc: Global, item: Worked) -> Result<TailState<'a>, Memory>
+        ensures { IfOk result (λ t. (stages : List Stage) (after : Fields) (joins : List Source) (main : Source) → FitOver stages after joins main → Stands stages after joins main self.entry →
+            Stands stages after joins (gathered main item) t) }
+    {
+        match self.pass(alloc, item) {
+            Ok(stream) => Ok(TailState::Streaming(stream)),
+            Err(Fault::Memory) => Err(Memory),
+            Err(fault) => Ok(TailState::Ended(fault)),
+        }
+    }
+
+    // Passes a worked item of the main source on to its rows, unless a fault ends all.
+    fn pass(self, alloc: Global, item: Worked) -> Result<MainStream<'a>, Fault>
+        ensures streaming { IfOk result (λ s. (stages : List Stage) (after : Fields) (joins : List Source) (main : Source) → FitOver stages after joins main → Stands stages after joins main self.entry →
+            IsStreaming stages after joins (gathered main item) s) }
+        ensures settled { IfErr result (λ f. (stages : List Stage) (after : Fields) (joins : List Source) (main : Source) → FitOver stages after joins main → Stands stages after joins main self.entry →
+            (f ≡ fault.Memory) ⊎ IsSettled stages after joins (gathered main item) f) }
+    {
+        let stream = self.open(alloc)?;
+        Ok(stream.take(alloc, item)?)
+    }
+
+    // The main source's rows on their way, unless a fault ends all; with the first of them, the sources before it are whole.
+    fn open(self, alloc: Global) -> Result<MainStream<'a>, Fault>
+        ensures streaming { IfOk result (λ s. (stages : List Stage) (after : Fields) (joins : List Source) (main : Source) → FitOver stages after joins main → Stands stages after joins main self.entry →
+            IsStreaming stages after joins main s) }
+        ensures settled { IfErr result (λ f. (stages : List Stage) (after : Fields) (joins : List Source) (main : Source) → FitOver stages after joins main → Stands stages after joins main self.entry →
+            (f ≡ fault.Memory) ⊎ IsSettled stages after joins main f) }
+    {
+        match self {
+            TailState::Waiting(waiting) => waiting.start(alloc),
+            TailState::Streaming(stream) => Ok(stream),
+            TailState::Ended(fault) => Err(fault),
+        }
+    }
+
+    // The text of the frame of all that was taken, or the fault in which it ends.
+    fn finish(self, alloc: Global) -> Result<PrintedText, Fault>
+        ensures { (stages : List Stage) (after : Fields) (joins : List Source) (main : Source) → FitOver stages after joins main → Stands stages after joins main self.entry →
+            Prints (outcome_of_stages stages joins main) result }
+    {
+        let stream = self.open(alloc)?;
+        stream.finish(alloc)
+    }
+}
+
+/// What takes the worked items of a run.
+#[derive(Drop)]
+pub(crate) struct RunTail<'a> {
+    alloc: Global,
+    /// How many files are of the sources before the main one.
+    pub(crate) join_files: u16,
+    pub(crate) state: TailState<'a>,
+}
+
+impl<'a> Tail for RunTail<'a> {
+    type Out = Worked;
+
+    ghost takes = { λ old file _ out new. TailTakes old.join_files old.state file out new.join_files new.state };
+
+    ghost refuses = { λ _ _. Unit {0} };
+
+    fn take(&mut self, file: u16, _serial: u32, out: Worked) -> Result<(), fq_lanes::Memory> {
+        // a refused item leaves a tail that has ended
+        let state = mem::replace(&mut self.state, TailState::Ended(Fault::Memory));
+        let taken = if file < self.join_files {
+            state.take_before_main(file, out)
+        } else {
+            state.take_main(self.alloc, out)
+        };
+        match taken {
+            Ok(state) => {
+                self.state = state;
+                Ok(())
+            }
+            Err(Memory) => Err(fq_lanes::Memory),
+        }
+    }
+}
+
+impl<'a> RunTail<'a> {
+    /// A tail that has taken nothing, of which so many files are of the sources before the main one.
+    pub(crate) fn new(alloc: Global, join_files: u16, waiting: Waiting<'a>) -> RunTail<'a>
+        ensures files { result.join_files ≡ join_files }
+        ensures waits { (stages : List Stage) (joins : List Source) (main : Source) → IsWaiting stages joins main waiting.entry → Waits stages joins main result.state }
+    {
+        RunTail {
+            alloc,
+            join_files,
+            state: TailState::Waiting(waiting),
+        }
+    }
+
+    /// The text of the frame of all that was taken, or the fault in which it ends.
+    pub(crate) fn finish(self) -> Result<PrintedText, Fault>
+        ensures { (stages : List Stage) (after : Fields) (joins : List Source) (main : Source) → FitOver stages after joins main → Stands stages after joins main self.entry.state →
+            Prints (outcome_of_stages stages joins main) result }
+    {
+        self.state.finish(self.alloc)
+    }
+}

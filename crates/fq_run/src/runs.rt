@@ -1,0 +1,134 @@
+//! A physical plan over files.
+ghost use Rattle.std.specs.Prelude.{◌≡◌, ◌≢◌, ◌≤◌, ◌⊎◌, ℕ, List, map, vec_len, Some, Ok, Err, IfOk, IfErr, IsOk, OnOk};
+ghost use Rattle.std.specs.Io.KnownBytes.{Appends, Keeps};
+ghost use Rattle.fq_column.specs.Frame.{Frame};
+ghost use Rattle.fq_csv.specs.Printed.{printed};
+ghost use Rattle.fq_run.specs.GatheredRun.{HasGathered};
+ghost use Rattle.fq_run.specs.Physical.{file_streams, files_wanted, outcome_of_run};
+ghost use Rattle.fq_run.specs.PrintedText.{text_of};
+ghost use Rattle.fq_run.specs.Run.{start_refusal, IsEngineFault, IsOfMeaning, IsRunFault, IsStartFault, Tell, trace_of};
+ghost use Rattle.fq_run.specs.declared.faults.Fault.TheVariants as fault;
+
+use crate::faults::Fault;
+use crate::leading_steps::Worked;
+use crate::openings::{empty_sources, file_layouts, open_feeds};
+use crate::physical_plans::PhysicalPlan;
+use crate::printed_text::PrintedText;
+use crate::run_tail::RunTail;
+use crate::waiting::Waiting;
+use fq_csv::MAX_BATCH_SIZE;
+use fq_lanes::{Gate, MAX_WORKERS, Report, run_lanes};
+use std::alloc::Global;
+use std::io::{Read, Write};
+use std::sync::Wait;
+use std::thread::Threads;
+
+impl PhysicalPlan {
+    /// Writes the frame that the plan comes to over the files, or answers the fault that it comes to.
+    ///
+    /// `inputs` are the files' readers, in argument order: those of the first source, then those of the next, and so on.
+    /// A thread for each cuts its records into runs of `batch_size`, from 1 to 65,536, and as many threads as `workers`, from
+    /// 1 to 16, make a batch of each run and do the leading row-wise steps. What is written does not depend on either, nor on
+    /// the order in which the threads take their steps. The report lists the file and serial of each batch, by file, then
+    /// serial.
+    ///
+    /// The first of these faults is answered: `Inputs` if the number of readers is not `PhysicalPlan::inputs`, and `Setting` if
+    /// the batch size or the number of workers is out of range, both before any reading; `Memory` if an allocation failed
+    /// or a thread could not be started; `Read` with the lowest file whose reader failed; the fault of the files or of the
+    /// steps that the plan comes to; `Write` if `out` failed. Nothing is written at any fault but `Write`, at which an unknown
+    /// part is.
+    ///
+    /// The gate is shown each worker's answer before it leaves the worker, even if the plan has no leading row-wise steps. It sees
+    /// who works on what and when, and can hold a worker up; what is written does not depend on it.
+    pub fn run<T: Threads + Wait + Sync, G: Gate<Worked> + Sync, R: Read + Drop + Send, W: Write>(
+        &self,
+        rt: &T,
+        alloc: Global,
+        gate: &G,
+        inputs: Vec<R>,
+        out: &mut W,
+        batch_size: u32,
+        workers: u16,
+    ) -> Result<Report, Fault>
+        // the number of inputs is judged first, then the settings
+        ensures refused { (f : _) → start_refusal (files_wanted self.now) (vec_len inputs) batch_size workers ≡ Some f → result ≡ Err f }
+        ensures started { IfErr result (λ f. IsStartFault f → start_refusal (files_wanted self.now) (vec_len inputs) batch_size workers ≡ Some f) }
+        // a report: the frame that the plan comes to was written, and each file's batches were taken in order
+        ensures printed { (files : List (List ℕ)) → Tell R.remaining inputs.items files → OnOk result
+            ((frame : Frame) × (outcome_of_run self.now (file_streams self.now files) ≡ Ok frame) × Appends (W.contents out.old) (W.contents out.new) (printed frame)) }
+        ensures trace { (files : List (List ℕ)) → Tell R.remaining inputs.items files → IfOk result
+            (λ report. report.trace.items ≡ trace_of batch_size (file_streams self.now files)) }
+        // a fault of the files or of the steps is the outcome
+        ensures fault { (files : List (List ℕ)) → Tell R.remaining inputs.items files → IfErr result
+            (λ f. IsOfMeaning f → outcome_of_run self.now (file_streams self.now files) ≡ Err f) }
+        // a failed write is answered only if the plan comes to a frame
+        ensures write { (files : List (List ℕ)) → Tell R.remaining inputs.items files → result ≡ Err fault.Write →
+            IsOk (outcome_of_run self.now (file_streams self.now files)) }
+        ensures unwritten { IfErr result (λ f. f ≢ fault.Write → Keeps (W.contents out.old) (W.contents out.new)) }
+    {
+        let wanted = self.inputs();
+        let got = inputs.len();
+        if got != wanted as usize {
+            return Err(Fault::Inputs { wanted, got });
+        }
+        if !(1..=MAX_BATCH_SIZE).contains(&batch_size) || !(1..=MAX_WORKERS).contains(&workers) {
+            return Err(Fault::Setting);
+        }
+        let (text, report) = self.outcome(rt, alloc, gate, inputs, batch_size, workers)?;
+        text.write_to(out)?;
+        Ok(report)
+    }
+
+    // The text of the frame of a run that may start, with its report, or the fault before anything is written.
+    fn outcome<T: Threads + Wait + Sync, G: Gate<Worked> + Sync, R: Read + Drop + Send>(
+        &self,
+        rt: &T,
+        alloc: Global,
+        gate: &G,
+        inputs: Vec<R>,
+        batch_size: u32,
+        workers: u16,
+    ) -> Result<(PrintedText, Report), Fault>
+        requires inputs { vec_len inputs ≡ files_wanted self.now }
+        requires batch_size { (1 ≤ batch_size) × (batch_size ≤ MAX_BATCH_SIZE) }
+        requires workers { (1 ≤ workers) × (workers ≤ MAX_WORKERS) }
+        ensures frame { (files : List (List ℕ)) → Tell R.remaining inputs.items files → IfOk result
+            (λ r. (frame : Frame) × (outcome_of_run self.now (file_streams self.now files) ≡ Ok frame) × (text_of r.0 ≡ printed frame)) }
+        ensures trace { (files : List (List ℕ)) → Tell R.remaining inputs.items files → IfOk result
+            (λ r. r.1.trace.items ≡ trace_of batch_size (file_streams self.now files)) }
+        ensures fault { (files : List (List ℕ)) → Tell R.remaining inputs.items files → IfErr result
+            (λ f. IsOfMeaning f → outcome_of_run self.now (file_streams self.now files) ≡ Err f) }
+        ensures kind { IfErr result IsRunFault }
+    {
+        let (tail, report) = self.gather(rt, alloc, gate, inputs, batch_size, workers)?;
+        let text = tail.finish()?;
+        Ok((text, report))
+    }
+
+    // What free threads make of the files, as far as the tail took it, with their report.
+    fn gather<T: Threads + Wait + Sync, G: Gate<Worked> + Sync, R: Read + Drop + Send>(
+        &self,
+        rt: &T,
+        alloc: Global,
+        gate: &G,
+        inputs: Vec<R>,
+        batch_size: u32,
+        workers: u16,
+    ) -> Result<(RunTail<'_>, Report), Fault>
+        requires inputs { vec_len inputs ≡ files_wanted self.now }
+        requires batch_size { (1 ≤ batch_size) × (batch_size ≤ MAX_BATCH_SIZE) }
+        requires workers { (1 ≤ workers) × (workers ≤ MAX_WORKERS) }
+        ensures gathered { IfOk result (λ r. HasGathered R.remaining inputs.items self.entry.now batch_size r.0.state r.1.trace.items) }
+        ensures fault { IfErr result IsEngineFault }
+    {
+        let joins = self.joins.as_slice();
+        let layouts = file_layouts(alloc, joins, &self.main)?;
+        let feeds = open_feeds(alloc, layouts, inputs, batch_size)?;
+        let sources = empty_sources(alloc, joins)?;
+        let before = self.after_leading.copy(alloc)?;
+        let waiting = Waiting::new(sources, before, self.stages.as_slice());
+        let tail = RunTail::new(alloc, self.leading.join_files, waiting);
+        let (tail, outcome) = run_lanes(rt, alloc, feeds, &self.leading, gate, tail, workers);
+        Ok((tail, outcome?))
+    }
+}
