@@ -1,0 +1,254 @@
+//! Arguments of the program.
+use crate::cases::{fails_by, prints_by};
+use std::test::Fail;
+
+#[test]
+fn a_batch_size_and_workers(rt: HostRuntime) -> Result<(), Fail> {
+    prints_by(
+        &rt,
+        rt.alloc(),
+        "--plan plan --batch 1 --workers 3 0 1",
+        r#"{"version":1,"sources":[{"files":2,"columns":[["v","int"]]}],"steps":[]}"#,
+        &["v\n1\n", "v\n2\n"],
+        "",
+        "v\n1\n2\n",
+    )
+}
+
+#[test]
+fn files_before_plan(rt: HostRuntime) -> Result<(), Fail> {
+    prints_by(
+        &rt,
+        rt.alloc(),
+        "1 --plan=plan 0",
+        r#"{"version":1,"sources":[{"files":2,"columns":[["v","int"]]}],"steps":[]}"#,
+        &["v\n1\n", "v\n2\n"],
+        "",
+        "v\n2\n1\n",
+    )
+}
+
+#[test]
+fn too_few_files(rt: HostRuntime) -> Result<(), Fail> {
+    fails_by(
+        &rt,
+        rt.alloc(),
+        "--plan plan 0",
+        r#"{"version":1,"sources":[{"files":2,"columns":[["v","int"]]}],"steps":[]}"#,
+        &["v\n1\n", "v\n2\n"],
+        "",
+        2,
+        "inputs: wanted 2, got 1",
+    )
+}
+
+#[test]
+fn too_few_files_of_which_none_is_there(rt: HostRuntime) -> Result<(), Fail> {
+    fails_by(
+        &rt,
+        rt.alloc(),
+        "--plan plan none",
+        r#"{"version":1,"sources":[{"files":2,"columns":[["v","int"]]}],"steps":[]}"#,
+        &["v\n1\n", "v\n2\n"],
+        "",
+        2,
+        "inputs: wanted 2, got 1",
+    )
+}
+
+#[test]
+fn too_many_files(rt: HostRuntime) -> Result<(), Fail> {
+    fails_by(
+        &rt,
+        rt.alloc(),
+        "--plan plan 0 1 none",
+        r#"{"version":1,"sources":[{"files":2,"columns":[["v","int"]]}],"steps":[]}"#,
+        &["v\n1\n", "v\n2\n"],
+        "",
+        2,
+        "inputs: wanted 2, got 3",
+    )
+}
+
+#[test]
+fn a_file_that_is_not_there(rt: HostRuntime) -> Result<(), Fail> {
+    fails_by(
+        &rt,
+        rt.alloc(),
+        "--plan plan 0 none",
+        r#"{"version":1,"sources":[{"files":2,"columns":[["v","int"]]}],"steps":[]}"#,
+        &["v\n1\n", "v\n2\n"],
+        "",
+        5,
+        "read failed: file 1",
+    )
+}
+
+#[test]
+fn two_files_that_are_not_there(rt: HostRuntime) -> Result<(), Fail> {
+    fails_by(
+        &rt,
+        rt.alloc(),
+        "--plan plan none none",
+        r#"{"version":1,"sources":[{"files":2,"columns":[["v","int"]]}],"steps":[]}"#,
+        &["v\n1\n", "v\n2\n"],
+        "",
+        5,
+        "read failed: file 0",
+    )
+}
+
+#[test]
+fn a_plan_that_is_not_there(rt: HostRuntime) -> Result<(), Fail> {
+    fails_by(
+        &rt,
+        rt.alloc(),
+        "--plan none 0 1",
+        r#"{"version":1,"sources":[{"files":2,"columns":[["v","int"]]}],"steps":[]}"#,
+        &["v\n1\n", "v\n2\n"],
+        "",
+        5,
+        "cannot read plan",
+    )
+}
+
+#[test]
+fn a_plan_is_checked_before_a_file_is_opened(rt: HostRuntime) -> Result<(), Fail> {
+    fails_by(
+        &rt,
+        rt.alloc(),
+        "--plan plan none none",
+        r#"{"version":1,"sources":[{"files":1,"columns":[["id","int"],["v","int"]]}],"steps":[{"filter":["gt",{"col":"w"},10]}]}"#,
+        &[],
+        "",
+        3,
+        "plan: step 0: no such column",
+    )
+}
+
+#[test]
+fn a_text_that_is_no_plan_before_a_file_is_opened(rt: HostRuntime) -> Result<(), Fail> {
+    fails_by(
+        &rt,
+        rt.alloc(),
+        "--plan plan none",
+        "{",
+        &[],
+        "",
+        3,
+        "plan: not JSON",
+    )
+}
+
+#[test]
+fn a_bad_cell_in_the_second_file(rt: HostRuntime) -> Result<(), Fail> {
+    fails_by(
+        &rt,
+        rt.alloc(),
+        "--plan plan 0 1",
+        r#"{"version":1,"sources":[{"files":2,"columns":[["v","int"]]}],"steps":[]}"#,
+        &["v\n1\n", "v\n1\nx\n"],
+        "",
+        4,
+        "file 1, row 2, column 0: bad cell",
+    )
+}
+
+#[test]
+fn standard_input_in_the_place_of_a_file(rt: HostRuntime) -> Result<(), Fail> {
+    prints_by(
+        &rt,
+        rt.alloc(),
+        "--plan plan 0 -",
+        r#"{"version":1,"sources":[{"files":2,"columns":[["v","int"]]}],"steps":[]}"#,
+        &["v\n1\n"],
+        "v\n2\n",
+        "v\n1\n2\n",
+    )
+}
+
+#[test]
+fn standard_input_in_the_first_place_with_progress(rt: HostRuntime) -> Result<(), Fail> {
+    prints_by(
+        &rt,
+        rt.alloc(),
+        "--plan plan - 0 --progress",
+        r#"{"version":1,"sources":[{"files":2,"columns":[["v","int"]]}],"steps":[]}"#,
+        &["v\n1\n"],
+        "v\n2\n",
+        "v\n2\n1\n",
+    )
+}
+
+#[test]
+fn standard_input_twice(rt: HostRuntime) -> Result<(), Fail> {
+    fails_by(
+        &rt,
+        rt.alloc(),
+        "--plan plan - -",
+        r#"{"version":1,"sources":[{"files":2,"columns":[["v","int"]]}],"steps":[]}"#,
+        &[],
+        "v\n2\n",
+        2,
+        "standard input (-) can be read only once",
+    )
+}
+
+#[test]
+fn standard_input_as_a_plan_and_as_a_file(rt: HostRuntime) -> Result<(), Fail> {
+    fails_by(
+        &rt,
+        rt.alloc(),
+        "--plan - 0 -",
+        r#"{"version":1,"sources":[{"files":2,"columns":[["v","int"]]}],"steps":[]}"#,
+        &["v\n1\n"],
+        "v\n2\n",
+        2,
+        "standard input (-) can be read only once",
+    )
+}
+
+#[test]
+fn the_version(rt: HostRuntime) -> Result<(), Fail> {
+    prints_by(&rt, rt.alloc(), "--version", "", &[], "", "frameq 0.1.0\n")
+}
+
+#[test]
+fn a_plan_that_is_explained(rt: HostRuntime) -> Result<(), Fail> {
+    prints_by(
+        &rt,
+        rt.alloc(),
+        "--plan plan --explain",
+        r#"{"version":1,"sources":[{"files":1,"columns":[["customer","int"],["na\"me","text"]]},{"files":2,"columns":[["id","int"],["customer","int"],["paid","bool"]]}],"steps":[{"filter":{"col":"paid"}},{"with_columns":[["twice",["add",{"col":"id"},{"col":"id"}]]]},{"join":{"source":0,"on":["customer"],"how":"left"}},{"select":[["na\"me",{"col":"na\"me"}],["id",{"col":"id"}]]},{"group_by":{"keys":["na\"me"],"aggs":[["orders","len"]]}},{"rolling_sum":{"column":"orders","window":2,"min_samples":1,"name":"sum"}}]}"#,
+        &[],
+        "",
+        "source 0, 1 file: \"customer\" int, \"na\\\"me\" text\nsource 1, 2 files: \"id\" int, \"customer\" int, \"paid\" bool\nstep 0, filter, in the workers: \"id\" int, \"customer\" int, \"paid\" bool\nstep 1, with_columns, in the workers: \"id\" int, \"customer\" int, \"paid\" bool, \"twice\" int\nstep 2, join, afterwards: \"id\" int, \"customer\" int, \"paid\" bool, \"twice\" int, \"na\\\"me\" text\nstep 3, select, afterwards: \"na\\\"me\" text, \"id\" int\nstep 4, group_by, afterwards: \"na\\\"me\" text, \"orders\" int\nstep 5, rolling_sum, afterwards: \"na\\\"me\" text, \"orders\" int, \"sum\" int\n",
+    )
+}
+
+#[test]
+fn a_plan_that_is_explained_beside_a_file_that_is_not_there(rt: HostRuntime) -> Result<(), Fail> {
+    prints_by(
+        &rt,
+        rt.alloc(),
+        "--explain --plan plan none",
+        r#"{"version":1,"sources":[{"files":1,"columns":[["customer","int"],["na\"me","text"]]},{"files":2,"columns":[["id","int"],["customer","int"],["paid","bool"]]}],"steps":[{"filter":{"col":"paid"}},{"with_columns":[["twice",["add",{"col":"id"},{"col":"id"}]]]},{"join":{"source":0,"on":["customer"],"how":"left"}},{"select":[["na\"me",{"col":"na\"me"}],["id",{"col":"id"}]]},{"group_by":{"keys":["na\"me"],"aggs":[["orders","len"]]}},{"rolling_sum":{"column":"orders","window":2,"min_samples":1,"name":"sum"}}]}"#,
+        &[],
+        "",
+        "source 0, 1 file: \"customer\" int, \"na\\\"me\" text\nsource 1, 2 files: \"id\" int, \"customer\" int, \"paid\" bool\nstep 0, filter, in the workers: \"id\" int, \"customer\" int, \"paid\" bool\nstep 1, with_columns, in the workers: \"id\" int, \"customer\" int, \"paid\" bool, \"twice\" int\nstep 2, join, afterwards: \"id\" int, \"customer\" int, \"paid\" bool, \"twice\" int, \"na\\\"me\" text\nstep 3, select, afterwards: \"na\\\"me\" text, \"id\" int\nstep 4, group_by, afterwards: \"na\\\"me\" text, \"orders\" int\nstep 5, rolling_sum, afterwards: \"na\\\"me\" text, \"orders\" int, \"sum\" int\n",
+    )
+}
+
+#[test]
+fn a_refused_plan_is_not_explained(rt: HostRuntime) -> Result<(), Fail> {
+    fails_by(
+        &rt,
+        rt.alloc(),
+        "--plan plan --explain",
+        r#"{"version":1,"sources":[{"files":1,"columns":[["id","int"],["v","int"]]}],"steps":[{"filter":["gt",{"col":"w"},10]}]}"#,
+        &[],
+        "",
+        3,
+        "plan: step 0: no such column",
+    )
+}
