@@ -19,8 +19,8 @@ use Rattle.fq_plan.specs.Stages.{operator_steps, stage_steps, Leads, Turns}
 use Rattle.fq_plan.specs.View.{field_of}
 use Rattle.fq_plan.specs.declared.faults.CheckFault.{CheckFault}
 use Rattle.fq_plan.specs.declared.faults.Place.TheVariants as place
-use Rattle.fq_run.specs.declared.stages.Operator.{Operator}
-use Rattle.fq_run.specs.declared.stages.Operator.TheVariants.{Rows, Join, GroupBy, RollingSum}
+use Rattle.fq_run.specs.declared.operators.Operator.{Operator}
+use Rattle.fq_run.specs.declared.operators.Operator.TheVariants.{Rows, Join, GroupBy, RollingSum}
 use Rattle.fq_run.specs.declared.stages.Stage.{Stage}
 
 -- ---- judgements
@@ -158,10 +158,9 @@ module _ (joins : List Fields) where
   operator-passed n fields (Rows front) rest after t =
       rows-passed n fields front.steps rest after t.2
       ∙ ap (λ k. refusal_in (judged_steps joins (n + k) after rest)) (sym (length-map front.steps row_wise))
-  operator-passed n fields (Join source on how nulls_equal) rest after t = step-passed n fields (join (pos source) (map string_bytes on.items) how nulls_equal) rest after t
-  operator-passed n fields (GroupBy keys aggs) rest after t = step-passed n fields (group_by (map string_bytes keys.items) (outputs_of aggs.items)) rest after t
-  operator-passed n fields (RollingSum column window m name) rest after t =
-      step-passed n fields (rolling_sum (string_bytes column) (pos window) (pos m) (string_bytes name)) rest after t
+  operator-passed n fields (Join j) rest after t = step-passed n fields (join (pos j.source) (map string_bytes j.on.items) j.how j.nulls_equal) rest after t
+  operator-passed n fields (GroupBy g) rest after t = step-passed n fields (group_by (map string_bytes g.keys.items) (outputs_of g.aggs.items)) rest after t
+  operator-passed n fields (RollingSum r) rest after t = step-passed n fields (rolling_sum (string_bytes r.column) (pos r.window) (pos r.min_samples) (string_bytes r.name)) rest after t
 
   -- stages, and what follows them
   pub stages-passed : (n : ℕ) (fields : Fields) (stages : List Stage) (rest : List PlanStep) (after : Fields) → Leads joins n fields stages after →

@@ -28,8 +28,8 @@ use Rattle.fq_run.specs.Starting.{nothing, transform_of, transforms_of}
 use Rattle.fq_run.specs.Transforms.{join_room, whole, whole_all}
 use Rattle.fq_run.specs.declared.faults.Fault.{Fault}
 use Rattle.fq_run.specs.declared.faults.Fault.TheVariants.{Overflow, JoinRows, RollRange, SumRange}
-use Rattle.fq_run.specs.declared.stages.Operator.{Operator}
-use Rattle.fq_run.specs.declared.stages.Operator.TheVariants.{Rows, Join, GroupBy, RollingSum}
+use Rattle.fq_run.specs.declared.operators.Operator.{Operator}
+use Rattle.fq_run.specs.declared.operators.Operator.TheVariants.{Rows, Join, GroupBy, RollingSum}
 use Rattle.fq_run.specs.declared.stages.Stage.{Stage}
 use Rattle.fq_run.proofs.StageLemmas.{fields-after-all}
 use Rattle.fq_run.proofs.StageTransforms.{transform-is}
@@ -42,9 +42,9 @@ use Rattle.std.specs.Prelude.{drop}
 
 pub accepts : (joins : List Fields) (n : ℕ) (fields : Fields) (o : Operator) (after : Fields) → Turns joins n fields o after → Accepts joins fields o after
 accepts joins n fields (Rows front) after t = (t.0, t.2)
-accepts joins n fields (Join source on how nulls_equal) after t = t
-accepts joins n fields (GroupBy keys aggs) after t = t
-accepts joins n fields (RollingSum column window least name) after t = t
+accepts joins n fields (Join j) after t = t
+accepts joins n fields (GroupBy g) after t = t
+accepts joins n fields (RollingSum r) after t = t
 
 pub fits : (joins : List Fields) (n : ℕ) (fields : Fields) (stages : List Stage) (after : Fields) → Leads joins n fields stages after → Fit joins fields stages after
 fits joins n fields [] after leads = leads
@@ -130,24 +130,24 @@ module _ (joins : List Frame) where
   does n fields after (Rows front) u t =
       (rows-turn joins n fields after u (fields_after_all front.fields front.steps, whole (transform_of joins n fields (Rows front)) u) front t
       (λ i. (fields_after_all (t.0 i) front.steps, (steps-whole front u ∙ ap (λ (f : Fields). apply_steps Overflow front.first f front.steps u) t.0) i))).1
-  does n fields after (Join source on how nulls_equal) u t =
-      let names = map string_bytes on.items in
-      let right = slice_index_or joins source nothing in
-      let there = source-there joins n fields after u (fields, u) how source names t in
-      let is : right ≡ get_or joins source right = get_or_from_slice_get joins source there.0 nothing there.1 ∙ sym (get_or_from_slice_get joins source there.0 right there.1) in
-      let m = transform_of joins n fields (Join source on how nulls_equal) in
-      (join-turn joins n fields after u (m.gives, whole m u) source names how nulls_equal right is t
-      (λ i. (m.gives, join-whole n how (record { fields = right.fields; rows = right.rows; on = names; nulls_equal = nulls_equal }) fields u i))).1
-  does n fields after (GroupBy keys aggs) u t =
-      let names = map string_bytes keys.items in let outputs = outputs_of aggs.items in
-      let m = transform_of joins n fields (GroupBy keys aggs) in
+  does n fields after (Join j) u t =
+      let names = map string_bytes j.on.items in
+      let right = slice_index_or joins j.source nothing in
+      let there = source-there joins n fields after u (fields, u) j.how j.source names t in
+      let is : right ≡ get_or joins j.source right = get_or_from_slice_get joins j.source there.0 nothing there.1 ∙ sym (get_or_from_slice_get joins j.source there.0 right there.1) in
+      let m = transform_of joins n fields (Join j) in
+      (join-turn joins n fields after u (m.gives, whole m u) j.source names j.how j.nulls_equal right is t
+      (λ i. (m.gives, join-whole n j.how (record { fields = right.fields; rows = right.rows; on = names; nulls_equal = j.nulls_equal }) fields u i))).1
+  does n fields after (GroupBy g) u t =
+      let names = map string_bytes g.keys.items in let outputs = outputs_of g.aggs.items in
+      let m = transform_of joins n fields (GroupBy g) in
       (step-turn joins n fields after u (m.gives, whole m u) (group_by names outputs) m.gives (group_stream fields names outputs (SumRange n) u) t
-      (transform-is joins n fields after (GroupBy keys aggs) t).gives refl (λ i. (m.gives, group-whole n fields names outputs u i))).1
-  does n fields after (RollingSum column window least name) u t =
-      let c = string_bytes column in let to = string_bytes name in
-      let m = transform_of joins n fields (RollingSum column window least name) in
-      (step-turn joins n fields after u (m.gives, whole m u) (rolling_sum c (pos window) (pos least) to) m.gives (roll_stream fields c window least to (RollRange n) u) t
-      (transform-is joins n fields after (RollingSum column window least name) t).gives refl (λ i. (m.gives, roll-whole n fields c window least to u i))).1
+      (transform-is joins n fields after (GroupBy g) t).gives refl (λ i. (m.gives, group-whole n fields names outputs u i))).1
+  does n fields after (RollingSum r) u t =
+      let c = string_bytes r.column in let to = string_bytes r.name in
+      let m = transform_of joins n fields (RollingSum r) in
+      (step-turn joins n fields after u (m.gives, whole m u) (rolling_sum c (pos r.window) (pos r.min_samples) to) m.gives (roll_stream fields c r.window r.min_samples to (RollRange n) u) t
+      (transform-is joins n fields after (RollingSum r) t).gives refl (λ i. (m.gives, roll-whole n fields c r.window r.min_samples to u i))).1
 
   pub does-all : (stages : List Stage) (fields : Fields) (u : Stream Fault) (n : ℕ) (after : Fields) → Leads all_columns n fields stages after →
       (let r : Fields × Stream Fault = (columns_after fields (transforms_of joins fields stages), whole_all (transforms_of joins fields stages) u) in r) ≡ apply_plan_steps joins n fields (stage_steps stages) u

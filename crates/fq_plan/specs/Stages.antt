@@ -7,8 +7,8 @@ use Rattle.fq_plan.specs.Judged.{judged_step, source_refusal}
 use Rattle.fq_plan.specs.Plan.{PlanStep, row_wise, join, group_by, rolling_sum, Query, IsWithinLimits}
 use Rattle.fq_run.specs.Physical.{Physical, join_fields, main_fields}
 use Rattle.fq_run.specs.declared.stages.SourceFiles.{SourceFiles}
-use Rattle.fq_run.specs.declared.stages.Operator.{Operator}
-use Rattle.fq_run.specs.declared.stages.Operator.TheVariants.{Rows, Join, GroupBy, RollingSum}
+use Rattle.fq_run.specs.declared.operators.Operator.{Operator}
+use Rattle.fq_run.specs.declared.operators.Operator.TheVariants.{Rows, Join, GroupBy, RollingSum}
 use Rattle.fq_run.specs.declared.stages.Stage.{Stage}
 
 abbrev pub columns_of : List SourceFiles → List Fields
@@ -17,9 +17,9 @@ columns_of sources = map (λ s. s.layout.schema) sources
 -- the steps that an operator does
 abbrev pub operator_steps : Operator → List PlanStep
 operator_steps (Rows front) = map row_wise front.steps
-operator_steps (Join source on how nulls_equal) = join (pos source) (map string_bytes on.items) how nulls_equal ∷ []
-operator_steps (GroupBy keys aggs) = group_by (map string_bytes keys.items) (outputs_of aggs.items) ∷ []
-operator_steps (RollingSum column window min_samples name) = rolling_sum (string_bytes column) (pos window) (pos min_samples) (string_bytes name) ∷ []
+operator_steps (Join j) = join (pos j.source) (map string_bytes j.on.items) j.how j.nulls_equal ∷ []
+operator_steps (GroupBy g) = group_by (map string_bytes g.keys.items) (outputs_of g.aggs.items) ∷ []
+operator_steps (RollingSum r) = rolling_sum (string_bytes r.column) (pos r.window) (pos r.min_samples) (string_bytes r.name) ∷ []
 
 abbrev pub stage_steps : List Stage → List PlanStep
 stage_steps stages = flat_map (λ s. operator_steps s.operator) stages
@@ -33,10 +33,9 @@ module _ (joins : List Fields) where
   -- an operator whose first step is step n takes rows with these columns to rows with those
   abbrev pub Turns : ℕ → Fields → Operator → Fields → Type 0
   Turns n fields (Rows front) after = (front.fields ≡ fields) × (front.first ≡ n) × (steps_schema fields front.steps ≡ Ok after)
-  Turns n fields (Join source on how nulls_equal) after = judged_step joins fields (join (pos source) (map string_bytes on.items) how nulls_equal) ≡ Ok after
-  Turns n fields (GroupBy keys aggs) after = judged_step joins fields (group_by (map string_bytes keys.items) (outputs_of aggs.items)) ≡ Ok after
-  Turns n fields (RollingSum column window min_samples name) after =
-      judged_step joins fields (rolling_sum (string_bytes column) (pos window) (pos min_samples) (string_bytes name)) ≡ Ok after
+  Turns n fields (Join j) after = judged_step joins fields (join (pos j.source) (map string_bytes j.on.items) j.how j.nulls_equal) ≡ Ok after
+  Turns n fields (GroupBy g) after = judged_step joins fields (group_by (map string_bytes g.keys.items) (outputs_of g.aggs.items)) ≡ Ok after
+  Turns n fields (RollingSum r) after = judged_step joins fields (rolling_sum (string_bytes r.column) (pos r.window) (pos r.min_samples) (string_bytes r.name)) ≡ Ok after
 
   -- so do stages, one after the other, each with the number of its first step and the columns that it leaves
   abbrev pub Leads : ℕ → Fields → List Stage → Fields → Type 0

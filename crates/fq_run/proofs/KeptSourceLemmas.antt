@@ -29,8 +29,8 @@ use Rattle.fq_run.specs.declared.faults.Fault.TheVariants as fault
 use Rattle.fq_run.specs.declared.gathering.Gathered.{Gathered}
 use Rattle.fq_run.specs.declared.leading_steps.Worked.{Worked}
 use Rattle.fq_run.specs.declared.leading_steps.Worked.TheVariants as worked
-use Rattle.fq_run.specs.declared.stages.Operator.{Operator}
-use Rattle.fq_run.specs.declared.stages.Operator.TheVariants.{Rows, Join, GroupBy, RollingSum}
+use Rattle.fq_run.specs.declared.operators.Operator.{Operator}
+use Rattle.fq_run.specs.declared.operators.Operator.TheVariants.{Rows, Join, GroupBy, RollingSum}
 use Rattle.fq_run.specs.declared.stages.Stage.{Stage}
 use Rattle.fq_run.proofs.TransformLemmas.{group-whole, join-whole, roll-whole, steps-whole}
 
@@ -142,20 +142,20 @@ module _ (joins : List Frame) where
   sound-stage : (n : ℕ) (fields : Fields) (o : Operator) (u : Stream Fault) → IsSound u.fault → IsSound (whole (transform_of joins n fields o) u).fault
   sound-stage n fields (Rows front) u h =
       sound (apply_steps fault.Overflow front.first front.fields front.steps u) (whole (transform_of joins n fields (Rows front)) u) (steps-whole front u) (sound-rows front.first front.fields front.steps u h)
-  sound-stage n fields (Join source on how nulls_equal) u h =
-      let right : Frame = slice_index_or joins source nothing in
-      let names : List Name = map string_bytes on.items in
-      let t : Table = record { fields = right.fields; rows = right.rows; on = names; nulls_equal = nulls_equal } in
-      sound (join_stream how nulls_equal fields right.fields names right.rows join_room (fault.JoinRows n) u) (whole (transform_of joins n fields (Join source on how nulls_equal)) u) (join-whole n how t fields u)
-      (sound-step_on (join_rows how nulls_equal fields right.fields names right.rows join_room) (λ place. fault.JoinRows n) (λ g. tt) u h)
-  sound-stage n fields (GroupBy keys aggs) u h =
-      let names : List Name = map string_bytes keys.items in
-      sound (group_stream fields names (outputs_of aggs.items) (fault.SumRange n) u) (whole (transform_of joins n fields (GroupBy keys aggs)) u) (group-whole n fields names (outputs_of aggs.items) u)
-      (sound-whole_on (grouped fields names (outputs_of aggs.items)) (fault.SumRange n) (λ g. tt) u h)
-  sound-stage n fields (RollingSum column window least name) u h =
-      sound (roll_stream fields (string_bytes column) window least (string_bytes name) (fault.RollRange n) u) (whole (transform_of joins n fields (RollingSum column window least name)) u)
-      (roll-whole n fields (string_bytes column) window least (string_bytes name) u)
-      (sound-step_on (roll_rows fields (string_bytes column) window least (string_bytes name)) (λ _. fault.RollRange n) (λ g. tt) u h)
+  sound-stage n fields (Join j) u h =
+      let right : Frame = slice_index_or joins j.source nothing in
+      let names : List Name = map string_bytes j.on.items in
+      let t : Table = record { fields = right.fields; rows = right.rows; on = names; nulls_equal = j.nulls_equal } in
+      sound (join_stream j.how j.nulls_equal fields right.fields names right.rows join_room (fault.JoinRows n) u) (whole (transform_of joins n fields (Join j)) u) (join-whole n j.how t fields u)
+      (sound-step_on (join_rows j.how j.nulls_equal fields right.fields names right.rows join_room) (λ place. fault.JoinRows n) (λ g. tt) u h)
+  sound-stage n fields (GroupBy g) u h =
+      let names : List Name = map string_bytes g.keys.items in
+      sound (group_stream fields names (outputs_of g.aggs.items) (fault.SumRange n) u) (whole (transform_of joins n fields (GroupBy g)) u) (group-whole n fields names (outputs_of g.aggs.items) u)
+      (sound-whole_on (grouped fields names (outputs_of g.aggs.items)) (fault.SumRange n) (λ i. tt) u h)
+  sound-stage n fields (RollingSum r) u h =
+      sound (roll_stream fields (string_bytes r.column) r.window r.min_samples (string_bytes r.name) (fault.RollRange n) u) (whole (transform_of joins n fields (RollingSum r)) u)
+      (roll-whole n fields (string_bytes r.column) r.window r.min_samples (string_bytes r.name) u)
+      (sound-step_on (roll_rows fields (string_bytes r.column) r.window r.min_samples (string_bytes r.name)) (λ _. fault.RollRange n) (λ g. tt) u h)
 
   pub sound-stages : (fields : Fields) (stages : List Stage) (u : Stream Fault) → IsSound u.fault → IsSound (whole_all (transforms_of joins fields stages) u).fault
   sound-stages fields [] u h = h

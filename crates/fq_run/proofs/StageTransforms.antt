@@ -34,8 +34,8 @@ use Rattle.fq_run.specs.declared.operators.rolling.Summing.{Summing}
 use Rattle.fq_run.specs.Stages.{Accepts, Fit, schema_with}
 use Rattle.fq_run.specs.Starting.{transform_of, transforms_of, nothing}
 use Rattle.fq_run.specs.declared.faults.Fault.{Fault}
-use Rattle.fq_run.specs.declared.stages.Operator.{Operator}
-use Rattle.fq_run.specs.declared.stages.Operator.TheVariants.{Rows, Join, GroupBy, RollingSum}
+use Rattle.fq_run.specs.declared.operators.Operator.{Operator}
+use Rattle.fq_run.specs.declared.operators.Operator.TheVariants.{Rows, Join, GroupBy, RollingSum}
 use Rattle.fq_run.specs.declared.stages.Stage.{Stage}
 use Rattle.fq_run.proofs.TransformLemmas.{group-causal, join-causal, roll-causal}
 use Rattle.fq_run.proofs.StageLemmas.{apply_steps-none, fields-after-all}
@@ -98,25 +98,25 @@ module _ (joins : List Frame) where
     gives = ap (λ (f : Fields). fields_after_all f front.steps) t.0 ∙ fields-after-all fields after front.steps t.1;
     starts = apply_steps-none front.first front.fields front.steps None;
   }
-  transform-is n fields after (Join source on how nulls_equal) t =
-      let names = map string_bytes on.items in
-      let at = source-of how source names fields after t in
-      let right = slice_index_or joins source nothing in
-      let same : right ≡ at.0 = get_or_from_slice_get joins source at.0 nothing at.1 in record {
+  transform-is n fields after (Join j) t =
+      let names = map string_bytes j.on.items in
+      let at = source-of j.how j.source names fields after t in
+      let right = slice_index_or joins j.source nothing in
+      let same : right ≡ at.0 = get_or_from_slice_get joins j.source at.0 nothing at.1 in record {
         takes = refl;
-        gives = ap (λ (f : Frame). joined_fields how fields f.fields names) same ∙ ok-is (joined_fields how fields at.0.fields names) after (sym (join-output how fields at.0.fields names (ap is_ok at.2)) ∙ at.2);
+        gives = ap (λ (f : Frame). joined_fields j.how fields f.fields names) same ∙ ok-is (joined_fields j.how fields at.0.fields names) after (sym (join-output j.how fields at.0.fields names (ap is_ok at.2)) ∙ at.2);
         starts = refl;
       }
-  transform-is n fields after (GroupBy keys aggs) t =
-      let names = map string_bytes keys.items in let outputs = outputs_of aggs.items in record {
+  transform-is n fields after (GroupBy g) t =
+      let names = map string_bytes g.keys.items in let outputs = outputs_of g.aggs.items in record {
         takes = refl;
         gives = accepted-is (grouped_fields fields names outputs) after (group_checks fields names outputs) t;
         starts = refl;
       }
-  transform-is n fields after (RollingSum column window least name) t =
-      let to = string_bytes name in record {
+  transform-is n fields after (RollingSum r) t =
+      let to = string_bytes r.name in record {
         takes = refl;
-        gives = and-accepted-is (put_named fields (to, Whole)) after (kind_named fields (string_bytes column)) (roll_checks fields window least to) t;
+        gives = and-accepted-is (put_named fields (to, Whole)) after (kind_named fields (string_bytes r.column)) (roll_checks fields r.window r.min_samples to) t;
         starts = refl;
       }
 

@@ -14,8 +14,8 @@ use Rattle.fq_run.specs.Physical.{Physical, files_wanted, front_fields, join_fie
 use Rattle.fq_run.specs.Sources.{Source}
 use Rattle.fq_run.specs.declared.physical_plans.TheConstants.{MAX_FILES}
 use Rattle.fq_run.specs.declared.stages.SourceFiles.{SourceFiles}
-use Rattle.fq_run.specs.declared.stages.Operator.{Operator}
-use Rattle.fq_run.specs.declared.stages.Operator.TheVariants.{Rows, Join, GroupBy, RollingSum}
+use Rattle.fq_run.specs.declared.operators.Operator.{Operator}
+use Rattle.fq_run.specs.declared.operators.Operator.TheVariants.{Rows, Join, GroupBy, RollingSum}
 use Rattle.fq_run.specs.declared.stages.Stage.{Stage}
 
 abbrev pub source_of_files : SourceFiles → Source
@@ -34,10 +34,9 @@ module _ (joins : List Fields) where
   -- an operator takes rows with these columns to rows with those
   abbrev pub Accepts : Fields → Operator → Fields → Type 0
   Accepts fields (Rows front) after = (front.fields ≡ fields) × (steps_schema fields front.steps ≡ Ok after)
-  Accepts fields (Join source on how nulls_equal) after = schema_with how fields (map string_bytes on.items) (slice_get joins source) ≡ Ok after
-  Accepts fields (GroupBy keys aggs) after = group_schema fields (map string_bytes keys.items) (outputs_of aggs.items) ≡ Ok after
-  Accepts fields (RollingSum column window min_samples name) after =
-      roll_schema fields (string_bytes column) (pos window) (pos min_samples) (string_bytes name) ≡ Ok after
+  Accepts fields (Join j) after = schema_with j.how fields (map string_bytes j.on.items) (slice_get joins j.source) ≡ Ok after
+  Accepts fields (GroupBy g) after = group_schema fields (map string_bytes g.keys.items) (outputs_of g.aggs.items) ≡ Ok after
+  Accepts fields (RollingSum r) after = roll_schema fields (string_bytes r.column) (pos r.window) (pos r.min_samples) (string_bytes r.name) ≡ Ok after
 
   -- so do stages, one after the other, each of which has the columns that it leaves
   abbrev pub Fit : Fields → List Stage → Fields → Type 0

@@ -3,8 +3,8 @@ use Rattle.std.specs.Prelude.{ℕ, List, [], ◌∷◌, map, string_bytes, slice
 use Rattle.fq_column.specs.Frame.{Fields, Frame}
 use Rattle.fq_ops.specs.AggregateData.{outputs_of}
 use Rattle.fq_run.specs.Transforms.{Transform, group_transform, join_transform, roll_transform, steps_transform}
-use Rattle.fq_run.specs.declared.stages.Operator.{Operator}
-use Rattle.fq_run.specs.declared.stages.Operator.TheVariants.{Rows, Join, GroupBy, RollingSum}
+use Rattle.fq_run.specs.declared.operators.Operator.{Operator}
+use Rattle.fq_run.specs.declared.operators.Operator.TheVariants.{Rows, Join, GroupBy, RollingSum}
 use Rattle.fq_run.specs.declared.stages.Stage.{Stage}
 
 -- no columns and no rows
@@ -15,10 +15,10 @@ module _ (joins : List Frame) where
   -- an operator whose first step is step n, on rows with these columns
   abbrev pub transform_of : ℕ → Fields → Operator → Transform
   transform_of n fields (Rows front) = steps_transform front
-  transform_of n fields (Join source on how nulls_equal) = let right = slice_index_or joins source nothing in
-      join_transform n how (record { fields = right.fields; rows = right.rows; on = map string_bytes on.items; nulls_equal = nulls_equal }) fields
-  transform_of n fields (GroupBy keys aggs) = group_transform n fields (map string_bytes keys.items) (outputs_of aggs.items)
-  transform_of n fields (RollingSum column window min_samples name) = roll_transform n fields (string_bytes column) window min_samples (string_bytes name)
+  transform_of n fields (Join j) = let right = slice_index_or joins j.source nothing in
+      join_transform n j.how (record { fields = right.fields; rows = right.rows; on = map string_bytes j.on.items; nulls_equal = j.nulls_equal }) fields
+  transform_of n fields (GroupBy g) = group_transform n fields (map string_bytes g.keys.items) (outputs_of g.aggs.items)
+  transform_of n fields (RollingSum r) = roll_transform n fields (string_bytes r.column) r.window r.min_samples (string_bytes r.name)
 
   abbrev pub transforms_of : Fields → List Stage → List Transform
   transforms_of fields [] = []

@@ -1,8 +1,8 @@
 //! What a physical plan reads and does, for people.
+use crate::operators::row_word;
 use crate::physical_plans::PhysicalPlan;
-use crate::stages::{Operator, SourceFiles, Stage};
+use crate::stages::{SourceFiles, Stage};
 use fq_column::{Kind, Memory, Schema};
-use fq_expr::RowStep;
 use std::alloc::Global;
 use std::fmt;
 use std::fmt::{Display, Formatter, Write};
@@ -62,7 +62,7 @@ fn write_leading<W: Write>(
 // The lines of the steps after the leading ones.
 fn write_stages<W: Write>(f: &mut Formatter<W>, stages: &[Stage]) -> fmt::Result {
     for stage in stages {
-        let word = word(&stage.operator);
+        let word = stage.operator.word();
         write!(f, "step {}, {word}, afterwards:", stage.number)?;
         write_columns(f, &stage.after)?;
     }
@@ -95,22 +95,5 @@ fn kind_word(kind: Kind) -> &'static str {
         Kind::Whole => "int",
         Kind::Text => "text",
         Kind::Truth => "bool",
-    }
-}
-
-fn row_word(step: &RowStep) -> &'static str {
-    match step {
-        RowStep::Filter(_) => "filter",
-        RowStep::WithColumns(_) => "with_columns",
-        RowStep::Select(_) => "select",
-    }
-}
-
-fn word(operator: &Operator) -> &'static str {
-    match operator {
-        Operator::Rows(front) => front.steps().first().map_or("", row_word),
-        Operator::Join { .. } => "join",
-        Operator::GroupBy { .. } => "group_by",
-        Operator::RollingSum { .. } => "rolling_sum",
     }
 }

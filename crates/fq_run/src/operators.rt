@@ -1,4 +1,5 @@
-//! Running operators: each takes a stream piece by piece, and passes on what it makes of a piece at once.
+//! Operators, each in a file of its own: its form in a physical plan, and what runs it. A running operator takes a stream piece by piece,
+//! and passes on what it makes of a piece at once.
 ghost use Rattle.std.specs.Prelude.{◌≡◌, List, [], None, map, IfOk};
 ghost use Rattle.fq_column.specs.Frame.{Fields, Row};
 ghost use Rattle.fq_run.specs.Transforms.{Transform, steps_transform};
@@ -11,13 +12,50 @@ mod joining;
 mod rolling;
 
 use crate::passed::Passed;
-use crate::stages::{Operator, Stage};
+use crate::stages::Stage;
 use fq_column::{Batch, Memory, Schema};
-use fq_expr::{Front, Piece};
+use fq_expr::{Front, Piece, RowStep};
+pub use grouping::GroupBy;
 pub(crate) use grouping::Grouping;
+pub use joining::Join;
 pub(crate) use joining::Joining;
+pub use rolling::RollingSum;
 pub(crate) use rolling::Summing;
 use std::alloc::Global;
+
+/// What is done to all rows of the main source, after what was done before.
+#[derive(Drop)]
+pub enum Operator {
+    /// Row-wise steps.
+    Rows(Front),
+    /// A join with the rows of a source before the last.
+    Join(Join),
+    /// Aggregates of groups.
+    GroupBy(GroupBy),
+    /// A rolling sum of a column, under a name.
+    RollingSum(RollingSum),
+}
+
+impl Operator {
+    /// The word of its first step in the plan language.
+    pub(crate) fn word(&self) -> &'static str {
+        match self {
+            Operator::Rows(front) => front.steps().first().map_or("", row_word),
+            Operator::Join(_) => "join",
+            Operator::GroupBy(_) => "group_by",
+            Operator::RollingSum(_) => "rolling_sum",
+        }
+    }
+}
+
+/// The word of a row-wise step in the plan language.
+pub(crate) fn row_word(step: &RowStep) -> &'static str {
+    match step {
+        RowStep::Filter(_) => "filter",
+        RowStep::WithColumns(_) => "with_columns",
+        RowStep::Select(_) => "select",
+    }
+}
 
 /// An operator, with what it keeps of the rows that it has taken.
 #[derive(Drop)]
@@ -47,50 +85,16 @@ impl<'a> Running<'a> {
         let number = stage.number;
         match &stage.operator {
             Operator::Rows(front) => Ok(Running::Rows(front)),
-            Operator::Join {
-                source,
-                on,
-                how,
-                nulls_equal,
-            } => {
-                let right = &joins[*source];
-                let joining = Joining::new(
-                    alloc,
-                    number,
-                    right,
-                    on.as_slice(),
-                    *how,
-                    *nulls_equal,
-                )?;
-                Ok(Running::Join(joining))
+            Operator::Join(join) => {
+                let right = &joins[join.source];
+                Ok(Running::Join(Joining::new(alloc, number, right, join)?))
             }
-            Operator::GroupBy { keys, aggs } => {
-                let grouping = Grouping::new(
-                    alloc,
-                    number,
-                    schema,
-                    keys.as_slice(),
-                    aggs.as_slice(),
-                )?;
+            Operator::GroupBy(group_by) => {
+                let grouping = Grouping::new(alloc, number, schema, group_by)?;
                 Ok(Running::Group(grouping))
             }
-            Operator::RollingSum {
-                column,
-                window,
-                min_samples,
-                name,
-            } => {
-                let column = column.as_str();
-                let name = name.as_str();
-                let summing = Summing::new(
-                    alloc,
-                    number,
-                    schema,
-                    column,
-                    *window,
-                    *min_samples,
-                    name,
-                )?;
+            Operator::RollingSum(rolling_sum) => {
+                let summing = Summing::new(alloc, number, schema, rolling_sum)?;
                 Ok(Running::Roll(summing))
             }
         }

@@ -16,7 +16,7 @@ use crate::plans::Step;
 use fq_column::{Memory, Schema, StepFault};
 use fq_expr::{Front, MAX_STEPS, RowStep};
 use fq_ops::{Agg, How, group_schema, join_schema, roll_schema};
-use fq_run::{Operator, SourceFiles, Stage};
+use fq_run::{GroupBy, Join, Operator, RollingSum, SourceFiles, Stage};
 use std::alloc::Global;
 
 /// The leading row-wise steps, and the steps after them.
@@ -161,13 +161,13 @@ fn check_join(
         return Err(StepFault::NoSuchSource);
     };
     let after = join_schema(alloc, schema, &right.layout.schema, on.as_slice(), how)?;
-    let operator = Operator::Join {
+    let join = Join {
         source,
         on,
         how,
         nulls_equal,
     };
-    Ok((operator, after))
+    Ok((Operator::Join(join), after))
 }
 
 // `check_step` of a grouping.
@@ -182,7 +182,7 @@ fn check_grouping(
     ensures refused { IfErr result (λ code. (group_schema_of schema.now (map string_bytes keys.items) (outputs_of aggs.items) ≡ Err code) ⊎ (code ≡ StepFault.Memory)) }
 {
     let after = group_schema(alloc, schema, keys.as_slice(), aggs.as_slice())?;
-    Ok((Operator::GroupBy { keys, aggs }, after))
+    Ok((Operator::GroupBy(GroupBy { keys, aggs }), after))
 }
 
 // `check_step` of a rolling sum.
@@ -206,13 +206,13 @@ fn check_rolling(
         min_samples,
         name.as_str(),
     )?;
-    let operator = Operator::RollingSum {
+    let rolling_sum = RollingSum {
         column,
         window: window as u32,
         min_samples: min_samples as u32,
         name,
     };
-    Ok((operator, after))
+    Ok((Operator::RollingSum(rolling_sum), after))
 }
 
 // The source of a number, which may be no source's.

@@ -15,6 +15,15 @@ use std::alloc::Global;
 /// The most rows that a grouping takes; no run has more.
 const MAX_GROUPED_ROWS: u64 = 1 << 40;
 
+/// Aggregates of groups.
+#[derive(Drop)]
+pub struct GroupBy {
+    /// The names of the key columns.
+    pub keys: Vec<String>,
+    /// The aggregates, each with the name of its output.
+    pub aggs: Vec<Agg>,
+}
+
 /// A grouping, which passes nothing on before the end. It has a grouper until then.
 #[derive(Drop)]
 pub(crate) struct Grouping {
@@ -28,12 +37,12 @@ impl Grouping {
         alloc: Global,
         number: u16,
         schema: &Schema,
-        keys: &[String],
-        aggs: &[Agg],
+        group_by: &GroupBy,
     ) -> Result<Grouping, Memory>
-        requires { IsOk (group_schema schema.now (map string_bytes keys.now) (outputs_of aggs.now)) }
-        ensures { IfOk result (λ g. HasGrouped g (group_transform number schema.now (map string_bytes keys.now) (outputs_of aggs.now)) []) }
+        requires { IsOk (group_schema schema.now (map string_bytes group_by.now.keys.items) (outputs_of group_by.now.aggs.items)) }
+        ensures { IfOk result (λ g. HasGrouped g (group_transform number schema.now (map string_bytes group_by.now.keys.items) (outputs_of group_by.now.aggs.items)) []) }
     {
+        let (keys, aggs) = (group_by.keys.as_slice(), group_by.aggs.as_slice());
         let grouper = Grouper::new(alloc, schema.copy(alloc)?, keys, aggs)?;
         Ok(Grouping {
             number,

@@ -14,6 +14,19 @@ use std::alloc::Global;
 /// The most rows that a join gives.
 const MAX_JOINED_ROWS: u64 = 4_294_967_295;
 
+/// A join with the rows of a source before the last.
+#[derive(Drop)]
+pub struct Join {
+    /// The source, counted from 0.
+    pub source: usize,
+    /// The names of the key columns.
+    pub on: Vec<String>,
+    /// What a left row gives.
+    pub how: How,
+    /// Whether null matches null.
+    pub nulls_equal: bool,
+}
+
 /// A join with a table, and how many rows it may still give.
 #[derive(Drop)]
 pub(crate) struct Joining {
@@ -24,23 +37,21 @@ pub(crate) struct Joining {
 }
 
 impl Joining {
-    /// A join with a right batch, with room for all rows that a join gives.
+    /// A join with the rows of its source that has taken no row, with room for all rows that a join gives.
     pub(crate) fn new(
         alloc: Global,
         number: u16,
         right: &Batch,
-        on: &[String],
-        how: How,
-        nulls_equal: bool,
+        join: &Join,
     ) -> Result<Joining, Memory>
-        requires { (left : Fields) × IsOk (join_schema how left right.now.fields (map string_bytes on.now)) }
-        ensures { IfOk result (λ j. (left : Fields) → IsOk (join_schema how left right.now.fields (map string_bytes on.now)) →
-            HasJoined j (join_transform number how (record { fields = right.now.fields; rows = right.now.rows; on = map string_bytes on.now; nulls_equal = nulls_equal }) left) []) }
+        requires { (left : Fields) × IsOk (join_schema join.now.how left right.now.fields (map string_bytes join.now.on.items)) }
+        ensures { IfOk result (λ j. (left : Fields) → IsOk (join_schema join.now.how left right.now.fields (map string_bytes join.now.on.items)) →
+            HasJoined j (join_transform number join.now.how (record { fields = right.now.fields; rows = right.now.rows; on = map string_bytes join.now.on.items; nulls_equal = join.now.nulls_equal }) left) []) }
     {
         Ok(Joining {
             number,
-            table: JoinTable::build(alloc, right, on, nulls_equal)?,
-            how,
+            table: JoinTable::build(alloc, right, join.on.as_slice(), join.nulls_equal)?,
+            how: join.how,
             room: MAX_JOINED_ROWS,
         })
     }

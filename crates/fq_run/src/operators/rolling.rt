@@ -1,5 +1,5 @@
 //! A rolling sum that runs.
-ghost use Rattle.std.specs.Prelude.{◌≡◌, List, [], None, pos, IfOk, IsOk};
+ghost use Rattle.std.specs.Prelude.{◌≡◌, List, [], None, pos, string_bytes, IfOk, IsOk};
 ghost use Rattle.fq_column.specs.Frame.{Row};
 ghost use Rattle.fq_run.specs.Transforms.{Transform, roll_transform};
 ghost use Rattle.fq_ops.specs.Roll.{roll_schema};
@@ -11,6 +11,19 @@ use fq_column::{Batch, Memory, Schema};
 use fq_ops::Rolling;
 use std::alloc::Global;
 
+/// A rolling sum of a column, under a name.
+#[derive(Drop)]
+pub struct RollingSum {
+    /// The name of the column.
+    pub column: String,
+    /// How many rows a sum goes over at most.
+    pub window: u32,
+    /// How many values it needs at least.
+    pub min_samples: u32,
+    /// The name of the sums' column.
+    pub name: String,
+}
+
 /// A rolling sum of the column at a place, put under a name.
 #[derive(Drop)]
 pub(crate) struct Summing<'a> {
@@ -21,27 +34,24 @@ pub(crate) struct Summing<'a> {
 }
 
 impl<'a> Summing<'a> {
-    /// A rolling sum of the column of a name, that has taken no row.
+    /// A rolling sum that has taken no row.
     pub(crate) fn new(
         alloc: Global,
         number: u16,
         schema: &Schema,
-        column: &str,
-        window: u32,
-        min_samples: u32,
-        name: &'a str,
+        rolling_sum: &'a RollingSum,
     ) -> Result<Summing<'a>, Memory>
-        requires { IsOk (roll_schema schema.now column.now (pos window) (pos min_samples) name.now) }
-        ensures { IfOk result (λ s. HasSummed s (roll_transform number schema.now column.now window min_samples name.entry.now) []) }
+        requires { IsOk (roll_schema schema.now (string_bytes rolling_sum.now.column) (pos rolling_sum.now.window) (pos rolling_sum.now.min_samples) (string_bytes rolling_sum.now.name)) }
+        ensures { let r = rolling_sum.entry.now in IfOk result (λ s. HasSummed s (roll_transform number schema.now (string_bytes r.column) r.window r.min_samples (string_bytes r.name)) []) }
     {
-        let Some(place) = schema.position(column) else {
+        let Some(place) = schema.position(rolling_sum.column.as_str()) else {
             unreachable!()
         };
         Ok(Summing {
             number,
             place,
-            name,
-            rolling: Rolling::new(alloc, window, min_samples)?,
+            name: rolling_sum.name.as_str(),
+            rolling: Rolling::new(alloc, rolling_sum.window, rolling_sum.min_samples)?,
         })
     }
 
