@@ -8,7 +8,7 @@ use Rattle.fq_column.specs.Lists.{zip_with}
 use Rattle.fq_column.specs.Stream.{Stream, done, rename_fault}
 use Rattle.fq_plan.specs.Cuts.{joined, source_rows, GiveTheSameRows}
 use Rattle.fq_plan.specs.Meaning.{meaning, outcome}
-use Rattle.fq_plan.specs.Plan.{PlanStep, Query, files_wanted, join_files, main_fields}
+use Rattle.fq_plan.specs.Plan.{PlanStep, Query, files_wanted, side_files, main_fields}
 use Rattle.fq_run.specs.Sources.{Source, but_last, concat_streams, first_fault, frames_of, last_or, scan_fault, source_streams}
 use Rattle.fq_run.specs.declared.faults.Fault.{Fault}
 use Rattle.fq_run.proofs.LastLemmas.{but_last-snoc, last_or-snoc}
@@ -57,36 +57,36 @@ frames-of-fields (s ∷ sources) (u ∷ us) = ap (λ fs. record { fields = s.fie
 -- what steps mean over the rows of each source
 by_rows : List PlanStep → List Fields → List (List Row) → Result Frame Fault
 by_rows steps fields rows =
-    let joins : List (Stream Fault) = map done (but_last rows) in
-    elim (first_fault joins) [ Some f ↦ Err f | None ↦ outcome (zip_with frame_of (but_last fields) joins) 0 (last_or [] fields) steps (done (last_or [] rows)) ]
+    let sides : List (Stream Fault) = map done (but_last rows) in
+    elim (first_fault sides) [ Some f ↦ Err f | None ↦ outcome (zip_with frame_of (but_last fields) sides) 0 (last_or [] fields) steps (done (last_or [] rows)) ]
 
 meaning-by-rows : (p : Query) (main : Source) → HasMain p.sources main → (files : List (List Row)) → length files ≡ files_wanted p →
     meaning p (map done files) ≡ by_rows p.steps (map (λ (s : Source). s.fields) p.sources) (source_rows p.sources files)
 unfolding by_rows
 meaning-by-rows p main h files count =
-    let joins : List Source = but_last p.sources in
+    let sides : List Source = but_last p.sources in
     let rows : List (List Row) = source_rows p.sources files in
-    let last : List Row = joined (drop (join_files p) files) in
-    let left : length (drop (join_files p) files) ≡ main.files = omega (arith, length-drop (join_files p) files, count, wanted-main p.sources main h, h.files) in
-    let parts : rows ≡ source_rows joins files ++ last ∷ [] =
-    ap (λ ss. source_rows ss files) h.all ∙ rows-last joins main files
-    ∙ ap (λ rs. source_rows joins files ++ joined rs ∷ []) (take_all main.files (drop (join_files p) files) (omega (arith, left))) in
-    let before : but_last rows ≡ source_rows joins files = ap but_last parts ∙ but_last-snoc (source_rows joins files) last in
-    let after : last_or [] rows ≡ last = ap (last_or []) parts ∙ last_or-snoc [] (source_rows joins files) last in
-    let fields : but_last (map (λ (s : Source). s.fields) p.sources) ≡ map (λ (s : Source). s.fields) joins =
+    let last : List Row = joined (drop (side_files p) files) in
+    let left : length (drop (side_files p) files) ≡ main.files = omega (arith, length-drop (side_files p) files, count, wanted-main p.sources main h, h.files) in
+    let parts : rows ≡ source_rows sides files ++ last ∷ [] =
+    ap (λ ss. source_rows ss files) h.all ∙ rows-last sides main files
+    ∙ ap (λ rs. source_rows sides files ++ joined rs ∷ []) (take_all main.files (drop (side_files p) files) (omega (arith, left))) in
+    let before : but_last rows ≡ source_rows sides files = ap but_last parts ∙ but_last-snoc (source_rows sides files) last in
+    let after : last_or [] rows ≡ last = ap (last_or []) parts ∙ last_or-snoc [] (source_rows sides files) last in
+    let fields : but_last (map (λ (s : Source). s.fields) p.sources) ≡ map (λ (s : Source). s.fields) sides =
     ap (λ ss. but_last (map (λ (s : Source). s.fields) ss)) h.all
-    ∙ ap but_last (map-append (λ (s : Source). s.fields) joins (main ∷ []))
-    ∙ but_last-snoc (map (λ (s : Source). s.fields) joins) main.fields in
+    ∙ ap but_last (map-append (λ (s : Source). s.fields) sides (main ∷ []))
+    ∙ but_last-snoc (map (λ (s : Source). s.fields) sides) main.fields in
     let over : List (Stream Fault) → List Frame → Stream Fault → Result Frame Fault = λ us fs u. elim (first_fault us) [ Some f ↦ Err f | None ↦ outcome fs 0 (main_fields p) p.steps u ] in
     let plain : map (rename_fault scan_fault) (map done files) ≡ map done files = renamed-done scan_fault files in
-    let of_joins : source_streams joins (map (rename_fault scan_fault) (map done files)) ≡ map done (but_last rows) =
-    ap (source_streams joins) plain ∙ streams-done joins files ∙ ap (map done) (sym before) in
-    let of_main : concat_streams (drop (join_files p) (map (rename_fault scan_fault) (map done files))) ≡ done (last_or [] rows) =
-    ap (λ us. concat_streams (drop (join_files p) us)) plain ∙ ap concat_streams (drop-map done (join_files p) files)
-    ∙ concat-done (drop (join_files p) files) ∙ ap done (sym after) in
-    (λ i. over (of_joins i) (frames_of joins (of_joins i)) (of_main i))
+    let of_joins : source_streams sides (map (rename_fault scan_fault) (map done files)) ≡ map done (but_last rows) =
+    ap (source_streams sides) plain ∙ streams-done sides files ∙ ap (map done) (sym before) in
+    let of_main : concat_streams (drop (side_files p) (map (rename_fault scan_fault) (map done files))) ≡ done (last_or [] rows) =
+    ap (λ us. concat_streams (drop (side_files p) us)) plain ∙ ap concat_streams (drop-map done (side_files p) files)
+    ∙ concat-done (drop (side_files p) files) ∙ ap done (sym after) in
+    (λ i. over (of_joins i) (frames_of sides (of_joins i)) (of_main i))
     ∙ ap (λ fs. over (map done (but_last rows)) fs (done (last_or [] rows)))
-    (frames-of-fields joins (map done (but_last rows)) ∙ ap (λ fs. zip_with frame_of fs (map done (but_last rows))) (sym fields))
+    (frames-of-fields sides (map done (but_last rows)) ∙ ap (λ fs. zip_with frame_of fs (map done (but_last rows))) (sym fields))
 
 pub same-rows : (p q : Query) (files other : List (List Row)) → 0 < length p.sources → GiveTheSameRows p q files other →
     meaning p (map done files) ≡ meaning q (map done other)

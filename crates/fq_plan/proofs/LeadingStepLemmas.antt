@@ -16,13 +16,13 @@ use Rattle.fq_run.specs.declared.faults.Fault.{Fault}
 use Rattle.fq_run.specs.declared.faults.Fault.TheVariants.{Overflow}
 use Rattle.fq_run.proofs.LeadingStepLemmas.{concat_streams-append}
 
-pub leading-steps : (joins : List Frame) (n : ℕ) (fields : Fields) (front : List Step) (rest : List PlanStep) (u : Stream Fault) →
-    apply_plan_steps joins n fields (map row_wise front ++ rest) u
-    ≡ apply_plan_steps joins (n + length front) (fields_after_all fields front) rest (apply_steps Overflow n fields front u)
-leading-steps joins n fields [] rest u = ap (λ m. apply_plan_steps joins m fields rest u) (let e : n ≡ n + 0 = omega arith in e)
-leading-steps joins n fields (s ∷ front) rest u =
-    leading-steps joins (n + 1) (fields_after fields s) front rest (apply_step Overflow n fields s u)
-    ∙ ap (λ m. apply_plan_steps joins m (fields_after_all fields (s ∷ front)) rest (apply_steps Overflow n fields (s ∷ front) u)) (let e : n + 1 + length front ≡ n + suc (length front) = omega arith in e)
+pub leading-steps : (sides : List Frame) (n : ℕ) (fields : Fields) (front : List Step) (rest : List PlanStep) (u : Stream Fault) →
+    apply_plan_steps sides n fields (map row_wise front ++ rest) u
+    ≡ apply_plan_steps sides (n + length front) (fields_after_all fields front) rest (apply_steps Overflow n fields front u)
+leading-steps sides n fields [] rest u = ap (λ m. apply_plan_steps sides m fields rest u) (let e : n ≡ n + 0 = omega arith in e)
+leading-steps sides n fields (s ∷ front) rest u =
+    leading-steps sides (n + 1) (fields_after fields s) front rest (apply_step Overflow n fields s u)
+    ∙ ap (λ m. apply_plan_steps sides m (fields_after_all fields (s ∷ front)) rest (apply_steps Overflow n fields (s ∷ front) u)) (let e : n + 1 + length front ≡ n + suc (length front) = omega arith in e)
 
 pub front-rest : (steps : List PlanStep) → map row_wise (front_of steps) ++ rest_of steps ≡ steps
 front-rest [] = refl
@@ -47,14 +47,14 @@ module _ {F : Type 0} where
       ∙ then-last_item u.rows u.fault
 
 -- the meaning is what the other steps make of worked items that join to the main source's rows after the leading steps
-pub finished-worked : (p : Query) (joins us items : List (Stream Fault)) → concat_streams items ≡ after_leading (reading p) (concat_streams us) →
-    finished p joins items ≡ meaning_of_sources p joins (concat_streams us)
-finished-worked p joins us items same =
-    let frames : List Frame = frames_of (but_last p.sources) joins in
+pub finished-worked : (p : Query) (sides us items : List (Stream Fault)) → concat_streams items ≡ after_leading (reading p) (concat_streams us) →
+    finished p sides items ≡ meaning_of_sources p sides (concat_streams us)
+finished-worked p sides us items same =
+    let frames : List Frame = frames_of (but_last p.sources) sides in
     let fields : Fields = main_fields p in
     let front : List Step = front_of p.steps in
     let rest : List PlanStep = rest_of p.steps in
-    ap (λ r. elim (first_fault joins) [ Some f ↦ Err f | None ↦ frame_or_fault r.0 r.1 ])
+    ap (λ r. elim (first_fault sides) [ Some f ↦ Err f | None ↦ frame_or_fault r.0 r.1 ])
     (ap (apply_plan_steps frames (length front) (fields_after_all fields front) rest) same
     ∙ ap (λ m. apply_plan_steps frames m (fields_after_all fields front) rest (apply_steps Overflow 0 fields front (concat_streams us))) (let e : length front ≡ 0 + length front = omega arith in e)
     ∙ sym (leading-steps frames 0 fields front rest (concat_streams us))

@@ -8,7 +8,7 @@ use Rattle.fq_expr.specs.Expression.{Step}
 use Rattle.fq_expr.specs.Front.{NumberedSteps}
 use Rattle.fq_expr.specs.Kinds.{steps_schema}
 use Rattle.fq_plan.specs.Judged.{checked, judged, judged_steps, source_refusal}
-use Rattle.fq_plan.specs.Plan.{PlanStep, row_wise, Query, IsWithinLimits, files_wanted, front_of, join_fields, main_fields, rest_of}
+use Rattle.fq_plan.specs.Plan.{PlanStep, row_wise, Query, IsWithinLimits, files_wanted, front_of, side_fields, main_fields, rest_of}
 use Rattle.fq_run.specs.Sources.{Source, but_last, last_or}
 use Rattle.fq_plan.specs.Stages.{columns_of, query_of, stage_steps, IsChecked, Leads}
 use Rattle.fq_run.specs.Physical.{Physical, front_fields}
@@ -28,7 +28,7 @@ abbrev pub judged_by : Query → Option CheckFault → Result (List Fields) Chec
 judged_by p o r = result_map_both (λ schemas. p) (λ refusal. refusal) (let all : Result (List Fields) CheckFault = elim o [ Some refusal ↦ Err refusal | None ↦ r ] in all)
 
 abbrev pub steps_judged : Query → Result (List Fields) CheckFault
-steps_judged p = judged_steps (join_fields p) 0 (main_fields p) p.steps
+steps_judged p = judged_steps (side_fields p) 0 (main_fields p) p.steps
 
 pub source-refuses : (p : Query) (e : CheckFault) → source_refusal 0 p.sources ≡ Some e → checked p ≡ Err e
 source-refuses p e h = ap (λ o. judged_by p o (steps_judged p)) h
@@ -50,7 +50,7 @@ steps-are steps leading front rest r = (λ i. map row_wise (front i) ++ r i) ∙
 
 -- ---- the sources before the last, and the last
 
-module _ (sources joins : List SourceFiles) (main : SourceFiles) (parts : sources ≡ joins ++ main ∷ []) where
+module _ (sources sides : List SourceFiles) (main : SourceFiles) (parts : sources ≡ sides ++ main ∷ []) where
   abbrev pub query : List PlanStep → Query
   query steps = record { sources = map source_of_files sources; steps = steps }
 
@@ -58,39 +58,39 @@ module _ (sources joins : List SourceFiles) (main : SourceFiles) (parts : source
   fields-of [] = refl
   fields-of (x ∷ xs) = ap (λ fs. x.layout.schema ∷ fs) (fields-of xs)
 
-  pub joins-are : (steps : List PlanStep) → join_fields (query steps) ≡ columns_of joins
-  joins-are steps =
-      ap (λ ss. map (λ (s : Source). s.fields) (but_last ss)) (ap (map source_of_files) parts ∙ map-append source_of_files joins (main ∷ []))
-      ∙ ap (map (λ (s : Source). s.fields)) (but_last-snoc (map source_of_files joins) (source_of_files main))
-      ∙ fields-of joins
+  pub sides-are : (steps : List PlanStep) → side_fields (query steps) ≡ columns_of sides
+  sides-are steps =
+      ap (λ ss. map (λ (s : Source). s.fields) (but_last ss)) (ap (map source_of_files) parts ∙ map-append source_of_files sides (main ∷ []))
+      ∙ ap (map (λ (s : Source). s.fields)) (but_last-snoc (map source_of_files sides) (source_of_files main))
+      ∙ fields-of sides
 
   pub main-is : (steps : List PlanStep) → main_fields (query steps) ≡ main.layout.schema
   main-is steps =
-      ap (last_or []) (fields-of sources ∙ ap columns_of parts ∙ map-append (λ (s : SourceFiles). s.layout.schema) joins (main ∷ []))
-      ∙ last_or-snoc [] (columns_of joins) main.layout.schema
+      ap (last_or []) (fields-of sources ∙ ap columns_of parts ∙ map-append (λ (s : SourceFiles). s.layout.schema) sides (main ∷ []))
+      ∙ last_or-snoc [] (columns_of sides) main.layout.schema
 
   module _ (steps : List PlanStep) (leading : List Step) (front : leading ≡ front_of steps) where
-    judged-are : (rest : List PlanStep) → rest ≡ rest_of steps → steps_judged (query steps) ≡ judged_steps (columns_of joins) 0 main.layout.schema (map row_wise leading ++ rest)
-    judged-are rest r = λ i. judged_steps (joins-are steps i) 0 (main-is steps i) (sym (steps-are steps leading front rest r) i)
+    judged-are : (rest : List PlanStep) → rest ≡ rest_of steps → steps_judged (query steps) ≡ judged_steps (columns_of sides) 0 main.layout.schema (map row_wise leading ++ rest)
+    judged-are rest r = λ i. judged_steps (sides-are steps i) 0 (main-is steps i) (sym (steps-are steps leading front rest r) i)
 
     pub leading-refuses : (e : CheckFault) → source_refusal 0 (map source_of_files sources) ≡ None →
-        ((joins : List Fields) (rest : List PlanStep) → judged_steps joins 0 main.layout.schema (map row_wise leading ++ rest) ≡ Err e) → checked (query steps) ≡ Err e
-    leading-refuses e s h = step-refuses (query steps) e s (judged-are (rest_of steps) refl ∙ h (columns_of joins) (rest_of steps))
+        ((sides : List Fields) (rest : List PlanStep) → judged_steps sides 0 main.layout.schema (map row_wise leading ++ rest) ≡ Err e) → checked (query steps) ≡ Err e
+    leading-refuses e s h = step-refuses (query steps) e s (judged-are (rest_of steps) refl ∙ h (columns_of sides) (rest_of steps))
 
     pub stages-refuse : (rest : List PlanStep) (mid : Fields) (e : CheckFault) → source_refusal 0 (map source_of_files sources) ≡ None → rest ≡ rest_of steps →
-        steps_schema main.layout.schema leading ≡ Ok mid → judged_steps (columns_of joins) (length leading) mid rest ≡ Err e → checked (query steps) ≡ Err e
+        steps_schema main.layout.schema leading ≡ Ok mid → judged_steps (columns_of sides) (length leading) mid rest ≡ Err e → checked (query steps) ≡ Err e
     stages-refuse rest mid e s r h g =
         step-refuses (query steps) e s
         (judged-are rest r
-        ∙ refusal-is (judged_steps (columns_of joins) 0 main.layout.schema (map row_wise leading ++ rest)) e
-        (rows-passed (columns_of joins) 0 main.layout.schema leading rest mid h
-        ∙ ap (λ n. refusal_in (judged_steps (columns_of joins) n mid rest)) (let q : 0 + length leading ≡ length leading = omega arith in q)
+        ∙ refusal-is (judged_steps (columns_of sides) 0 main.layout.schema (map row_wise leading ++ rest)) e
+        (rows-passed (columns_of sides) 0 main.layout.schema leading rest mid h
+        ∙ ap (λ n. refusal_in (judged_steps (columns_of sides) n mid rest)) (let q : 0 + length leading ≡ length leading = omega arith in q)
         ∙ ap refusal_in g))
 
     -- ---- a plan that is not refused
 
     module _ (stages : List Stage) (mid after : Fields) (rest : stage_steps stages ≡ rest_of steps) (passed : source_refusal 0 (map source_of_files sources) ≡ None)
-        (to_mid : steps_schema main.layout.schema leading ≡ Ok mid) (leads : Leads (columns_of joins) (length leading) mid stages after) where
+        (to_mid : steps_schema main.layout.schema leading ≡ Ok mid) (leads : Leads (columns_of sides) (length leading) mid stages after) where
       abbrev pub in_front : NumberedSteps
       in_front = record { steps = leading; fields = main.layout.schema; first = 0 }
 
@@ -108,7 +108,7 @@ module _ (sources joins : List SourceFiles) (main : SourceFiles) (parts : source
       prepared limits = record {
         limits = subst IsWithinLimits (sym query-is) limits;
         schemas = passed;
-        leads = (mid, after, steps-to-mid, subst (λ js. Leads js (length leading) mid stages after) (sym (joins-are (map row_wise leading ++ stage_steps stages))) leads);
+        leads = (mid, after, steps-to-mid, subst (λ js. Leads js (length leading) mid stages after) (sym (sides-are (map row_wise leading ++ stage_steps stages))) leads);
       }
 
       pub runnable : (inputs : ℕ) → IsWithinLimits (query steps) → inputs ≡ files_wanted (query steps) → IsRunnable sources in_front stages inputs
@@ -120,9 +120,9 @@ module _ (sources joins : List SourceFiles) (main : SourceFiles) (parts : source
         on_main = sym on-main;
         fits = (
           after,
-          subst (λ js. Fit js (front_fields (physical_of sources in_front stages)) stages after) (sym (joins-are (map row_wise leading ++ stage_steps stages)))
-              (subst (λ fs. Fit (columns_of joins) fs stages after) (sym (fields-after-all (main_fields (query (map row_wise leading ++ stage_steps stages))) mid leading steps-to-mid))
-              (fits (columns_of joins) (length leading) mid stages after leads)),
+          subst (λ js. Fit js (front_fields (physical_of sources in_front stages)) stages after) (sym (sides-are (map row_wise leading ++ stage_steps stages)))
+              (subst (λ fs. Fit (columns_of sides) fs stages after) (sym (fields-after-all (main_fields (query (map row_wise leading ++ stage_steps stages))) mid leading steps-to-mid))
+              (fits (columns_of sides) (length leading) mid stages after leads)),
         );
       }
 
@@ -130,7 +130,7 @@ module _ (sources joins : List SourceFiles) (main : SourceFiles) (parts : source
 pub checked-passes : (p : Physical) → IsChecked p → IsOk (judged (query_of p))
 checked-passes p c =
     let q : Query = query_of p in
-    let js : List Fields = join_fields q in
+    let js : List Fields = side_fields q in
     plan-passes q c.schemas
     (rows-passed js 0 (main_fields q) p.front (stage_steps p.stages) c.leads.0 c.leads.2
     ∙ ap (λ n. refusal_in (judged_steps js n c.leads.0 (stage_steps p.stages))) (let e : 0 + length p.front ≡ length p.front = omega arith in e)

@@ -2,7 +2,7 @@
 use Rattle.std.proofs.Common.{◌≡◌, ℕ, ◌+◌, ◌<◌, ◌≤◌, List, [], ◌∷◌, map, length, drop, refl, ap, ◌∙◌}
 use Rattle.fq_column.specs.Stream.{Stream}
 use Rattle.fq_plan.specs.Meaning.{meaning_of_files}
-use Rattle.fq_plan.specs.Plan.{Query, files_wanted, join_files}
+use Rattle.fq_plan.specs.Plan.{Query, files_wanted, side_files}
 use Rattle.fq_plan.specs.Tail.{finished, items_of, outcome_of_taken, reading, worked_items}
 use Rattle.fq_plan.proofs.LeadingStepLemmas.{concat_streams-items, finished-worked}
 use Rattle.fq_run.specs.Sources.{but_last, concat_streams, source_streams}
@@ -21,5 +21,5 @@ worked_items-joined p b file (u ∷ us) h =
 pub outcome-all : (p : Query) (xss : List (List (Stream Fault))) (us : List (Stream Fault)) → map concat_streams xss ≡ worked_files (reading p) 0 us → length us ≤ files_wanted p →
     outcome_of_taken p (tagged 0 xss) ≡ meaning_of_files p us
 outcome-all p xss us joins_to g =
-    ap (λ joins. finished p joins (items_from (join_files p) (files_wanted p) (tagged 0 xss))) (sides-joined (reading p) xss us joins_to)
-    ∙ finished-worked p (source_streams (but_last p.sources) us) (drop (join_files p) us) (items_from (join_files p) (files_wanted p) (tagged 0 xss)) (main-joined (reading p) xss us joins_to g)
+    ap (λ sides. finished p sides (items_from (side_files p) (files_wanted p) (tagged 0 xss))) (sides-joined (reading p) xss us joins_to)
+    ∙ finished-worked p (source_streams (but_last p.sources) us) (drop (side_files p) us) (items_from (side_files p) (files_wanted p) (tagged 0 xss)) (main-joined (reading p) xss us joins_to g)

@@ -10,7 +10,7 @@ use Rattle.fq_expr.specs.Kinds.{step_schema}
 use Rattle.fq_ops.specs.Join.{join_schema}
 use Rattle.fq_ops.specs.Group.{group_schema}
 use Rattle.fq_ops.specs.Roll.{roll_schema}
-use Rattle.fq_plan.specs.Plan.{PlanStep, row_wise, join, group_by, rolling_sum, Query, item_at, join_fields, main_fields}
+use Rattle.fq_plan.specs.Plan.{PlanStep, row_wise, join, group_by, rolling_sum, Query, item_at, side_fields, main_fields}
 use Rattle.fq_run.specs.Sources.{Source}
 use Rattle.fq_plan.specs.declared.faults.CheckFault.{CheckFault}
 use Rattle.fq_plan.specs.declared.faults.Place.{Place}
@@ -29,12 +29,12 @@ abbrev pub source_refusal : ℕ → List Source → Option CheckFault
 source_refusal n [] = None
 source_refusal n (s ∷ sources) = elim (first_refusal (schema_checks (names_of s.fields))) [ Some code ↦ Some (refused_at (place.Source n) code) | None ↦ source_refusal (n + 1) sources ]
 
--- below, `joins` are the columns of the sources before the last
-module _ (joins : List Fields) where
+-- below, `sides` are the columns of the sources before the last
+module _ (sides : List Fields) where
   -- the schema after a step, or the step's first refusal
   abbrev pub judged_step : Fields → PlanStep → Result Fields StepFault
   judged_step fields (row_wise s) = step_schema fields s
-  judged_step fields (join source on how nulls_equal) = elim (item_at joins source) [ None ↦ Err NoSuchSource | Some right ↦ join_schema how fields right on ]
+  judged_step fields (join source on how nulls_equal) = elim (item_at sides source) [ None ↦ Err NoSuchSource | Some right ↦ join_schema how fields right on ]
   judged_step fields (group_by keys aggs) = group_schema fields keys aggs
   judged_step fields (rolling_sum column window min_samples name) = roll_schema fields column window min_samples name
 
@@ -46,7 +46,7 @@ module _ (joins : List Fields) where
 
 -- the schemas of a plan, step by step, or the first refusal
 abbrev pub judged : Query → Result (List Fields) CheckFault
-judged p = elim (source_refusal 0 p.sources) [ Some refusal ↦ Err refusal | None ↦ judged_steps (join_fields p) 0 (main_fields p) p.steps ]
+judged p = elim (source_refusal 0 p.sources) [ Some refusal ↦ Err refusal | None ↦ judged_steps (side_fields p) 0 (main_fields p) p.steps ]
 
 -- the plan, if it is not refused
 abbrev pub checked : Query → Result Query CheckFault

@@ -9,25 +9,25 @@ use Rattle.fq_ops.specs.Group.{group_stream}
 use Rattle.fq_ops.specs.Join.{join_stream}
 use Rattle.fq_ops.specs.Roll.{roll_stream}
 use Rattle.fq_plan.specs.Judged.{judged_step}
-use Rattle.fq_plan.specs.Plan.{PlanStep, row_wise, join, group_by, rolling_sum, Query, item_at, join_files, main_fields}
+use Rattle.fq_plan.specs.Plan.{PlanStep, row_wise, join, group_by, rolling_sum, Query, item_at, side_files, main_fields}
 use Rattle.fq_run.specs.Outcome.{frame_or_fault}
 use Rattle.fq_run.specs.Sources.{but_last, concat_streams, first_fault, frames_of, scan_fault, source_streams}
 use Rattle.fq_run.specs.Transforms.{join_room}
 use Rattle.fq_run.specs.declared.faults.Fault.{Fault}
 use Rattle.fq_run.specs.declared.faults.Fault.TheVariants.{Overflow, JoinRows, RollRange, SumRange}
 
--- below, `joins` are the sources before the last
-module _ (joins : List Frame) where
+-- below, `sides` are the sources before the last
+module _ (sides : List Frame) where
   -- step n on a stream of rows with these columns
   abbrev pub apply_plan_step : ℕ → Fields → PlanStep → Stream Fault → Stream Fault
   apply_plan_step n fields (row_wise s) u = apply_step Overflow n fields s u
-  apply_plan_step n fields (join source on how nulls_equal) u = elim (item_at joins source) [ None ↦ u | Some right ↦ join_stream how nulls_equal fields right.fields on right.rows join_room (JoinRows n) u ]
+  apply_plan_step n fields (join source on how nulls_equal) u = elim (item_at sides source) [ None ↦ u | Some right ↦ join_stream how nulls_equal fields right.fields on right.rows join_room (JoinRows n) u ]
   apply_plan_step n fields (group_by keys aggs) u = group_stream fields keys aggs (SumRange n) u
   apply_plan_step n fields (rolling_sum column window min_samples name) u = roll_stream fields column (nat_abs window) (nat_abs min_samples) name (RollRange n) u
 
   -- the columns after a step that is not refused
   abbrev pub fields_after : Fields → PlanStep → Fields
-  fields_after fields s = result_unwrap_or (judged_step (map (λ f. f.fields) joins) fields s) fields
+  fields_after fields s = result_unwrap_or (judged_step (map (λ f. f.fields) sides) fields s) fields
 
   -- the columns and the stream after steps, numbered from n, each on the whole stream that the step before gave
   abbrev pub apply_plan_steps : ℕ → Fields → List PlanStep → Stream Fault → Fields × Stream Fault
@@ -36,17 +36,17 @@ module _ (joins : List Frame) where
 
 -- what steps, numbered from n, make of the main stream
 abbrev pub outcome : List Frame → ℕ → Fields → List PlanStep → Stream Fault → Result Frame Fault
-outcome joins n fields steps u = let after = apply_plan_steps joins n fields steps u in frame_or_fault after.0 after.1
+outcome sides n fields steps u = let after = apply_plan_steps sides n fields steps u in frame_or_fault after.0 after.1
 
 -- the meaning over the streams of the sources before the last, and of the last: the first fault of the former, even if no
 -- step uses that source, or else what the steps make of the latter
 abbrev pub meaning_of_sources : Query → List (Stream Fault) → Stream Fault → Result Frame Fault
-meaning_of_sources p joins main = elim (first_fault joins)
-    [ Some f ↦ Err f | None ↦ outcome (frames_of (but_last p.sources) joins) 0 (main_fields p) p.steps main ]
+meaning_of_sources p sides main = elim (first_fault sides)
+    [ Some f ↦ Err f | None ↦ outcome (frames_of (but_last p.sources) sides) 0 (main_fields p) p.steps main ]
 
 -- the meaning over the files' streams, in argument order
 abbrev pub meaning_of_files : Query → List (Stream Fault) → Result Frame Fault
-meaning_of_files p us = meaning_of_sources p (source_streams (but_last p.sources) us) (concat_streams (drop (join_files p) us))
+meaning_of_files p us = meaning_of_sources p (source_streams (but_last p.sources) us) (concat_streams (drop (side_files p) us))
 
 -- the same, for streams that end in faults of the files
 abbrev pub meaning : Query → List (Stream ScanFault) → Result Frame Fault

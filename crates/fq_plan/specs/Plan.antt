@@ -32,8 +32,8 @@ abbrev pub files_wanted : Query → ℕ
 files_wanted p = sum_by (λ s. s.files) p.sources
 
 -- how many of them are of the sources before the last
-abbrev pub join_files : Query → ℕ
-join_files p = sum_by (λ s. s.files) (but_last p.sources)
+abbrev pub side_files : Query → ℕ
+side_files p = sum_by (λ s. s.files) (but_last p.sources)
 
 -- how each file is read, in argument order
 abbrev pub file_layouts : Query → List Layout
@@ -44,8 +44,8 @@ abbrev pub file_streams : Query → List (List ℕ) → List (Stream ScanFault)
 file_streams p files = streams_of_files (file_layouts p) files
 
 -- the columns of the sources before the last, and of the last
-abbrev pub join_fields : Query → List Fields
-join_fields p = map (λ s. s.fields) (but_last p.sources)
+abbrev pub side_fields : Query → List Fields
+side_fields p = map (λ s. s.fields) (but_last p.sources)
 
 abbrev pub main_fields : Query → Fields
 main_fields p = last_or [] (map (λ s. s.fields) p.sources)

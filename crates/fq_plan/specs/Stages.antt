@@ -5,7 +5,7 @@ use Rattle.fq_expr.specs.Kinds.{steps_schema}
 use Rattle.fq_ops.specs.AggregateData.{outputs_of}
 use Rattle.fq_plan.specs.Judged.{judged_step, source_refusal}
 use Rattle.fq_plan.specs.Plan.{PlanStep, row_wise, join, group_by, rolling_sum, Query, IsWithinLimits}
-use Rattle.fq_run.specs.Physical.{Physical, join_fields, main_fields}
+use Rattle.fq_run.specs.Physical.{Physical, side_fields, main_fields}
 use Rattle.fq_run.specs.declared.stages.SourceFiles.{SourceFiles}
 use Rattle.fq_run.specs.declared.operators.Operator.{Operator}
 use Rattle.fq_run.specs.declared.operators.Operator.TheVariants.{Rows, Join, GroupBy, RollingSum}
@@ -28,14 +28,14 @@ stage_steps stages = flat_map (λ s. operator_steps s.operator) stages
 abbrev pub query_of : Physical → Query
 query_of p = record { sources = p.sources; steps = map row_wise p.front ++ stage_steps p.stages }
 
--- below, `joins` are the columns of the sources before the last
-module _ (joins : List Fields) where
+-- below, `sides` are the columns of the sources before the last
+module _ (sides : List Fields) where
   -- an operator whose first step is step n takes rows with these columns to rows with those
   abbrev pub Turns : ℕ → Fields → Operator → Fields → Type 0
   Turns n fields (Rows front) after = (front.fields ≡ fields) × (front.first ≡ n) × (steps_schema fields front.steps ≡ Ok after)
-  Turns n fields (Join j) after = judged_step joins fields (join (pos j.source) (map string_bytes j.on.items) j.how j.nulls_equal) ≡ Ok after
-  Turns n fields (GroupBy g) after = judged_step joins fields (group_by (map string_bytes g.keys.items) (outputs_of g.aggs.items)) ≡ Ok after
-  Turns n fields (RollingSum r) after = judged_step joins fields (rolling_sum (string_bytes r.column) (pos r.window) (pos r.min_samples) (string_bytes r.name)) ≡ Ok after
+  Turns n fields (Join j) after = judged_step sides fields (join (pos j.source) (map string_bytes j.on.items) j.how j.nulls_equal) ≡ Ok after
+  Turns n fields (GroupBy g) after = judged_step sides fields (group_by (map string_bytes g.keys.items) (outputs_of g.aggs.items)) ≡ Ok after
+  Turns n fields (RollingSum r) after = judged_step sides fields (rolling_sum (string_bytes r.column) (pos r.window) (pos r.min_samples) (string_bytes r.name)) ≡ Ok after
 
   -- so do stages, one after the other, each with the number of its first step and the columns that it leaves
   abbrev pub Leads : ℕ → Fields → List Stage → Fields → Type 0
@@ -47,4 +47,4 @@ module _ (joins : List Fields) where
 pub record IsChecked (p : Physical) : Type 0 where
   pub limits : IsWithinLimits (query_of p)
   pub schemas : source_refusal 0 p.sources ≡ None
-  pub leads : (mid after : Fields) × (steps_schema (main_fields p) p.front ≡ Ok mid) × Leads (join_fields p) (length p.front) mid p.stages after
+  pub leads : (mid after : Fields) × (steps_schema (main_fields p) p.front ≡ Ok mid) × Leads (side_fields p) (length p.front) mid p.stages after

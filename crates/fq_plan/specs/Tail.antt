@@ -6,7 +6,7 @@ use Rattle.fq_column.specs.Lists.{pieces}
 use Rattle.fq_column.specs.Stream.{Stream, done, faulted}
 use Rattle.fq_expr.specs.Steps.{fields_after_all}
 use Rattle.fq_plan.specs.Meaning.{outcome}
-use Rattle.fq_plan.specs.Plan.{Query, files_wanted, front_of, join_files, main_fields, rest_of}
+use Rattle.fq_plan.specs.Plan.{Query, files_wanted, front_of, side_files, main_fields, rest_of}
 use Rattle.fq_run.specs.Physical.{Physical}
 use Rattle.fq_run.specs.Sources.{but_last, concat_streams, first_fault, frames_of}
 use Rattle.fq_run.specs.Tail.{Taken, items_from, tagged, taken_streams, worked}
@@ -18,9 +18,9 @@ reading p = record { sources = p.sources; front = front_of p.steps; stages = [] 
 
 -- what the other steps make of the worked items joined, if no source before the last ends in a fault
 abbrev pub finished : Query → List (Stream Fault) → List (Stream Fault) → Result Frame Fault
-finished p joins items = elim (first_fault joins) [
+finished p sides items = elim (first_fault sides) [
   | Some f ↦ Err f
-  | None ↦ outcome (frames_of (but_last p.sources) joins) (length (front_of p.steps)) (fields_after_all (main_fields p) (front_of p.steps)) (rest_of p.steps) (concat_streams items)
+  | None ↦ outcome (frames_of (but_last p.sources) sides) (length (front_of p.steps)) (fields_after_all (main_fields p) (front_of p.steps)) (rest_of p.steps) (concat_streams items)
 ]
 
 -- a file's fault as one item more after its batches
@@ -43,4 +43,4 @@ all_items p batch_size us = tagged 0 (worked_items p batch_size 0 us)
 
 -- the outcome of what was taken
 abbrev pub outcome_of_taken : Query → List Taken → Result Frame Fault
-outcome_of_taken p taken = finished p (taken_streams 0 (but_last p.sources) taken) (items_from (join_files p) (files_wanted p) taken)
+outcome_of_taken p taken = finished p (taken_streams 0 (but_last p.sources) taken) (items_from (side_files p) (files_wanted p) taken)

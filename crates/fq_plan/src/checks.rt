@@ -70,8 +70,8 @@ fn check_plan(alloc: Global, plan: Plan, place: &mut Place) -> Result<Checked, S
 {
     let Plan { sources, steps } = plan;
     let inputs = file_count(&sources) as u16;
-    let mut joins = check_sources(alloc, sources, place)?;
-    let Some(main) = joins.pop() else {
+    let mut sides = check_sources(alloc, sources, place)?;
+    let Some(main) = sides.pop() else {
         unreachable!()
     };
     let (leading, rest) = split_leading(alloc, steps)?;
@@ -80,23 +80,23 @@ fn check_plan(alloc: Global, plan: Plan, place: &mut Place) -> Result<Checked, S
     let after_leading = schema.copy(alloc)?;
     let stages = check_stages(
         alloc,
-        joins.as_slice(),
+        sides.as_slice(),
         leading.len() as u16,
         schema,
         rest,
         place,
     )?;
     let front = Front::new(alloc, leading, front_schema, 0)?;
-    let join_files = inputs - main.files;
+    let side_files = inputs - main.files;
     let physical = PhysicalPlan::new(
         alloc,
-        joins,
+        sides,
         main,
         front,
         after_leading,
         stages,
         inputs,
-        join_files,
+        side_files,
     );
     Ok(Checked { physical })
 }

@@ -9,7 +9,7 @@ use Rattle.fq_csv.specs.declared.faults.ScanFault.{ScanFault}
 use Rattle.fq_expr.specs.Expression.{Step}
 use Rattle.fq_expr.specs.Steps.{apply_step, apply_steps, fields_after}
 use Rattle.fq_run.specs.Outcome.{columns_after, frame_or_fault, outcome}
-use Rattle.fq_run.specs.Physical.{Physical, after_leading, front_fields, join_files, main_fields, outcome_of_files, outcome_of_run}
+use Rattle.fq_run.specs.Physical.{Physical, after_leading, front_fields, side_files, main_fields, outcome_of_files, outcome_of_run}
 use Rattle.fq_run.specs.Sources.{Source, but_last, concat_streams, first_fault, frames_of, scan_fault, source_streams}
 use Rattle.fq_run.specs.Starting.{transforms_of}
 use Rattle.fq_run.specs.Transforms.{Transform, given, whole, whole_all}
@@ -92,9 +92,9 @@ framed-done fields u h = go u.fault refl h
     go None e k = e
     go (Some f) e k = absurd (cc k)
 
-outcome-done : (joins : List Frame) (p : Physical) (u : Stream Fault) → IsOk (outcome joins (front_fields p) p.stages (after_leading p u)) → u.fault ≡ None
-outcome-done joins p u h =
-    let ms : List Transform = transforms_of joins (front_fields p) p.stages in
+outcome-done : (sides : List Frame) (p : Physical) (u : Stream Fault) → IsOk (outcome sides (front_fields p) p.stages (after_leading p u)) → u.fault ≡ None
+outcome-done sides p u h =
+    let ms : List Transform = transforms_of sides (front_fields p) p.stages in
     none-kept u (after_leading p u) (keeps-rows 0 (main_fields p) p.front u)
     (none-kept (after_leading p u) (whole_all ms (after_leading p u)) (keeps-all ms (after_leading p u))
     (framed-done (columns_after (front_fields p) ms) (whole_all ms (after_leading p u)) h))
@@ -102,14 +102,14 @@ outcome-done joins p u h =
 all-done : (p : Physical) (us : List (Stream Fault)) → IsOk (outcome_of_files p us) → AllDone us
 all-done p us h = go (first_fault (source_streams (but_last p.sources) us)) refl h
   where
-    joins : List (Stream Fault)
-    joins = source_streams (but_last p.sources) us
+    sides : List (Stream Fault)
+    sides = source_streams (but_last p.sources) us
 
     main : Stream Fault
-    main = concat_streams (drop (join_files p) us)
+    main = concat_streams (drop (side_files p) us)
 
-    go : (o : Option Fault) → first_fault joins ≡ o → IsOk (let r : Result Frame Fault = elim o [ Some f ↦ Err f | None ↦ outcome (frames_of (but_last p.sources) joins) (front_fields p) p.stages (after_leading p main) ] in r) → AllDone us
-    go None e k = sources-done (but_last p.sources) us e (concat-done (drop (join_files p) us) (outcome-done (frames_of (but_last p.sources) joins) p main k))
+    go : (o : Option Fault) → first_fault sides ≡ o → IsOk (let r : Result Frame Fault = elim o [ Some f ↦ Err f | None ↦ outcome (frames_of (but_last p.sources) sides) (front_fields p) p.stages (after_leading p main) ] in r) → AllDone us
+    go None e k = sources-done (but_last p.sources) us e (concat-done (drop (side_files p) us) (outcome-done (frames_of (but_last p.sources) sides) p main k))
     go (Some f) e k = absurd (cc k)
 
 renamed-done : (us : List (Stream ScanFault)) → AllDone (map (rename_fault scan_fault) us) → AllDone us

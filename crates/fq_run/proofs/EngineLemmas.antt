@@ -16,7 +16,7 @@ use Rattle.fq_lanes.specs.Numbering.{numbered, numbered_file, numbers}
 use Rattle.fq_lanes.specs.TailTaking.{Took}
 use Rattle.fq_run.specs.Feeding.{Feeding, MayCome, end_item, runs_from, scanned_items}
 use Rattle.fq_run.specs.Kept.{Takes}
-use Rattle.fq_run.specs.Physical.{Physical, join_files, main_fields}
+use Rattle.fq_run.specs.Physical.{Physical, side_files, main_fields}
 use Rattle.fq_run.specs.EngineRun.{items_of_files, leading_steps, opened, records_of_files, rows_of_files}
 use Rattle.fq_run.specs.Run.{Tell}
 use Rattle.fq_run.specs.Sources.{concat_streams, row_limit, scan_fault}
@@ -52,19 +52,19 @@ pub took-all : (log : List (ℕ × ℕ × Worked)) (a b : List Gathered) → Too
 took-all [] a b h = h
 took-all (e ∷ es) a b h = took-all es h.0 b h.2 ∙ ap (all_taken (answers_in es)) h.1
 
-module _ (front : NumberedSteps) (joins : ℕ) where
+module _ (front : NumberedSteps) (sides : ℕ) where
   abbrev pub answers_to : List (ℕ × ℕ × Scanned) → List Answer
-  answers_to es = map (λ (e : ℕ × ℕ × Scanned). (e.0, work_on front joins e.0 e.2)) es
+  answers_to es = map (λ (e : ℕ × ℕ × Scanned). (e.0, work_on front sides e.0 e.2)) es
 
-  pub log-answers : (es : List (ℕ × ℕ × Scanned)) (log : List (ℕ × ℕ × Worked)) → Each (IsWorked (λ file item out. out ≡ work_on front joins file item)) es log → answers_in log ≡ answers_to es
+  pub log-answers : (es : List (ℕ × ℕ × Scanned)) (log : List (ℕ × ℕ × Worked)) → Each (IsWorked (λ file item out. out ≡ work_on front sides file item)) es log → answers_in log ≡ answers_to es
   log-answers [] [] h = refl
   log-answers [] (r ∷ rs) h = absurd h
   log-answers (e ∷ es) [] h = absurd h
   log-answers (e ∷ es) (r ∷ rs) h =
-      let one : (r.0, r.2) ≡ (e.0, work_on front joins e.0 e.2) = λ i. (h.0.0 i, h.0.2 i) in
-      ap (λ (x : Answer). x ∷ answers_in rs) one ∙ ap (λ xs. (e.0, work_on front joins e.0 e.2) ∷ xs) (log-answers es rs h.1)
+      let one : (r.0, r.2) ≡ (e.0, work_on front sides e.0 e.2) = λ i. (h.0.0 i, h.0.2 i) in
+      ap (λ (x : Answer). x ∷ answers_in rs) one ∙ ap (λ xs. (e.0, work_on front sides e.0 e.2) ∷ xs) (log-answers es rs h.1)
 
-  pub log-numbers : (es : List (ℕ × ℕ × Scanned)) (log : List (ℕ × ℕ × Worked)) → Each (IsWorked (λ file item out. out ≡ work_on front joins file item)) es log → numbers log ≡ numbers es
+  pub log-numbers : (es : List (ℕ × ℕ × Scanned)) (log : List (ℕ × ℕ × Worked)) → Each (IsWorked (λ file item out. out ≡ work_on front sides file item)) es log → numbers log ≡ numbers es
   log-numbers [] [] h = refl
   log-numbers [] (r ∷ rs) h = absurd h
   log-numbers (e ∷ es) [] h = absurd h
@@ -72,17 +72,17 @@ module _ (front : NumberedSteps) (joins : ℕ) where
       let one : (r.0, r.1) ≡ (e.0, e.1) = λ i. (h.0.0 i, h.0.1 i) in
       ap (λ (x : ℕ × ℕ). x ∷ numbers rs) one ∙ ap (λ xs. (e.0, e.1) ∷ xs) (log-numbers es rs h.1)
 
-  file-streams : (k s : ℕ) (xs : List Scanned) → streams_of (answers_to (numbered_file k s xs)) ≡ map (λ u. (k, u)) (map (λ x. worked_stream (work_on front joins k x)) xs)
+  file-streams : (k s : ℕ) (xs : List Scanned) → streams_of (answers_to (numbered_file k s xs)) ≡ map (λ u. (k, u)) (map (λ x. worked_stream (work_on front sides k x)) xs)
   file-streams k s [] = refl
-  file-streams k s (x ∷ xs) = ap (λ (ts : List Taken). (k, worked_stream (work_on front joins k x)) ∷ ts) (file-streams k (suc s) xs)
+  file-streams k s (x ∷ xs) = ap (λ (ts : List Taken). (k, worked_stream (work_on front sides k x)) ∷ ts) (file-streams k (suc s) xs)
 
   pub streams-append : (es fs : List (ℕ × ℕ × Scanned)) → streams_of (answers_to (es ++ fs)) ≡ streams_of (answers_to es) ++ streams_of (answers_to fs)
   streams-append [] fs = refl
-  streams-append (e ∷ es) fs = ap (λ (ts : List Taken). (e.0, worked_stream (work_on front joins e.0 e.2)) ∷ ts) (streams-append es fs)
+  streams-append (e ∷ es) fs = ap (λ (ts : List Taken). (e.0, worked_stream (work_on front sides e.0 e.2)) ∷ ts) (streams-append es fs)
 
   -- the work on each run of these columns fits
   abbrev pub RunsFit : List Head → ℕ → Layout → Type 0
-  RunsFit hs k layout = (run : FieldRun) → run.layout ≡ layout → Fits (work_on front joins k (Run run)) (fields_at k hs)
+  RunsFit hs k layout = (run : FieldRun) → run.layout ≡ layout → Fits (work_on front sides k (Run run)) (fields_at k hs)
 
   -- the items of a file fit, if its runs do
   fits-file : (hs : List Head) (layout : Layout) (k s n : ℕ) (rss : List (List Record)) (end : Option ScanFault) → RunsFit hs k layout
@@ -111,29 +111,29 @@ module _ (front : NumberedSteps) (joins : ℕ) where
   -- the streams of the worked items of files, numbered from this one on
   abbrev pub worked_streams : ℕ → List (List Scanned) → List (List (Stream Fault))
   worked_streams k [] = []
-  worked_streams k (xs ∷ xss) = map (λ x. worked_stream (work_on front joins k x)) xs ∷ worked_streams (k + 1) xss
+  worked_streams k (xs ∷ xss) = map (λ x. worked_stream (work_on front sides k x)) xs ∷ worked_streams (k + 1) xss
 
   pub answer-streams : (k : ℕ) (xss : List (List Scanned)) → streams_of (answers_to (numbered k xss)) ≡ tagged k (worked_streams k xss)
   answer-streams k [] = refl
   answer-streams k (xs ∷ xss) =
       streams-append (numbered_file k 0 xs) (numbered (suc k) xss)
       ∙ ap (λ ts. ts ++ streams_of (answers_to (numbered (suc k) xss))) (file-streams k 0 xs)
-      ∙ ap (λ ts. map (λ u. (k, u)) (map (λ x. worked_stream (work_on front joins k x)) xs) ++ ts)
+      ∙ ap (λ ts. map (λ u. (k, u)) (map (λ x. worked_stream (work_on front sides k x)) xs) ++ ts)
       (answer-streams (suc k) xss ∙ ap (λ n. tagged n (worked_streams n xss)) (let q : suc k ≡ k + 1 = omega arith in q))
 
 module _ (p : Physical) where
   -- the files of the last source have its columns; numbered from this one on
   abbrev pub MainFields : ℕ → List Layout → Type 0
   MainFields k [] = Unit {0}
-  MainFields k (layout ∷ fss) = (nat_lt k (join_files p) ≡ false → layout.schema ≡ main_fields p) × MainFields (suc k) fss
+  MainFields k (layout ∷ fss) = (nat_lt k (side_files p) ≡ false → layout.schema ≡ main_fields p) × MainFields (suc k) fss
 
   -- the worked items of each file join to its rows
   pub worked-joined : (b k : ℕ) (fss : List Layout) (ws : List RecordStream) → 0 < b → MainFields k fss →
-      map concat_streams (worked_streams (leading_steps p) (join_files p) k (items_of_files b k fss ws)) ≡ worked_files p k (map (rename_fault scan_fault) (rows_of_files k fss ws))
+      map concat_streams (worked_streams (leading_steps p) (side_files p) k (items_of_files b k fss ws)) ≡ worked_files p k (map (rename_fault scan_fault) (rows_of_files k fss ws))
   worked-joined b k [] ws some h = refl
   worked-joined b k (layout ∷ fss) [] some h = refl
   worked-joined b k (layout ∷ fss) (w ∷ ws) some h =
-      ap (λ u. u ∷ map concat_streams (worked_streams (leading_steps p) (join_files p) (k + 1) (items_of_files b (k + 1) fss ws))) (file-worked p b k layout w some h.0)
+      ap (λ u. u ∷ map concat_streams (worked_streams (leading_steps p) (side_files p) (k + 1) (items_of_files b (k + 1) fss ws))) (file-worked p b k layout w some h.0)
       ∙ ap (λ us. worked p k (rename_fault scan_fault (rows_of_records k layout row_limit 0 w)) ∷ us)
       (worked-joined b (k + 1) fss ws some (subst (λ n. MainFields n fss) (let q : suc k ≡ k + 1 = omega arith in q) h.1))
 

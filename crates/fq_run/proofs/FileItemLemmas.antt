@@ -29,7 +29,7 @@ use Rattle.fq_column.specs.declared.pieces.Piece.{Piece}
 use Rattle.fq_expr.proofs.StepLemmas.{apply_steps-then, rename_fault-then}
 use Rattle.fq_run.specs.EngineRun.{leading_steps}
 use Rattle.fq_run.specs.Feeding.{end_item, runs_from, scanned_items}
-use Rattle.fq_run.specs.Physical.{Physical, after_leading, join_files, main_fields}
+use Rattle.fq_run.specs.Physical.{Physical, after_leading, side_files, main_fields}
 use Rattle.fq_run.specs.Sources.{concat_streams, row_fault, row_limit, scan_fault}
 use Rattle.fq_run.specs.Tail.{worked}
 use Rattle.fq_run.specs.Working.{piece_of, piece_stream, piece_until, rows_of_run, stepped, untouched, work_on, worked_stream}
@@ -72,9 +72,9 @@ rows-and-end rows end = ap (λ rs. let u : Stream Fault = record { rows = rs; fa
 
 module _ (p : Physical) (file : ℕ) where
   -- the work on a run gives its rows, after the leading steps if its file is of the main source
-  run-worked : (run : FieldRun) → (nat_lt file (join_files p) ≡ false → run.layout.schema ≡ main_fields p) →
-      worked_stream (work_on (leading_steps p) (join_files p) file (Run run)) ≡ worked p file (item_rows (Run run))
-  run-worked run h = until-stream u.fault (piece_of (leading_steps p) (join_files p) file (framed run.layout.schema u.rows)) ∙ go (nat_lt file (join_files p)) h
+  run-worked : (run : FieldRun) → (nat_lt file (side_files p) ≡ false → run.layout.schema ≡ main_fields p) →
+      worked_stream (work_on (leading_steps p) (side_files p) file (Run run)) ≡ worked p file (item_rows (Run run))
+  run-worked run h = until-stream u.fault (piece_of (leading_steps p) (side_files p) file (framed run.layout.schema u.rows)) ∙ go (nat_lt file (side_files p)) h
     where
       u : Stream ScanFault
       u = rows_of_run run
@@ -99,16 +99,16 @@ module _ (p : Physical) (file : ℕ) where
           ∙ ap steps (rows-and-end u.rows end)
 
   ended-worked : (fault : ScanFault) → faulted (scan_fault fault) ≡ worked p file (faulted (scan_fault fault))
-  ended-worked fault = go (nat_lt file (join_files p))
+  ended-worked fault = go (nat_lt file (side_files p))
     where
       go : (join : Bool) → faulted (scan_fault fault) ≡ cond join (faulted (scan_fault fault)) (after_leading p (faulted (scan_fault fault)))
       go true = refl
       go false = sym (faulted-steps 0 (main_fields p) p.front (scan_fault fault))
 
   abbrev pub work_stream : Scanned → Stream Fault
-  work_stream x = worked_stream (work_on (leading_steps p) (join_files p) file x)
+  work_stream x = worked_stream (work_on (leading_steps p) (side_files p) file x)
 
-  items-worked : (layout : Layout) (n : ℕ) (rss : List (List Record)) (end : Option ScanFault) → (nat_lt file (join_files p) ≡ false → layout.schema ≡ main_fields p) →
+  items-worked : (layout : Layout) (n : ℕ) (rss : List (List Record)) (end : Option ScanFault) → (nat_lt file (side_files p) ≡ false → layout.schema ≡ main_fields p) →
       map work_stream (runs_from file layout n rss ++ end_item end) ≡ map (worked p file) (map item_rows (runs_from file layout n rss ++ end_item end))
   items-worked layout n [] None h = refl
   items-worked layout n [] (Some fault) h = ap (λ u. u ∷ []) (ended-worked fault)
@@ -144,7 +144,7 @@ module _ (file : ℕ) (layout : Layout) where
       ∙ ap (λ rs. rename_fault scan_fault (then_stream (rows_after file layout row_limit 0 rs) (ended w.fault))) (flat_map-pieces b w.records h)
 
 -- what the workers make of a file's items joins to its rows, after the leading steps if it is of the main source
-pub file-worked : (p : Physical) (b file : ℕ) (layout : Layout) (w : RecordStream) → 0 < b → (nat_lt file (join_files p) ≡ false → layout.schema ≡ main_fields p) →
+pub file-worked : (p : Physical) (b file : ℕ) (layout : Layout) (w : RecordStream) → 0 < b → (nat_lt file (side_files p) ≡ false → layout.schema ≡ main_fields p) →
     concat_streams (map (work_stream p file) (scanned_items file layout b 0 w)) ≡ worked p file (rename_fault scan_fault (rows_of_records file layout row_limit 0 w))
 file-worked p b file layout w some h =
     ap concat_streams (items-worked p file layout 0 (pieces b w.records) w.fault h)

@@ -10,7 +10,7 @@ use Rattle.fq_run.specs.EngineRun.{Gives, opened, records_of_files}
 use Rattle.fq_run.specs.Feeding.{Feeding, MayCome}
 use Rattle.fq_run.specs.GatheredRun.{HasGathered}
 use Rattle.fq_run.specs.Kept.{AreSound, Takes}
-use Rattle.fq_run.specs.Physical.{file_layouts, file_streams, files_wanted, join_files}
+use Rattle.fq_run.specs.Physical.{file_layouts, file_streams, files_wanted, side_files}
 use Rattle.fq_run.specs.Run.{Tell}
 use Rattle.fq_run.specs.Stages.{IsRunnable}
 use Rattle.fq_run.specs.Standing.{Waits}
@@ -27,7 +27,7 @@ use Rattle.fq_run.proofs.LogLemmas.{InOrder, StandsFor, Takes-one, in-order, too
 use Rattle.fq_run.proofs.RunOutcomeLemmas.{ran-gives}
 use Rattle.fq_run.proofs.StageOutcomeLemmas.{before_main, fit-over, main_one, sound-nothing}
 use Rattle.fq_run.proofs.KeptSourceLemmas.{sound-kept}
-use Rattle.fq_run.proofs.RunStartLemmas.{join-file-count, length-opened, nothing-is, plan, ran-over, wanted-is}
+use Rattle.fq_run.proofs.RunStartLemmas.{side-file-count, length-opened, nothing-is, plan, ran-over, wanted-is}
 
 each-length : {A B : Type 0} (R : A → B → Type 0) (xs : List A) (ys : List B) → Each R xs ys → length ys ≡ length xs
 each-length R [] [] h = refl
@@ -35,23 +35,23 @@ each-length R [] (y ∷ ys) h = absurd h
 each-length R (x ∷ xs) [] h = absurd h
 each-length R (x ∷ xs) (y ∷ ys) h = ap suc (each-length R xs ys h.1)
 
-module _ (sources : List SourceFiles) (front : NumberedSteps) (stages : List Stage) (inputs : ℕ) (c : IsRunnable sources front stages inputs) (joins : List SourceFiles) (main : SourceFiles) (parts : sources ≡ joins ++ main ∷ []) where
+module _ (sources : List SourceFiles) (front : NumberedSteps) (stages : List Stage) (inputs : ℕ) (c : IsRunnable sources front stages inputs) (sides : List SourceFiles) (main : SourceFiles) (parts : sources ≡ sides ++ main ∷ []) where
   abbrev at_first : List Gathered
-  at_first = before_main sources front stages inputs c joins main parts ++ main_one sources front stages inputs c joins main parts ∷ []
+  at_first = before_main sources front stages inputs c sides main parts ++ main_one sources front stages inputs c sides main parts ∷ []
 
   pub has-gathered : {R S : Type 0} (files_of : S → ℕ) (state_of : S → TailState) (remaining : R → Option (List ℕ)) (readers : List R) (b : ℕ) (feeds : List Feeding) (first last : S) (trace : List (ℕ × ℕ)) →
       0 < b → length readers ≡ files_wanted (plan sources front stages inputs c) →
       feeds ≡ opened remaining b 0 (flat_map (λ (s : SourceFiles). replicate s.files s.layout) sources) readers →
-      files_of first ≡ join_files (plan sources front stages inputs c) →
-      Waits stages (before_main sources front stages inputs c joins main parts) (main_one sources front stages inputs c joins main parts) (state_of first) →
+      files_of first ≡ side_files (plan sources front stages inputs c) →
+      Waits stages (before_main sources front stages inputs c sides main parts) (main_one sources front stages inputs c sides main parts) (state_of first) →
       Finishes MayCome (λ file item out. out ≡ work_on front (inputs - main.files) file item) (Takes-one files_of state_of) feeds first trace last →
       HasGathered remaining readers (plan sources front stages inputs c) b (state_of last) trace
   has-gathered files_of state_of remaining readers b feeds first last trace some count feeds-are files waits finished =
       let items : List (List Scanned) = finished.0 in
       let log : List (ℕ × ℕ × Worked) = finished.2.0 in
       let works : ℕ → Scanned → Worked → Type 0 = λ file item out. out ≡ work_on front (inputs - main.files) file item in
-      let high : ℕ = join_files (plan sources front stages inputs c) + main.files in
-      let file-count = files ∙ join-file-count sources front stages inputs c joins main parts in
+      let high : ℕ = side_files (plan sources front stages inputs c) + main.files in
+      let file-count = files ∙ side-file-count sources front stages inputs c sides main parts in
       let order : InOrder (files_of first) high log =
       worked-order (files_of first) high works (numbered 0 items) log finished.2.1
       (in-order (files_of first) high 0 items (omega (
@@ -59,27 +59,27 @@ module _ (sources : List SourceFiles) (front : NumberedSteps) (stages : List Sta
         each-length MayCome feeds items finished.1,
         ap length feeds-are,
         count,
-        wanted-is sources front stages inputs c joins main parts,
+        wanted-is sources front stages inputs c sides main parts,
         length-opened remaining b 0 (flat_map (λ (s : SourceFiles). replicate s.files s.layout) sources) readers,
       ))) in
       let taken : List Gathered = all_taken (answers_in log) at_first in
       let stood : StandsFor stages c.fits.0 (state_of last) taken =
-      whole-log files_of state_of stages c.fits.0 high log first last (before_main sources front stages inputs c joins main parts) (main_one sources front stages inputs c joins main parts)
-      finished.2.2 order file-count (ap (λ n. n + main.files) (join-file-count sources front stages inputs c joins main parts)) (fit-over sources front stages inputs c joins main parts) waits in
+      whole-log files_of state_of stages c.fits.0 high log first last (before_main sources front stages inputs c sides main parts) (main_one sources front stages inputs c sides main parts)
+      finished.2.2 order file-count (ap (λ n. n + main.files) (side-file-count sources front stages inputs c sides main parts)) (fit-over sources front stages inputs c sides main parts) waits in
       let took : Finishes MayCome works Takes feeds at_first trace taken = (items, finished.1, (log, finished.2.1, took-sources log at_first, finished.2.3)) in
       let gives : (files : List (List ℕ)) → Tell remaining readers files → Gives (plan sources front stages inputs c) b (file_streams (plan sources front stages inputs c) files) taken trace =
       λ files tell. subst (λ (us : List (Stream ScanFault)). Gives (plan sources front stages inputs c) b us taken trace) (rows-of-bytes 0 (file_layouts (plan sources front stages inputs c)) files)
       (ran-gives (plan sources front stages inputs c) b (records_of_files 0 (file_layouts (plan sources front stages inputs c)) files) front (inputs - main.files) feeds at_first taken trace
-      (ran-over sources front stages inputs c joins main parts remaining b readers files feeds at_first taken trace some count tell feeds-are refl took)) in
+      (ran-over sources front stages inputs c sides main parts remaining b readers files feeds at_first taken trace some count tell feeds-are refl took)) in
       record {
         stages = stages;
         after = c.fits.0;
-        joins = stood.joins;
+        sides = stood.sides;
         main = stood.main;
         fits = stood.fits;
         stands = stood.stands;
         sound = subst AreSound stood.sources (sound-kept at_first log taken (took-sources log at_first)
-            (subst AreSound (sym (nothing-is sources front stages inputs c joins main parts)) (sound-nothing (plan sources front stages inputs c))));
-        outcome = λ files tell. (gives files tell).outcome stood.joins stood.main stood.sources;
+            (subst AreSound (sym (nothing-is sources front stages inputs c sides main parts)) (sound-nothing (plan sources front stages inputs c))));
+        outcome = λ files tell. (gives files tell).outcome stood.sides stood.main stood.sources;
         trace = λ files tell ok. (gives files tell).trace ok;
       }

@@ -135,30 +135,30 @@ sound-rows n fields [] u h = h
 sound-rows n fields (s ∷ steps) u h =
     sound-rows (n + 1) (fields_after fields s) steps (apply_step fault.Overflow n fields s u) (sound-step_on (one_by_one (rows_after fields s)) (fault.Overflow n) (λ g. tt) u h)
 
-module _ (joins : List Frame) where
+module _ (sides : List Frame) where
   abbrev sound : (u v : Stream Fault) → v ≡ u → IsSound u.fault → IsSound v.fault
   sound u v e s = subst (λ (w : Stream Fault). IsSound w.fault) (sym e) s
 
-  sound-stage : (n : ℕ) (fields : Fields) (o : Operator) (u : Stream Fault) → IsSound u.fault → IsSound (whole (transform_of joins n fields o) u).fault
+  sound-stage : (n : ℕ) (fields : Fields) (o : Operator) (u : Stream Fault) → IsSound u.fault → IsSound (whole (transform_of sides n fields o) u).fault
   sound-stage n fields (Rows front) u h =
-      sound (apply_steps fault.Overflow front.first front.fields front.steps u) (whole (transform_of joins n fields (Rows front)) u) (steps-whole front u) (sound-rows front.first front.fields front.steps u h)
+      sound (apply_steps fault.Overflow front.first front.fields front.steps u) (whole (transform_of sides n fields (Rows front)) u) (steps-whole front u) (sound-rows front.first front.fields front.steps u h)
   sound-stage n fields (Join j) u h =
-      let right : Frame = slice_index_or joins j.source nothing in
+      let right : Frame = slice_index_or sides j.source nothing in
       let names : List Name = map string_bytes j.on.items in
       let t : Table = record { fields = right.fields; rows = right.rows; on = names; nulls_equal = j.nulls_equal } in
-      sound (join_stream j.how j.nulls_equal fields right.fields names right.rows join_room (fault.JoinRows n) u) (whole (transform_of joins n fields (Join j)) u) (join-whole n j.how t fields u)
+      sound (join_stream j.how j.nulls_equal fields right.fields names right.rows join_room (fault.JoinRows n) u) (whole (transform_of sides n fields (Join j)) u) (join-whole n j.how t fields u)
       (sound-step_on (join_rows j.how j.nulls_equal fields right.fields names right.rows join_room) (λ place. fault.JoinRows n) (λ g. tt) u h)
   sound-stage n fields (GroupBy g) u h =
       let names : List Name = map string_bytes g.keys.items in
-      sound (group_stream fields names (outputs_of g.aggs.items) (fault.SumRange n) u) (whole (transform_of joins n fields (GroupBy g)) u) (group-whole n fields names (outputs_of g.aggs.items) u)
+      sound (group_stream fields names (outputs_of g.aggs.items) (fault.SumRange n) u) (whole (transform_of sides n fields (GroupBy g)) u) (group-whole n fields names (outputs_of g.aggs.items) u)
       (sound-whole_on (grouped fields names (outputs_of g.aggs.items)) (fault.SumRange n) (λ i. tt) u h)
   sound-stage n fields (RollingSum r) u h =
-      sound (roll_stream fields (string_bytes r.column) r.window r.min_samples (string_bytes r.name) (fault.RollRange n) u) (whole (transform_of joins n fields (RollingSum r)) u)
+      sound (roll_stream fields (string_bytes r.column) r.window r.min_samples (string_bytes r.name) (fault.RollRange n) u) (whole (transform_of sides n fields (RollingSum r)) u)
       (roll-whole n fields (string_bytes r.column) r.window r.min_samples (string_bytes r.name) u)
       (sound-step_on (roll_rows fields (string_bytes r.column) r.window r.min_samples (string_bytes r.name)) (λ _. fault.RollRange n) (λ g. tt) u h)
 
-  pub sound-stages : (fields : Fields) (stages : List Stage) (u : Stream Fault) → IsSound u.fault → IsSound (whole_all (transforms_of joins fields stages) u).fault
+  pub sound-stages : (fields : Fields) (stages : List Stage) (u : Stream Fault) → IsSound u.fault → IsSound (whole_all (transforms_of sides fields stages) u).fault
   sound-stages fields [] u h = h
   sound-stages fields (s ∷ stages) u h =
-      let m : Transform = transform_of joins s.number fields s.operator in
+      let m : Transform = transform_of sides s.number fields s.operator in
       sound-stages m.gives stages (whole m u) (sound-stage s.number fields s.operator u h)

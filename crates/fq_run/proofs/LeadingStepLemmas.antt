@@ -6,7 +6,7 @@ use Rattle.fq_expr.specs.Steps.{rows_after, apply_step, apply_steps, fields_afte
 use Rattle.fq_expr.specs.Expression.{Step}
 use Rattle.fq_column.proofs.StreamLemmas.{then_stream-assoc}
 use Rattle.fq_expr.proofs.StepLemmas.{rename_fault-then, apply_steps-then}
-use Rattle.fq_run.specs.Physical.{Physical, after_leading, join_files, main_fields}
+use Rattle.fq_run.specs.Physical.{Physical, after_leading, side_files, main_fields}
 use Rattle.fq_run.specs.Sources.{concat_streams}
 use Rattle.fq_run.specs.Tail.{worked}
 use Rattle.fq_run.specs.declared.faults.Fault.{Fault}
@@ -52,7 +52,7 @@ module _ {F G : Type 0} (overflow : ℕ → ℕ → F) (name : F → G) where
 
 -- items of a file that are worked one by one join to the file's rows worked at once
 pub worked-joined : (p : Physical) (file : ℕ) (us : List (Stream Fault)) → concat_streams (map (worked p file) us) ≡ worked p file (concat_streams us)
-worked-joined p file us = go (nat_lt file (join_files p))
+worked-joined p file us = go (nat_lt file (side_files p))
   where
     same : (us : List (Stream Fault)) → map (λ u. u) us ≡ us
     same [] = refl

@@ -81,7 +81,7 @@ module _ {X O : Type 0} (low high : ℕ) (works : ℕ → X → O → Type 0) wh
 abbrev pub file_count : List Gathered → ℕ
 file_count gs = sum_by (λ (g : Gathered). g.files) gs
 
-taken-before : (file : ℕ) (out : Worked) (joins : List Gathered) (main : Gathered) → file < file_count joins → taken_in file out (joins ++ main ∷ []) ≡ taken_in file out joins ++ main ∷ []
+taken-before : (file : ℕ) (out : Worked) (sides : List Gathered) (main : Gathered) → file < file_count sides → taken_in file out (sides ++ main ∷ []) ≡ taken_in file out sides ++ main ∷ []
 taken-before file out [] main h = absurd (omega (arith, h))
 taken-before file out (g ∷ gs) main h = go (taken-before (file - g.files) out gs main) (nat_lt file g.files) refl
   where
@@ -89,8 +89,8 @@ taken-before file out (g ∷ gs) main h = go (taken-before (file - g.files) out 
     go more true e = refl
     go more false e = ap (λ xs. g ∷ xs) (more (grind (arith, nat_tests, e, h, sum_by-cons (λ (g : Gathered). g.files) g gs)))
 
-taken-last : (file : ℕ) (out : Worked) (joins : List Gathered) (main : Gathered) → file_count joins ≤ file → file < file_count joins + main.files →
-    taken_in file out (joins ++ main ∷ []) ≡ joins ++ gathered main out ∷ []
+taken-last : (file : ℕ) (out : Worked) (sides : List Gathered) (main : Gathered) → file_count sides ≤ file → file < file_count sides + main.files →
+    taken_in file out (sides ++ main ∷ []) ≡ sides ++ gathered main out ∷ []
 taken-last file out [] main l h =
     let e : nat_lt file main.files ≡ true = grind (arith, nat_tests, h) in
     ap (λ b. cond b (gathered main out ∷ []) (main ∷ [])) e
@@ -115,48 +115,48 @@ took-sources (e ∷ es) gs = (taken_in e.0 e.2 gs, refl, took-sources es (taken_
 
 -- a tail stands for these sources
 pub record StandsFor (stages : List Stage) (after : Fields) (t : TailState) (gs : List Gathered) : Type 0 where
-  pub joins : List Gathered
+  pub sides : List Gathered
   pub main : Gathered
-  pub sources : gs ≡ joins ++ main ∷ []
-  pub fits : FitOver stages after joins main
-  pub stands : Stands stages after joins main t
+  pub sources : gs ≡ sides ++ main ∷ []
+  pub fits : FitOver stages after sides main
+  pub stands : Stands stages after sides main t
 
-pub waits-stands : (stages : List Stage) (after : Fields) (joins : List Gathered) (main : Gathered) (t : TailState) → Waits stages joins main t → Stands stages after joins main t
-waits-stands stages after joins main (state.Waiting w) h = h
-waits-stands stages after joins main (state.Streaming s) h = absurd h
-waits-stands stages after joins main (state.Ended f) h = absurd h
+pub waits-stands : (stages : List Stage) (after : Fields) (sides : List Gathered) (main : Gathered) (t : TailState) → Waits stages sides main t → Stands stages after sides main t
+waits-stands stages after sides main (state.Waiting w) h = h
+waits-stands stages after sides main (state.Streaming s) h = absurd h
+waits-stands stages after sides main (state.Ended f) h = absurd h
 
 -- below, a tail has a number of files before the main source's, and a state
 abbrev pub Takes-one : {S : Type 0} → (S → ℕ) → (S → TailState) → S → ℕ → ℕ → Worked → S → Type 0
 Takes-one files_of state_of old file serial out new = TailTakes (files_of old) (state_of old) file out (files_of new) (state_of new)
 
 module _ {S : Type 0} (files_of : S → ℕ) (state_of : S → TailState) (stages : List Stage) (after : Fields) where
-  main-log : (high : ℕ) (log : List (ℕ × ℕ × Worked)) (t u : S) (joins : List Gathered) (main : Gathered) → Took (Takes-one files_of state_of) t log u → AllFrom (files_of t) high log →
-      files_of t ≡ file_count joins → high ≡ file_count joins + main.files → FitOver stages after joins main → Stands stages after joins main (state_of t) →
-      StandsFor stages after (state_of u) (all_taken (answers_in log) (joins ++ main ∷ []))
-  main-log high [] t u joins main took all low top leads stands = record {
-    joins = joins;
+  main-log : (high : ℕ) (log : List (ℕ × ℕ × Worked)) (t u : S) (sides : List Gathered) (main : Gathered) → Took (Takes-one files_of state_of) t log u → AllFrom (files_of t) high log →
+      files_of t ≡ file_count sides → high ≡ file_count sides + main.files → FitOver stages after sides main → Stands stages after sides main (state_of t) →
+      StandsFor stages after (state_of u) (all_taken (answers_in log) (sides ++ main ∷ []))
+  main-log high [] t u sides main took all low top leads stands = record {
+    sides = sides;
     main = main;
     sources = refl;
     fits = leads;
-    stands = subst (λ (t : S). Stands stages after joins main (state_of t)) (sym took) stands;
+    stands = subst (λ (t : S). Stands stages after sides main (state_of t)) (sym took) stands;
   }
-  main-log high (e ∷ es) t u joins main took all low top leads stands =
+  main-log high (e ∷ es) t u sides main took all low top leads stands =
       let next : S = took.0 in
       let one : Takes-one files_of state_of t e.0 e.1 e.2 next = took.1 in
-      subst (λ (gs : List Gathered). StandsFor stages after (state_of u) (all_taken (answers_in es) gs)) (sym (taken-last e.0 e.2 joins main (subst (λ k. k ≤ e.0) low all.0) (subst (λ k. e.0 < k) top all.1)))
-      (main-log high es next u joins (gathered main e.2) took.2 (subst (λ k. AllFrom k high es) (sym one.same) all.2) (one.same ∙ low) top leads
-      (one.on_main all.0 stages after joins main leads stands))
+      subst (λ (gs : List Gathered). StandsFor stages after (state_of u) (all_taken (answers_in es) gs)) (sym (taken-last e.0 e.2 sides main (subst (λ k. k ≤ e.0) low all.0) (subst (λ k. e.0 < k) top all.1)))
+      (main-log high es next u sides (gathered main e.2) took.2 (subst (λ k. AllFrom k high es) (sym one.same) all.2) (one.same ∙ low) top leads
+      (one.on_main all.0 stages after sides main leads stands))
 
-  pub whole-log : (high : ℕ) (log : List (ℕ × ℕ × Worked)) (t u : S) (joins : List Gathered) (main : Gathered) → Took (Takes-one files_of state_of) t log u → InOrder (files_of t) high log →
-      files_of t ≡ file_count joins → high ≡ file_count joins + main.files → FitOver stages after joins main → Waits stages joins main (state_of t) →
-      StandsFor stages after (state_of u) (all_taken (answers_in log) (joins ++ main ∷ []))
-  whole-log high [] t u joins main took order low top leads waits = main-log high [] t u joins main took tt low top leads (waits-stands stages after joins main (state_of t) waits)
-  whole-log high (e ∷ es) t u joins main took (inr all) low top leads waits = main-log high (e ∷ es) t u joins main took all low top leads (waits-stands stages after joins main (state_of t) waits)
-  whole-log high (e ∷ es) t u joins main took (inl both) low top leads waits =
+  pub whole-log : (high : ℕ) (log : List (ℕ × ℕ × Worked)) (t u : S) (sides : List Gathered) (main : Gathered) → Took (Takes-one files_of state_of) t log u → InOrder (files_of t) high log →
+      files_of t ≡ file_count sides → high ≡ file_count sides + main.files → FitOver stages after sides main → Waits stages sides main (state_of t) →
+      StandsFor stages after (state_of u) (all_taken (answers_in log) (sides ++ main ∷ []))
+  whole-log high [] t u sides main took order low top leads waits = main-log high [] t u sides main took tt low top leads (waits-stands stages after sides main (state_of t) waits)
+  whole-log high (e ∷ es) t u sides main took (inr all) low top leads waits = main-log high (e ∷ es) t u sides main took all low top leads (waits-stands stages after sides main (state_of t) waits)
+  whole-log high (e ∷ es) t u sides main took (inl both) low top leads waits =
       let next : S = took.0 in
       let one : Takes-one files_of state_of t e.0 e.1 e.2 next = took.1 in
-      let count : file_count (taken_in e.0 e.2 joins) ≡ file_count joins = count-taken e.0 e.2 joins in
-      subst (λ (gs : List Gathered). StandsFor stages after (state_of u) (all_taken (answers_in es) gs)) (sym (taken-before e.0 e.2 joins main (subst (λ k. e.0 < k) low both.0)))
-      (whole-log high es next u (taken_in e.0 e.2 joins) main took.2 (subst (λ k. InOrder k high es) (sym one.same) both.1) (one.same ∙ low ∙ sym count) (top ∙ ap (λ k. k + main.files) (sym count))
-      (subst (λ (fs : List Fields). Fit fs main.batch.fields stages after) (sym (columns-taken e.0 e.2 joins)) leads) (one.before_main both.0 stages joins main waits))
+      let count : file_count (taken_in e.0 e.2 sides) ≡ file_count sides = count-taken e.0 e.2 sides in
+      subst (λ (gs : List Gathered). StandsFor stages after (state_of u) (all_taken (answers_in es) gs)) (sym (taken-before e.0 e.2 sides main (subst (λ k. e.0 < k) low both.0)))
+      (whole-log high es next u (taken_in e.0 e.2 sides) main took.2 (subst (λ k. InOrder k high es) (sym one.same) both.1) (one.same ∙ low ∙ sym count) (top ∙ ap (λ k. k + main.files) (sym count))
+      (subst (λ (fs : List Fields). Fit fs main.batch.fields stages after) (sym (columns-taken e.0 e.2 sides)) leads) (one.before_main both.0 stages sides main waits))

@@ -9,7 +9,7 @@ use Rattle.fq_lanes.specs.Engine.{Finishes}
 use Rattle.fq_csv.specs.declared.layouts.Layout.{Layout}
 use Rattle.fq_run.specs.Feeding.{Feeding, MayCome}
 use Rattle.fq_run.specs.Kept.{Takes}
-use Rattle.fq_run.specs.Physical.{Physical, file_layouts, files_wanted, join_fields, join_files}
+use Rattle.fq_run.specs.Physical.{Physical, file_layouts, files_wanted, side_fields, side_files}
 use Rattle.fq_run.specs.Sources.{Source, but_last, last_or, layout_of}
 use Rattle.fq_run.specs.EngineRun.{RanOver, leading_steps, main_files, no_rows, nothing_taken, opened, records_of_files}
 use Rattle.fq_run.specs.Run.{Tell}
@@ -80,45 +80,45 @@ module _ (sources : List SourceFiles) (front : NumberedSteps) (stages : List Sta
   pub count-layouts : length (flat_map (λ (s : SourceFiles). replicate s.files s.layout) sources) ≡ files_wanted plan
   count-layouts = ap length layouts-are ∙ length-layouts plan.sources
 
-  module _ (joins : List SourceFiles) (main : SourceFiles) (parts : sources ≡ joins ++ main ∷ []) where
-    split : plan.sources ≡ map source_of_files joins ++ source_of_files main ∷ []
-    split = ap (map source_of_files) parts ∙ map-append source_of_files joins (main ∷ [])
+  module _ (sides : List SourceFiles) (main : SourceFiles) (parts : sources ≡ sides ++ main ∷ []) where
+    split : plan.sources ≡ map source_of_files sides ++ source_of_files main ∷ []
+    split = ap (map source_of_files) parts ∙ map-append source_of_files sides (main ∷ [])
 
-    joins-are : but_last plan.sources ≡ map source_of_files joins
-    joins-are = ap but_last split ∙ but_last-snoc (map source_of_files joins) (source_of_files main)
+    sides-are : but_last plan.sources ≡ map source_of_files sides
+    sides-are = ap but_last split ∙ but_last-snoc (map source_of_files sides) (source_of_files main)
 
     main-files : main_files plan ≡ main.files
     main-files =
         ap (λ ss. last_or 0 (map (λ (s : Source). s.files) ss)) split
-        ∙ ap (last_or 0) (map-append (λ (s : Source). s.files) (map source_of_files joins) (source_of_files main ∷ []))
-        ∙ last_or-snoc 0 (map (λ (s : Source). s.files) (map source_of_files joins)) main.files
+        ∙ ap (last_or 0) (map-append (λ (s : Source). s.files) (map source_of_files sides) (source_of_files main ∷ []))
+        ∙ last_or-snoc 0 (map (λ (s : Source). s.files) (map source_of_files sides)) main.files
 
-    pub wanted-is : files_wanted plan ≡ join_files plan + main.files
+    pub wanted-is : files_wanted plan ≡ side_files plan + main.files
     wanted-is =
         ap (sum_by (λ (s : Source). s.files)) split
-        ∙ sum_by_push (λ (s : Source). s.files) (map source_of_files joins) (source_of_files main)
-        ∙ ap (λ ss. sum_by (λ (s : Source). s.files) ss + main.files) (sym joins-are)
+        ∙ sum_by_push (λ (s : Source). s.files) (map source_of_files sides) (source_of_files main)
+        ∙ ap (λ ss. sum_by (λ (s : Source). s.files) ss + main.files) (sym sides-are)
 
-    pub join-count : inputs - main.files ≡ join_files plan
-    join-count = omega (arith, c.inputs_wanted, wanted-is)
+    pub side-count : inputs - main.files ≡ side_files plan
+    side-count = omega (arith, c.inputs_wanted, wanted-is)
 
-    pub nothing-is : map (λ (s : SourceFiles). no_rows s.files s.layout.schema) joins ++ no_rows main.files (fields_after_all front.fields front.steps) ∷ [] ≡ nothing_taken plan
+    pub nothing-is : map (λ (s : SourceFiles). no_rows s.files s.layout.schema) sides ++ no_rows main.files (fields_after_all front.fields front.steps) ∷ [] ≡ nothing_taken plan
     nothing-is =
-        let rows : map (λ (s : SourceFiles). no_rows s.files s.layout.schema) joins ≡ map (λ (s : Source). no_rows s.files s.fields) (but_last plan.sources) =
-        rows-of joins ∙ ap (map (λ (s : Source). no_rows s.files s.fields)) (sym joins-are) in
+        let rows : map (λ (s : SourceFiles). no_rows s.files s.layout.schema) sides ≡ map (λ (s : Source). no_rows s.files s.fields) (but_last plan.sources) =
+        rows-of sides ∙ ap (map (λ (s : Source). no_rows s.files s.fields)) (sym sides-are) in
         λ i. rows i ++ no_rows (sym main-files i) (fields_after_all (c.on_main i) front.steps) ∷ []
 
-    pub join-columns : map (λ (g : Gathered). g.batch.fields) (map (λ (s : SourceFiles). no_rows s.files s.layout.schema) joins) ≡ join_fields plan
-    join-columns = columns-of-rows joins ∙ ap (map (λ (s : Source). s.fields)) (sym joins-are)
+    pub side-columns : map (λ (g : Gathered). g.batch.fields) (map (λ (s : SourceFiles). no_rows s.files s.layout.schema) sides) ≡ side_fields plan
+    side-columns = columns-of-rows sides ∙ ap (map (λ (s : Source). s.fields)) (sym sides-are)
 
-    pub join-file-count : join_files plan ≡ sum_by (λ (g : Gathered). g.files) (map (λ (s : SourceFiles). no_rows s.files s.layout.schema) joins)
-    join-file-count = ap (sum_by (λ (s : Source). s.files)) joins-are ∙ sym (count-of-rows joins)
+    pub side-file-count : side_files plan ≡ sum_by (λ (g : Gathered). g.files) (map (λ (s : SourceFiles). no_rows s.files s.layout.schema) sides)
+    side-file-count = ap (sum_by (λ (s : Source). s.files)) sides-are ∙ sym (count-of-rows sides)
 
     -- the engine over what readers tell
     pub ran-over : {R : Type 0} (remaining : R → Option (List ℕ)) (b : ℕ) (readers : List R) (files : List (List ℕ)) (feeds : List Feeding) (first last : List Gathered) (trace : List (ℕ × ℕ)) →
         0 < b → length readers ≡ files_wanted plan → Tell remaining readers files →
         feeds ≡ opened remaining b 0 (flat_map (λ (s : SourceFiles). replicate s.files s.layout) sources) readers →
-        first ≡ map (λ (s : SourceFiles). no_rows s.files s.layout.schema) joins ++ no_rows main.files (fields_after_all front.fields front.steps) ∷ [] →
+        first ≡ map (λ (s : SourceFiles). no_rows s.files s.layout.schema) sides ++ no_rows main.files (fields_after_all front.fields front.steps) ∷ [] →
         Finishes MayCome (λ file item out. out ≡ work_on front (inputs - main.files) file item) Takes feeds first trace last →
         RanOver plan b (records_of_files 0 (file_layouts plan) files) front (inputs - main.files) feeds first last trace
     ran-over remaining b readers files feeds first last trace some count tell feeds-are nothing finished =
@@ -128,7 +128,7 @@ module _ (sources : List SourceFiles) (front : NumberedSteps) (stages : List Sta
           some_source = omega (arith, c.some_source, length-map sources source_of_files);
           all_files = length-records 0 (file_layouts plan) files (length-layouts plan.sources ∙ sym many) ∙ many;
           steps = leading-is;
-          join_count = join-count;
+          side_count = side-count;
           told = ap (map (λ (f : Feeding). f.items)) (feeds-are ∙ ap (λ fss. opened remaining b 0 fss readers) layouts-are) ∙ opened-told remaining b 0 (file_layouts plan) readers files tell;
           nothing = nothing ∙ nothing-is;
           finished = finished;

@@ -41,17 +41,17 @@ still-none gs g none e = past gs (g ∷ []) none ∙ ap (λ o. or_later o None) 
 -- ---- what is made of whole sources
 
 -- the sources' batches have their columns
-pub over-batches : (joins : List Gathered) (batches : List Frame) (before after : Fields) (stages : List Stage) → batches ≡ map (λ (g : Gathered). g.batch) joins →
-    Fit (map (λ (g : Gathered). g.batch.fields) joins) before stages after → Fit (map (λ (f : Frame). f.fields) batches) before stages after
-over-batches joins batches before after stages e fits =
-    subst (λ fs. Fit fs before stages after) (sym (ap (map (λ (f : Frame). f.fields)) e ∙ map-map (λ (f : Frame). f.fields) (λ (g : Gathered). g.batch) joins)) fits
+pub over-batches : (sides : List Gathered) (batches : List Frame) (before after : Fields) (stages : List Stage) → batches ≡ map (λ (g : Gathered). g.batch) sides →
+    Fit (map (λ (g : Gathered). g.batch.fields) sides) before stages after → Fit (map (λ (f : Frame). f.fields) batches) before stages after
+over-batches sides batches before after stages e fits =
+    subst (λ fs. Fit fs before stages after) (sym (ap (map (λ (f : Frame). f.fields)) e ∙ map-map (λ (f : Frame). f.fields) (λ (g : Gathered). g.batch) sides)) fits
 
-module _ (joins : List Gathered) (main : Gathered) (stages : List Stage) (after : Fields) where
+module _ (sides : List Gathered) (main : Gathered) (stages : List Stage) (after : Fields) where
   -- what the stages make of the last, if no source before it ends in a fault
-  pub none-before : first_fault (map gathered_stream joins) ≡ None → Fit (map (λ g. g.batch.fields) joins) main.batch.fields stages after →
-      outcome_of_stages stages joins main ≡ frame_or_fault after (whole_all (later_steps stages joins main.batch.fields after).transforms (gathered_stream main))
+  pub none-before : first_fault (map gathered_stream sides) ≡ None → Fit (map (λ g. g.batch.fields) sides) main.batch.fields stages after →
+      outcome_of_stages stages sides main ≡ frame_or_fault after (whole_all (later_steps stages sides main.batch.fields after).transforms (gathered_stream main))
   none-before none fits =
-      let batches : List Frame = map (λ (g : Gathered). g.batch) joins in
-      let over = over-batches joins batches main.batch.fields after stages refl fits in
+      let batches : List Frame = map (λ (g : Gathered). g.batch) sides in
+      let over = over-batches sides batches main.batch.fields after stages refl fits in
       ap (λ (o : Option Fault). elim o as (λ _. Result Frame Fault) [ Some f ↦ Err f | None ↦ outcome batches main.batch.fields stages (gathered_stream main) ]) none
-      ∙ ap (λ (f : Fields). frame_or_fault f (whole_all (later_steps stages joins main.batch.fields after).transforms (gathered_stream main))) (columns-of batches main.batch.fields after stages over)
+      ∙ ap (λ (f : Fields). frame_or_fault f (whole_all (later_steps stages sides main.batch.fields after).transforms (gathered_stream main))) (columns-of batches main.batch.fields after stages over)

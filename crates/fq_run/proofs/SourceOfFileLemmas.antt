@@ -10,7 +10,7 @@ use Rattle.fq_csv.specs.HandedOut.{framed}
 use Rattle.fq_csv.specs.declared.faults.ScanFault.{ScanFault}
 use Rattle.fq_expr.specs.declared.fronts.RowFault.{RowFault}
 use Rattle.fq_column.specs.declared.pieces.Piece.{Piece as PieceOf}
-use Rattle.fq_run.specs.Physical.{Physical, file_layouts, front_fields, join_files, main_fields}
+use Rattle.fq_run.specs.Physical.{Physical, file_layouts, front_fields, side_files, main_fields}
 use Rattle.fq_run.specs.Sources.{Source, but_last, last_or, layout_of}
 use Rattle.fq_run.specs.EngineRun.{leading_steps, main_files, no_rows, nothing_taken}
 use Rattle.fq_run.specs.Working.{piece_of, piece_until, rows_of_run, stepped, untouched}
@@ -138,17 +138,17 @@ module _ (p : Physical) (main : Source) (has : HasMain p.sources main) where
       ∙ sym (columns-at (but_last p.sources ++ main ∷ []) i)
       ∙ ap columns_in (ap (λ ss. slice_get (layouts_of ss) i) (sym has.all) ∙ e)
 
-  main-at : (i : ℕ) (layout : Layout) → slice_get (file_layouts p) i ≡ Some layout → nat_lt i (join_files p) ≡ false → layout.schema ≡ main_fields p
+  main-at : (i : ℕ) (layout : Layout) → slice_get (file_layouts p) i ≡ Some layout → nat_lt i (side_files p) ≡ false → layout.schema ≡ main_fields p
   main-at i layout e past =
-      go (nat_lt (i - join_files p) main.files) (sym (late (but_last p.sources) (declared main ∷ []) i (grind (arith, nat_tests, past))) ∙ declared-at i layout e)
+      go (nat_lt (i - side_files p) main.files) (sym (late (but_last p.sources) (declared main ∷ []) i (grind (arith, nat_tests, past))) ∙ declared-at i layout e)
     where
       go : (b : Bool) → cond b (Some main.fields) None ≡ Some layout.schema → layout.schema ≡ main_fields p
       go true q = let r : main.fields ≡ layout.schema = cc q in sym r ∙ sym has.fields
       go false q = absurd (cc q)
 
   piece-fits : (i : ℕ) (layout : Layout) → slice_get (file_layouts p) i ≡ Some layout → (rows : List Row) →
-      Fits (Piece (piece_of (leading_steps p) (join_files p) i (framed layout.schema rows))) (fields_at i (map head_of (nothing_taken p)))
-  piece-fits i layout e rows = go (nat_lt i (join_files p)) refl
+      Fits (Piece (piece_of (leading_steps p) (side_files p) i (framed layout.schema rows))) (fields_at i (map head_of (nothing_taken p)))
+  piece-fits i layout e rows = go (nat_lt i (side_files p)) refl
     where
       own : List Head
       own = (main_files p, front_fields p) ∷ []
@@ -162,30 +162,30 @@ module _ (p : Physical) (main : Source) (has : HasMain p.sources main) where
       worked_as : Bool → Bool → Worked
       worked_as join same = Piece (cond join (untouched batch) (cond same (stepped (leading_steps p) batch) (untouched batch)))
 
-      same : nat_lt i (join_files p) ≡ false → same_fields layout.schema (main_fields p) ≡ true
+      same : nat_lt i (side_files p) ≡ false → same_fields layout.schema (main_fields p) ≡ true
       same past = (same_fields_decides layout.schema (main_fields p)).1 (main-at i layout e past)
 
       last : (b : Bool) → Fits (Piece (stepped (leading_steps p) batch)) (cond b (Some (front_fields p)) None)
       last true = refl
       last false = tt
 
-      go : (b : Bool) → nat_lt i (join_files p) ≡ b → Fits (worked_as (nat_lt i (join_files p)) (same_fields layout.schema (main_fields p))) (fields_at i (map head_of (nothing_taken p)))
+      go : (b : Bool) → nat_lt i (side_files p) ≡ b → Fits (worked_as (nat_lt i (side_files p)) (same_fields layout.schema (main_fields p))) (fields_at i (map head_of (nothing_taken p)))
       go true q =
           let place : fields_at i (map head_of (nothing_taken p)) ≡ Some layout.schema =
           ap (fields_at i) here ∙ early (but_last p.sources) own (declared main ∷ []) i (grind (arith, nat_tests, q)) ∙ declared-at i layout e in
-          subst (λ (o : Option Fields). Fits (worked_as (nat_lt i (join_files p)) (same_fields layout.schema (main_fields p))) o) (sym place)
+          subst (λ (o : Option Fields). Fits (worked_as (nat_lt i (side_files p)) (same_fields layout.schema (main_fields p))) o) (sym place)
           (subst (λ (b : Bool). Fits (worked_as b (same_fields layout.schema (main_fields p))) (Some layout.schema)) (sym q) refl)
       go false q =
-          let place : fields_at i (map head_of (nothing_taken p)) ≡ cond (nat_lt (i - join_files p) (main_files p)) (Some (front_fields p)) None =
+          let place : fields_at i (map head_of (nothing_taken p)) ≡ cond (nat_lt (i - side_files p) (main_files p)) (Some (front_fields p)) None =
           ap (fields_at i) here ∙ late (but_last p.sources) own i (grind (arith, nat_tests, q)) in
-          subst (λ (o : Option Fields). Fits (worked_as (nat_lt i (join_files p)) (same_fields layout.schema (main_fields p))) o) (sym place)
-          (subst (λ (b : Bool). Fits (worked_as b (same_fields layout.schema (main_fields p))) (cond (nat_lt (i - join_files p) (main_files p)) (Some (front_fields p)) None)) (sym q)
-          (subst (λ (b : Bool). Fits (worked_as false b) (cond (nat_lt (i - join_files p) (main_files p)) (Some (front_fields p)) None)) (sym (same q)) (last (nat_lt (i - join_files p) (main_files p)))))
+          subst (λ (o : Option Fields). Fits (worked_as (nat_lt i (side_files p)) (same_fields layout.schema (main_fields p))) o) (sym place)
+          (subst (λ (b : Bool). Fits (worked_as b (same_fields layout.schema (main_fields p))) (cond (nat_lt (i - side_files p) (main_files p)) (Some (front_fields p)) None)) (sym q)
+          (subst (λ (b : Bool). Fits (worked_as false b) (cond (nat_lt (i - side_files p) (main_files p)) (Some (front_fields p)) None)) (sym (same q)) (last (nat_lt (i - side_files p) (main_files p)))))
 
-  fit-at : (i : ℕ) (layout : Layout) → slice_get (file_layouts p) i ≡ Some layout → RunsFit (leading_steps p) (join_files p) (map head_of (nothing_taken p)) i layout
+  fit-at : (i : ℕ) (layout : Layout) → slice_get (file_layouts p) i ≡ Some layout → RunsFit (leading_steps p) (side_files p) (map head_of (nothing_taken p)) i layout
   fit-at i layout e run same =
-      fits-until (rows_of_run run).fault (piece_of (leading_steps p) (join_files p) i (framed run.layout.schema (rows_of_run run).rows)) (fields_at i (map head_of (nothing_taken p)))
-      (subst (λ (fs : Fields). Fits (Piece (piece_of (leading_steps p) (join_files p) i (framed fs (rows_of_run run).rows))) (fields_at i (map head_of (nothing_taken p)))) (sym (ap (λ (l : Layout). l.schema) same)) (piece-fits i layout e (rows_of_run run).rows))
+      fits-until (rows_of_run run).fault (piece_of (leading_steps p) (side_files p) i (framed run.layout.schema (rows_of_run run).rows)) (fields_at i (map head_of (nothing_taken p)))
+      (subst (λ (fs : Fields). Fits (Piece (piece_of (leading_steps p) (side_files p) i (framed fs (rows_of_run run).rows))) (fields_at i (map head_of (nothing_taken p)))) (sym (ap (λ (l : Layout). l.schema) same)) (piece-fits i layout e (rows_of_run run).rows))
 
   pub main-fields : (k : ℕ) (layouts : List Layout) → ((i : ℕ) (layout : Layout) → slice_get layouts i ≡ Some layout → slice_get (file_layouts p) (k + i) ≡ Some layout) → MainFields p k layouts
   main-fields k [] h = tt
@@ -194,7 +194,7 @@ module _ (p : Physical) (main : Source) (has : HasMain p.sources main) where
     main-fields (suc k) layouts (λ i l e. ap (slice_get (file_layouts p)) (let q : suc k + i ≡ k + suc i = omega arith in q) ∙ h (suc i) l e),
   )
 
-  pub files-fit : (k : ℕ) (layouts : List Layout) → ((i : ℕ) (layout : Layout) → slice_get layouts i ≡ Some layout → slice_get (file_layouts p) (k + i) ≡ Some layout) → FilesFit (leading_steps p) (join_files p) (map head_of (nothing_taken p)) k layouts
+  pub files-fit : (k : ℕ) (layouts : List Layout) → ((i : ℕ) (layout : Layout) → slice_get layouts i ≡ Some layout → slice_get (file_layouts p) (k + i) ≡ Some layout) → FilesFit (leading_steps p) (side_files p) (map head_of (nothing_taken p)) k layouts
   files-fit k [] h = tt
   files-fit k (layout ∷ layouts) h = (
     fit-at k layout (ap (slice_get (file_layouts p)) (let q : k ≡ k + 0 = omega arith in q) ∙ h 0 layout refl),

@@ -9,7 +9,7 @@ use Rattle.fq_run.specs.EngineRun.{main_files, no_rows, nothing_taken}
 use Rattle.fq_run.specs.Gathering.{gathered_stream}
 use Rattle.fq_run.specs.Kept.{IsSound, AreSound}
 use Rattle.fq_run.specs.Outcome.{columns_after, frame_or_fault, outcome, outcome_of_stages}
-use Rattle.fq_run.specs.Physical.{Physical, front_fields, join_fields}
+use Rattle.fq_run.specs.Physical.{Physical, front_fields, side_fields}
 use Rattle.fq_run.specs.Run.{IsRunFault}
 use Rattle.fq_run.specs.Sources.{Source, but_last, first_fault}
 use Rattle.fq_run.specs.Stages.{Fit, IsRunnable}
@@ -21,13 +21,13 @@ use Rattle.fq_run.specs.declared.gathering.Gathered.{Gathered}
 use Rattle.fq_run.specs.declared.stages.SourceFiles.{SourceFiles}
 use Rattle.fq_run.specs.declared.stages.Stage.{Stage}
 use Rattle.fq_run.proofs.KeptSourceLemmas.{sound-first, sound-stages}
-use Rattle.fq_run.proofs.RunStartLemmas.{plan, join-columns}
+use Rattle.fq_run.proofs.RunStartLemmas.{plan, side-columns}
 
 -- ---- faults
 
-sound-ends : (joins : List Gathered) (main : Gathered) → AreSound (joins ++ main ∷ []) → AreSound joins × IsSound main.fault
+sound-ends : (sides : List Gathered) (main : Gathered) → AreSound (sides ++ main ∷ []) → AreSound sides × IsSound main.fault
 sound-ends [] main s = (tt, s.0)
-sound-ends (j ∷ joins) main s = let more = sound-ends joins main s.1 in ((s.0, more.0), more.1)
+sound-ends (j ∷ sides) main s = let more = sound-ends sides main s.1 in ((s.0, more.0), more.1)
 
 sound-rows : (ss : List Source) (files : ℕ) (fields : Fields) → AreSound (map (λ (s : Source). no_rows s.files s.fields) ss ++ no_rows files fields ∷ [])
 sound-rows [] files fields = (tt, tt)
@@ -43,17 +43,17 @@ sound-frame fields u s = go u.fault s
     go None s = tt
     go (Some f) s = s
 
-pub sound-outcome : (stages : List Stage) (joins : List Gathered) (main : Gathered) → AreSound (joins ++ main ∷ []) → IfErr (outcome_of_stages stages joins main) IsRunFault
-sound-outcome stages joins main s = go (first_fault (map gathered_stream joins)) (sound-first joins both.0)
+pub sound-outcome : (stages : List Stage) (sides : List Gathered) (main : Gathered) → AreSound (sides ++ main ∷ []) → IfErr (outcome_of_stages stages sides main) IsRunFault
+sound-outcome stages sides main s = go (first_fault (map gathered_stream sides)) (sound-first sides both.0)
   where
-    both : AreSound joins × IsSound main.fault
-    both = sound-ends joins main s
+    both : AreSound sides × IsSound main.fault
+    both = sound-ends sides main s
 
     batches : List Frame
-    batches = map (λ (g : Gathered). g.batch) joins
+    batches = map (λ (g : Gathered). g.batch) sides
 
     go : (o : Option Fault) → IsSound o →
-        IfErr (elim o as (λ _. Result Frame Fault) [ Some f ↦ Err f | None ↦ outcome (map (λ (g : Gathered). g.batch) joins) main.batch.fields stages (gathered_stream main) ]) IsRunFault
+        IfErr (elim o as (λ _. Result Frame Fault) [ Some f ↦ Err f | None ↦ outcome (map (λ (g : Gathered). g.batch) sides) main.batch.fields stages (gathered_stream main) ]) IsRunFault
     go None t =
         sound-frame (columns_after main.batch.fields (transforms_of batches main.batch.fields stages)) (whole_all (transforms_of batches main.batch.fields stages) (gathered_stream main))
         (sound-stages batches main.batch.fields stages (gathered_stream main) both.1)
@@ -62,14 +62,14 @@ sound-outcome stages joins main s = go (first_fault (map gathered_stream joins))
 -- ---- the stages over nothing taken
 
 -- the sources before the last, of which nothing was taken, and the last one's columns after the leading steps
-module _ (sources : List SourceFiles) (front : NumberedSteps) (stages : List Stage) (inputs : ℕ) (c : IsRunnable sources front stages inputs) (joins : List SourceFiles) (main : SourceFiles) (parts : sources ≡ joins ++ main ∷ []) where
+module _ (sources : List SourceFiles) (front : NumberedSteps) (stages : List Stage) (inputs : ℕ) (c : IsRunnable sources front stages inputs) (sides : List SourceFiles) (main : SourceFiles) (parts : sources ≡ sides ++ main ∷ []) where
   abbrev pub before_main : List Gathered
-  before_main = map (λ (s : SourceFiles). no_rows s.files s.layout.schema) joins
+  before_main = map (λ (s : SourceFiles). no_rows s.files s.layout.schema) sides
 
   abbrev pub main_one : Gathered
   main_one = no_rows main.files (fields_after_all front.fields front.steps)
 
   pub fit-over : FitOver stages c.fits.0 before_main main_one
   fit-over =
-      subst (λ (fs : List Fields). Fit fs main_one.batch.fields stages c.fits.0) (sym (join-columns sources front stages inputs c joins main parts))
-      (subst (λ (f : Fields). Fit (join_fields (plan sources front stages inputs c)) (fields_after_all f front.steps) stages c.fits.0) (sym c.on_main) c.fits.1)
+      subst (λ (fs : List Fields). Fit fs main_one.batch.fields stages c.fits.0) (sym (side-columns sources front stages inputs c sides main parts))
+      (subst (λ (f : Fields). Fit (side_fields (plan sources front stages inputs c)) (fields_after_all f front.steps) stages c.fits.0) (sym c.on_main) c.fits.1)

@@ -78,21 +78,21 @@ pub record IsTransform (fields after : Fields) (m : Transform) : Type 0 where
   pub gives : m.gives ≡ after
   pub starts : m.at_once [] ≡ done []
 
-module _ (joins : List Frame) where
+module _ (sides : List Frame) where
   abbrev columns : List Fields
-  columns = map (λ (f : Frame). f.fields) joins
+  columns = map (λ (f : Frame). f.fields) sides
 
   -- the source of a join that is not refused
   pub source-of : (how : How) (source : ℕ) (on : List Name) (fields after : Fields) → schema_with how fields on (slice_get columns source) ≡ Ok after →
-      (right : Frame) × (slice_get joins source ≡ Some right) × (join_schema how fields right.fields on ≡ Ok after)
-  source-of how source on fields after t = go (slice_get joins source) refl (ap (schema_with how fields on) (sym (slice_get-map (λ (f : Frame). f.fields) joins source)) ∙ t)
+      (right : Frame) × (slice_get sides source ≡ Some right) × (join_schema how fields right.fields on ≡ Ok after)
+  source-of how source on fields after t = go (slice_get sides source) refl (ap (schema_with how fields on) (sym (slice_get-map (λ (f : Frame). f.fields) sides source)) ∙ t)
     where
-      go : (o : Option Frame) → slice_get joins source ≡ o → schema_with how fields on (option_map (λ (f : Frame). f.fields) o) ≡ Ok after →
-          (right : Frame) × (slice_get joins source ≡ Some right) × (join_schema how fields right.fields on ≡ Ok after)
+      go : (o : Option Frame) → slice_get sides source ≡ o → schema_with how fields on (option_map (λ (f : Frame). f.fields) o) ≡ Ok after →
+          (right : Frame) × (slice_get sides source ≡ Some right) × (join_schema how fields right.fields on ≡ Ok after)
       go None e h = absurd (cc)
       go (Some right) e h = (right, e, h)
 
-  pub transform-is : (n : ℕ) (fields after : Fields) (operator : Operator) → Accepts columns fields operator after → IsTransform fields after (transform_of joins n fields operator)
+  pub transform-is : (n : ℕ) (fields after : Fields) (operator : Operator) → Accepts columns fields operator after → IsTransform fields after (transform_of sides n fields operator)
   transform-is n fields after (Rows front) t = record {
     takes = t.0;
     gives = ap (λ (f : Fields). fields_after_all f front.steps) t.0 ∙ fields-after-all fields after front.steps t.1;
@@ -101,8 +101,8 @@ module _ (joins : List Frame) where
   transform-is n fields after (Join j) t =
       let names = map string_bytes j.on.items in
       let at = source-of j.how j.source names fields after t in
-      let right = slice_index_or joins j.source nothing in
-      let same : right ≡ at.0 = get_or_from_slice_get joins j.source at.0 nothing at.1 in record {
+      let right = slice_index_or sides j.source nothing in
+      let same : right ≡ at.0 = get_or_from_slice_get sides j.source at.0 nothing at.1 in record {
         takes = refl;
         gives = ap (λ (f : Frame). joined_fields j.how fields f.fields names) same ∙ ok-is (joined_fields j.how fields at.0.fields names) after (sym (join-output j.how fields at.0.fields names (ap is_ok at.2)) ∙ at.2);
         starts = refl;
@@ -122,44 +122,44 @@ module _ (joins : List Frame) where
 
   -- ---- stages, one after the other
 
-  pub chain-of : (fields after : Fields) (stages : List Stage) → Fit columns fields stages after → Chain fields (transforms_of joins fields stages) after
+  pub chain-of : (fields after : Fields) (stages : List Stage) → Fit columns fields stages after → Chain fields (transforms_of sides fields stages) after
   chain-of fields after [] fits = fits
   chain-of fields after (s ∷ stages) (accepts, fits) =
       let is = transform-is s.number fields s.after s.operator accepts in
-      (is.takes, subst (λ (f : Fields). Chain f (transforms_of joins f stages) after) (sym is.gives) (chain-of s.after after stages fits))
+      (is.takes, subst (λ (f : Fields). Chain f (transforms_of sides f stages) after) (sym is.gives) (chain-of s.after after stages fits))
 
-  pub starts-of : (fields after : Fields) (stages : List Stage) → Fit columns fields stages after → given_all (transforms_of joins fields stages) (done []) ≡ done []
+  pub starts-of : (fields after : Fields) (stages : List Stage) → Fit columns fields stages after → given_all (transforms_of sides fields stages) (done []) ≡ done []
   starts-of fields after [] fits = refl
   starts-of fields after (s ∷ stages) (accepts, fits) =
       let is = transform-is s.number fields s.after s.operator accepts in
-      ap (λ (a : Stream Fault). given_all (transforms_of joins (transform_of joins s.number fields s.operator).gives stages) (then_stream a (done []))) is.starts
-      ∙ ap (λ (f : Fields). given_all (transforms_of joins f stages) (done [])) is.gives
+      ap (λ (a : Stream Fault). given_all (transforms_of sides (transform_of sides s.number fields s.operator).gives stages) (then_stream a (done []))) is.starts
+      ∙ ap (λ (f : Fields). given_all (transforms_of sides f stages) (done [])) is.gives
       ∙ starts-of s.after after stages fits
 
   last-is : (fields : Fields) (ms : List Transform) (after : Fields) → Chain fields ms after → columns_after fields ms ≡ after
   last-is fields [] after chain = chain
   last-is fields (m ∷ ms) after chain = last-is m.gives ms after chain.1
 
-  pub columns-of : (fields after : Fields) (stages : List Stage) → Fit columns fields stages after → columns_after fields (transforms_of joins fields stages) ≡ after
-  columns-of fields after stages fits = last-is fields (transforms_of joins fields stages) after (chain-of fields after stages fits)
+  pub columns-of : (fields after : Fields) (stages : List Stage) → Fit columns fields stages after → columns_after fields (transforms_of sides fields stages) ≡ after
+  columns-of fields after stages fits = last-is fields (transforms_of sides fields stages) after (chain-of fields after stages fits)
 
 -- ---- operators that have taken no row
 
-module _ (joins : List Frame) (n : ℕ) (fields after : Fields) where
-  module _ (source : ℕ) (on : List Name) (right : Frame) (is : right ≡ get_or joins source right) (how : How) (nulls_equal : Bool) (t : schema_with how fields on (slice_get (map (λ (f : Frame). f.fields) joins) source) ≡ Ok after) where
-    found : (r : Frame) × (slice_get joins source ≡ Some r) × (join_schema how fields r.fields on ≡ Ok after)
-    found = source-of joins how source on fields after t
+module _ (sides : List Frame) (n : ℕ) (fields after : Fields) where
+  module _ (source : ℕ) (on : List Name) (right : Frame) (is : right ≡ get_or sides source right) (how : How) (nulls_equal : Bool) (t : schema_with how fields on (slice_get (map (λ (f : Frame). f.fields) sides) source) ≡ Ok after) where
+    found : (r : Frame) × (slice_get sides source ≡ Some r) × (join_schema how fields r.fields on ≡ Ok after)
+    found = source-of sides how source on fields after t
 
     right-found : right ≡ found.0
-    right-found = is ∙ get_or_from_slice_get joins source found.0 right found.1
+    right-found = is ∙ get_or_from_slice_get sides source found.0 right found.1
 
     pub join-can : (names : List Name) → names ≡ on → IsOk (join_schema how fields right.fields names)
     join-can names e = ap is_ok ((λ i. join_schema how fields (right-found i).fields (e i)) ∙ found.2)
 
     pub join-started : (names : List Name) → names ≡ on → (j : Joining) → ((left : Fields) → IsOk (join_schema how left right.fields names) → HasJoined j (join_transform n how (record { fields = right.fields; rows = right.rows; on = names; nulls_equal = nulls_equal }) left) []) →
-        HasTaken (running.Join j) (let r = slice_index_or joins source nothing in join_transform n how (record { fields = r.fields; rows = r.rows; on = on; nulls_equal = nulls_equal }) fields) []
+        HasTaken (running.Join j) (let r = slice_index_or sides source nothing in join_transform n how (record { fields = r.fields; rows = r.rows; on = on; nulls_equal = nulls_equal }) fields) []
     join-started names e j h =
-        let same : right ≡ slice_index_or joins source nothing = right-found ∙ sym (get_or_from_slice_get joins source found.0 nothing found.1) in
+        let same : right ≡ slice_index_or sides source nothing = right-found ∙ sym (get_or_from_slice_get sides source found.0 nothing found.1) in
         subst (λ (r : Frame). HasTaken (running.Join j) (join_transform n how (record { fields = r.fields; rows = r.rows; on = on; nulls_equal = nulls_equal }) fields) []) same
         (record { causal = join-causal n how (record { fields = right.fields; rows = right.rows; on = on; nulls_equal = nulls_equal }) fields; faultless = refl; keeps = subst (λ (ns : List Name). HasJoined j (join_transform n how (record { fields = right.fields; rows = right.rows; on = ns; nulls_equal = nulls_equal }) fields) []) e (h fields (join-can names e)) })
 
@@ -179,38 +179,38 @@ module _ (joins : List Frame) (n : ℕ) (fields after : Fields) where
 
 -- ---- the same of several, of which the first have been started
 
-pub record StartedSoFar (joins : List Frame) (before : Fields) (stages : List Stage) (after : Fields) (operators : List Running) (fields : Fields) (rest : List Stage) : Type 0 where
-  pub fits : Fit (map (λ f. f.fields) joins) fields rest after
-  pub closes : (qs : List Running) → HaveTaken qs (transforms_of joins fields rest) [] → HaveTaken (operators ++ qs) (transforms_of joins before stages) []
+pub record StartedSoFar (sides : List Frame) (before : Fields) (stages : List Stage) (after : Fields) (operators : List Running) (fields : Fields) (rest : List Stage) : Type 0 where
+  pub fits : Fit (map (λ f. f.fields) sides) fields rest after
+  pub closes : (qs : List Running) → HaveTaken qs (transforms_of sides fields rest) [] → HaveTaken (operators ++ qs) (transforms_of sides before stages) []
 
-module _ (joins : List Frame) (before : Fields) (stages : List Stage) (after : Fields) where
-  pub started-start : Fit (map (λ f. f.fields) joins) before stages after → StartedSoFar joins before stages after [] before stages
+module _ (sides : List Frame) (before : Fields) (stages : List Stage) (after : Fields) where
+  pub started-start : Fit (map (λ f. f.fields) sides) before stages after → StartedSoFar sides before stages after [] before stages
   started-start fits = record { fits = fits; closes = λ qs h. h }
 
-  pub started-step : (operators : List Running) (fields : Fields) (s : Stage) (rest : List Stage) (r : Running) → StartedSoFar joins before stages after operators fields (s ∷ rest) →
-      (Accepts (map (λ f. f.fields) joins) fields s.operator s.after → HasTaken r (transform_of joins s.number fields s.operator) []) →
-      StartedSoFar joins before stages after (operators ++ r ∷ []) s.after rest
+  pub started-step : (operators : List Running) (fields : Fields) (s : Stage) (rest : List Stage) (r : Running) → StartedSoFar sides before stages after operators fields (s ∷ rest) →
+      (Accepts (map (λ f. f.fields) sides) fields s.operator s.after → HasTaken r (transform_of sides s.number fields s.operator) []) →
+      StartedSoFar sides before stages after (operators ++ r ∷ []) s.after rest
   started-step operators fields s rest r so_far taken =
       let t = so_far.fits.0 in
-      let m = transform_of joins s.number fields s.operator in
-      let is = transform-is joins s.number fields s.after s.operator t in record {
+      let m = transform_of sides s.number fields s.operator in
+      let is = transform-is sides s.number fields s.after s.operator t in record {
         fits = so_far.fits.1;
-        closes = λ qs h. subst (λ (rs : List Running). HaveTaken rs (transforms_of joins before stages) []) (sym (append_assoc operators (r ∷ []) qs))
+        closes = λ qs h. subst (λ (rs : List Running). HaveTaken rs (transforms_of sides before stages) []) (sym (append_assoc operators (r ∷ []) qs))
             (so_far.closes (r ∷ qs) (
               taken t,
-              subst (λ (l : List Row). HaveTaken qs (transforms_of joins m.gives rest) l) (ap (λ (a : Stream Fault). a.rows) (sym is.starts))
-                  (subst (λ (f : Fields). HaveTaken qs (transforms_of joins f rest) []) (sym is.gives) h),
+              subst (λ (l : List Row). HaveTaken qs (transforms_of sides m.gives rest) l) (ap (λ (a : Stream Fault). a.rows) (sym is.starts))
+                  (subst (λ (f : Fields). HaveTaken qs (transforms_of sides f rest) []) (sym is.gives) h),
             ));
       }
 
-  pub started-all : Fit (map (λ f. f.fields) joins) before stages after → (operators : List Running) (fields : Fields) → StartedSoFar joins before stages after operators fields [] →
-      (fields ≡ after) × HasRun operators (record { before = before; transforms = transforms_of joins before stages; after = after }) [] []
+  pub started-all : Fit (map (λ f. f.fields) sides) before stages after → (operators : List Running) (fields : Fields) → StartedSoFar sides before stages after operators fields [] →
+      (fields ≡ after) × HasRun operators (record { before = before; transforms = transforms_of sides before stages; after = after }) [] []
   started-all fits operators fields so_far = (
     so_far.fits,
     record {
-      taken = subst (λ (rs : List Running). HaveTaken rs (transforms_of joins before stages) []) (append-nil operators) (so_far.closes [] tt);
-      chain = chain-of joins before after stages fits;
-      given = starts-of joins before after stages fits;
+      taken = subst (λ (rs : List Running). HaveTaken rs (transforms_of sides before stages) []) (append-nil operators) (so_far.closes [] tt);
+      chain = chain-of sides before after stages fits;
+      given = starts-of sides before after stages fits;
     },
   )
 

@@ -30,19 +30,19 @@ printed-more fields rows more =
     append_assoc (printed_names fields) (printed_rows rows) (printed_rows more)
     ∙ ap (λ text. printed_names fields ++ text) (sym (flat_map-append _ rows more))
 
-module _ (stages : List Stage) (after : Fields) (joins : List Gathered) (main : Gathered) where
+module _ (stages : List Stage) (after : Fields) (sides : List Gathered) (main : Gathered) where
   abbrev later : Transforming
-  later = later_steps stages joins main.batch.fields after
+  later = later_steps stages sides main.batch.fields after
 
   -- the outcome of what streams
-  pub streaming-outcome : FitOver stages after joins main → (s : Streaming) → IsStreaming stages after joins main s →
-      outcome_of_stages stages joins main ≡ frame_or_fault after (whole_all later.transforms (done main.batch.rows))
+  pub streaming-outcome : FitOver stages after sides main → (s : Streaming) → IsStreaming stages after sides main s →
+      outcome_of_stages stages sides main ≡ frame_or_fault after (whole_all later.transforms (done main.batch.rows))
   streaming-outcome leads s i =
-      none-before joins main stages after i.none leads
+      none-before sides main stages after i.none leads
       ∙ ap (λ (o : Option Fault). frame_or_fault after (whole_all later.transforms (let u : Stream Fault = record { rows = main.batch.rows; fault = o } in u))) i.faultless
 
-  pub settled-outcome : (f : Fault) → IsSettled stages after joins main f → outcome_of_stages stages joins main ≡ Err f
-  settled-outcome f settled = ap (λ (u : Stream Fault). outcome_of_stages stages joins (with_stream main u)) (sym (then-nothing (gathered_stream main))) ∙ settled (done [])
+  pub settled-outcome : (f : Fault) → IsSettled stages after sides main f → outcome_of_stages stages sides main ≡ Err f
+  settled-outcome f settled = ap (λ (u : Stream Fault). outcome_of_stages stages sides (with_stream main u)) (sym (then-nothing (gathered_stream main))) ∙ settled (done [])
 
   -- ---- one more item of the main source
   module _ (out : Worked) where
@@ -50,7 +50,7 @@ module _ (stages : List Stage) (after : Fields) (joins : List Gathered) (main : 
     added = added_stream main.batch.fields out
 
     -- a piece was taken
-    pub streams-on : (s t : Streaming) (i : IsStreaming stages after joins main s) → HasGoneOn s out later main.batch.rows i.out t → IsStreaming stages after joins (gathered main out) t
+    pub streams-on : (s t : Streaming) (i : IsStreaming stages after sides main s) → HasGoneOn s out later main.batch.rows i.out t → IsStreaming stages after sides (gathered main out) t
     streams-on s t i on = record {
       none = i.none;
       faultless = ap (λ (u : Stream Fault). u.fault) joined ∙ here.0;
@@ -71,16 +71,16 @@ module _ (stages : List Stage) (after : Fields) (joins : List Gathered) (main : 
     HasEndedIn s f = (w : Transforming) (taken passed : List Row) → HasRun s.operators w taken passed → w.before ≡ s.before → (rest : Stream Fault) →
         (whole_all w.transforms (then_stream (then_stream (done taken) (added_stream s.before out)) rest)).fault ≡ Some f
 
-    pub settled-by : FitOver stages after joins main → (s : Streaming) (f : Fault) → IsStreaming stages after joins main s → HasEndedIn s f → IsSettled stages after joins (gathered main out) f
+    pub settled-by : FitOver stages after sides main → (s : Streaming) (f : Fault) → IsStreaming stages after sides main s → HasEndedIn s f → IsSettled stages after sides (gathered main out) f
     settled-by leads s f i ends rest =
         let v : Stream Fault = then_stream (gathered_stream (gathered main out)) rest in
-        none-before joins (with_stream (gathered main out) v) stages after i.none leads
+        none-before sides (with_stream (gathered main out) v) stages after i.none leads
         ∙ fault-is after (whole_all later.transforms v) f
         (ap (λ (o : Option Fault). (whole_all later.transforms (then_stream (then_stream (let u : Stream Fault = record { rows = main.batch.rows; fault = o } in u) added) rest)).fault) i.faultless
         ∙ ap (λ (g : Fields). (whole_all later.transforms (then_stream (then_stream (done main.batch.rows) (added_stream g out)) rest)).fault) (sym i.before)
         ∙ ends later main.batch.rows i.out i.run (sym i.before) rest)
 
-    pub settled-on : (f : Fault) → IsSettled stages after joins main f → IsSettled stages after joins (gathered main out) f
+    pub settled-on : (f : Fault) → IsSettled stages after sides main f → IsSettled stages after sides (gathered main out) f
     settled-on f settled rest =
-        ap (λ (u : Stream Fault). outcome_of_stages stages joins (with_stream main u)) (then_stream-assoc (gathered_stream main) added rest)
+        ap (λ (u : Stream Fault). outcome_of_stages stages sides (with_stream main u)) (then_stream-assoc (gathered_stream main) added rest)
         ∙ settled (then_stream added rest)

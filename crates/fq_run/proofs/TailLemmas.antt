@@ -6,7 +6,7 @@ use Rattle.std.proofs.lemmas.List.{drop-map, length-map, map-append, take-map}
 use Rattle.std.proofs.lemmas.List.Sums.{sum_by-cons}
 use Rattle.std.proofs.Math.Seq.{take-nil, drop-drop, take_all}
 use Rattle.fq_column.specs.Stream.{Stream, then_stream}
-use Rattle.fq_run.specs.Physical.{Physical, after_leading, files_wanted, join_files, main_fields}
+use Rattle.fq_run.specs.Physical.{Physical, after_leading, files_wanted, side_files, main_fields}
 use Rattle.fq_run.specs.Sources.{Source, but_last, concat_streams, source_streams}
 use Rattle.fq_run.specs.Tail.{Taken, items_from, tagged, taken_streams, worked_files}
 use Rattle.fq_run.specs.declared.faults.Fault.{Fault}
@@ -71,22 +71,22 @@ concat_streams-flat [] = refl
 concat_streams-flat (xs ∷ xss) = concat_streams-append xs (flat xss) ∙ ap (then_stream (concat_streams xs)) (concat_streams-flat xss)
 
 -- the streams of the sources before the main one are the files' own
-before-main : (p : Physical) (s k n : ℕ) (us : List (Stream Fault)) → s + k + n ≤ join_files p → take n (drop k (worked_files p s us)) ≡ take n (drop k us)
+before-main : (p : Physical) (s k n : ℕ) (us : List (Stream Fault)) → s + k + n ≤ side_files p → take n (drop k (worked_files p s us)) ≡ take n (drop k us)
 before-main p s k n [] h = refl
 before-main p s zero zero (u ∷ us) h = refl
 before-main p s zero (suc n) (u ∷ us) h =
-    ap (λ b. cond b u (after_leading p u) ∷ take n (worked_files p (s + 1) us)) (let q : nat_lt s (join_files p) ≡ true = grind (arith, nat_tests, h) in q)
+    ap (λ b. cond b u (after_leading p u) ∷ take n (worked_files p (s + 1) us)) (let q : nat_lt s (side_files p) ≡ true = grind (arith, nat_tests, h) in q)
     ∙ ap (λ vs. u ∷ vs) (before-main p (s + 1) zero n us (omega (arith, h)))
 before-main p s (suc k) n (u ∷ us) h = before-main p (s + 1) k n us (omega (arith, h))
 
-all-main : (p : Physical) (s : ℕ) (us : List (Stream Fault)) → join_files p ≤ s → worked_files p s us ≡ map (after_leading p) us
+all-main : (p : Physical) (s : ℕ) (us : List (Stream Fault)) → side_files p ≤ s → worked_files p s us ≡ map (after_leading p) us
 all-main p s [] h = refl
 all-main p s (u ∷ us) h =
-    ap (λ b. cond b u (after_leading p u) ∷ worked_files p (s + 1) us) (let q : nat_lt s (join_files p) ≡ false = grind (arith, nat_tests, h) in q)
+    ap (λ b. cond b u (after_leading p u) ∷ worked_files p (s + 1) us) (let q : nat_lt s (side_files p) ≡ false = grind (arith, nat_tests, h) in q)
     ∙ ap (λ vs. after_leading p u ∷ vs) (all-main p (s + 1) us (omega (arith, h)))
 
 -- those of the main source went through the leading steps
-main-worked : (p : Physical) (s d : ℕ) (us : List (Stream Fault)) → s + d ≡ join_files p → drop d (worked_files p s us) ≡ map (after_leading p) (drop d us)
+main-worked : (p : Physical) (s d : ℕ) (us : List (Stream Fault)) → s + d ≡ side_files p → drop d (worked_files p s us) ≡ map (after_leading p) (drop d us)
 main-worked p s zero us h = all-main p s us (omega (arith, h))
 main-worked p s (suc d) [] h = refl
 main-worked p s (suc d) (u ∷ us) h = main-worked p (s + 1) d us (omega (arith, h))
@@ -100,11 +100,11 @@ module _ (p : Physical) (xss : List (List (Stream Fault))) (us : List (Stream Fa
       ∙ ap (λ vs. concat_streams (take n vs)) (sym (drop-map concat_streams a xss))
       ∙ ap (λ vs. concat_streams (take n (drop a vs))) joins_to
 
-  taken_streams-all : (k : ℕ) (sources : List Source) → k + sum_by (λ s. s.files) sources ≤ join_files p →
+  taken_streams-all : (k : ℕ) (sources : List Source) → k + sum_by (λ s. s.files) sources ≤ side_files p →
       taken_streams k sources (tagged 0 xss) ≡ source_streams sources (drop k us)
   taken_streams-all k [] g = refl
   taken_streams-all k (s ∷ sources) g =
-      let g' : k + (s.files + sum_by (λ s. s.files) sources) ≤ join_files p = omega (arith, sum_by-cons (λ (s : Source). s.files) s sources, g) in
+      let g' : k + (s.files + sum_by (λ s. s.files) sources) ≤ side_files p = omega (arith, sum_by-cons (λ (s : Source). s.files) s sources, g) in
       ap (λ u. u ∷ taken_streams (k + s.files) sources (tagged 0 xss)) (items_from-joined k s.files ∙ ap concat_streams (before-main p 0 k s.files us (omega (arith, g'))))
       ∙ ap (λ vs. concat_streams (take s.files (drop k us)) ∷ vs) (taken_streams-all (k + s.files) sources (omega (arith, g')))
       ∙ ap (λ vs. concat_streams (take s.files (drop k us)) ∷ source_streams sources vs) (sym (drop-drop s.files k us))
@@ -114,11 +114,11 @@ module _ (p : Physical) (xss : List (List (Stream Fault))) (us : List (Stream Fa
   sides-joined = taken_streams-all 0 (but_last p.sources) (omega arith)
 
   -- those of the main source, after the leading steps
-  pub main-joined : length us ≤ files_wanted p → concat_streams (items_from (join_files p) (files_wanted p) (tagged 0 xss)) ≡ after_leading p (concat_streams (drop (join_files p) us))
+  pub main-joined : length us ≤ files_wanted p → concat_streams (items_from (side_files p) (files_wanted p) (tagged 0 xss)) ≡ after_leading p (concat_streams (drop (side_files p) us))
   main-joined g =
-      let main : List (Stream Fault) = drop (join_files p) us in
-      let wanted : length (map (after_leading p) main) ≤ files_wanted p = omega (arith, length-map main (after_leading p), length-drop (join_files p) us, g) in
-      items_from-joined (join_files p) (files_wanted p)
-      ∙ ap (λ vs. concat_streams (take (files_wanted p) vs)) (main-worked p 0 (join_files p) us (omega arith))
+      let main : List (Stream Fault) = drop (side_files p) us in
+      let wanted : length (map (after_leading p) main) ≤ files_wanted p = omega (arith, length-map main (after_leading p), length-drop (side_files p) us, g) in
+      items_from-joined (side_files p) (files_wanted p)
+      ∙ ap (λ vs. concat_streams (take (files_wanted p) vs)) (main-worked p 0 (side_files p) us (omega arith))
       ∙ ap concat_streams (take_all (files_wanted p) (map (after_leading p) main) wanted)
       ∙ sym (apply_steps-concat_streams Overflow 0 (main_fields p) p.front main)

@@ -10,7 +10,7 @@ use Rattle.fq_lanes.specs.Engine.{Finishes}
 use Rattle.fq_run.specs.Feeding.{Feeding, MayCome, scanned_items}
 use Rattle.fq_run.specs.Kept.{Takes}
 use Rattle.fq_run.specs.Outcome.{outcome_of_stages}
-use Rattle.fq_run.specs.Physical.{Physical, file_layouts, files_wanted, front_fields, join_files, main_fields, outcome_of_run}
+use Rattle.fq_run.specs.Physical.{Physical, file_layouts, files_wanted, front_fields, side_files, main_fields, outcome_of_run}
 use Rattle.fq_run.specs.Run.{trace_of}
 use Rattle.fq_run.specs.Sources.{but_last, last_or, row_limit}
 use Rattle.fq_run.specs.Working.{work_on}
@@ -60,17 +60,17 @@ opened remaining run_size file (layout ∷ layouts) (reader ∷ readers) =
     ∷ opened remaining run_size (file + 1) layouts readers
 
 -- a run of the engine over feeds that tell the items of these records, from nothing taken on
-pub record RanOver (p : Physical) (batch_size : ℕ) (ws : List RecordStream) (front : NumberedSteps) (joins : ℕ) (feeds : List Feeding) (first last : List Gathered) (trace : List (ℕ × ℕ)) : Type 0 where
+pub record RanOver (p : Physical) (batch_size : ℕ) (ws : List RecordStream) (front : NumberedSteps) (sides : ℕ) (feeds : List Feeding) (first last : List Gathered) (trace : List (ℕ × ℕ)) : Type 0 where
   pub some_rows : 0 < batch_size
   pub some_source : 0 < length p.sources
   pub all_files : length ws ≡ files_wanted p
   pub steps : front ≡ leading_steps p
-  pub join_count : joins ≡ join_files p
+  pub side_count : sides ≡ side_files p
   pub told : map (λ f. f.items) feeds ≡ map Some (items_of_files batch_size 0 (file_layouts p) ws)
   pub nothing : first ≡ nothing_taken p
-  pub finished : Finishes MayCome (λ file item out. out ≡ work_on front joins file item) Takes feeds first trace last
+  pub finished : Finishes MayCome (λ file item out. out ≡ work_on front sides file item) Takes feeds first trace last
 
 -- then what was gathered has the plan's outcome, and the trace lists each file's batches if that is a frame
 pub record Gives (p : Physical) (batch_size : ℕ) (us : List (Stream ScanFault)) (last : List Gathered) (numbers : List (ℕ × ℕ)) : Type 0 where
-  pub outcome : (joins : List Gathered) (main : Gathered) → last ≡ joins ++ main ∷ [] → outcome_of_stages p.stages joins main ≡ outcome_of_run p us
+  pub outcome : (sides : List Gathered) (main : Gathered) → last ≡ sides ++ main ∷ [] → outcome_of_stages p.stages sides main ≡ outcome_of_run p us
   pub trace : IsOk (outcome_of_run p us) → numbers ≡ trace_of batch_size us

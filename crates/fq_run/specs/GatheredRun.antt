@@ -14,10 +14,10 @@ use Rattle.fq_run.specs.declared.stages.Stage.{Stage}
 pub record HasGathered {R : Type 0} (remaining : R → Option (List ℕ)) (readers : List R) (p : Physical) (batch_size : ℕ) (tail : TailState) (numbers : List (ℕ × ℕ)) : Type 0 where
   pub stages : List Stage
   pub after : Fields
-  pub joins : List Gathered
+  pub sides : List Gathered
   pub main : Gathered
-  pub fits : FitOver stages after joins main
-  pub stands : Stands stages after joins main tail
-  pub sound : AreSound (joins ++ main ∷ [])
-  pub outcome : (files : List (List ℕ)) → Tell remaining readers files → outcome_of_stages stages joins main ≡ outcome_of_run p (file_streams p files)
+  pub fits : FitOver stages after sides main
+  pub stands : Stands stages after sides main tail
+  pub sound : AreSound (sides ++ main ∷ [])
+  pub outcome : (files : List (List ℕ)) → Tell remaining readers files → outcome_of_stages stages sides main ≡ outcome_of_run p (file_streams p files)
   pub trace : (files : List (List ℕ)) → Tell remaining readers files → IsOk (outcome_of_run p (file_streams p files)) → numbers ≡ trace_of batch_size (file_streams p files)

@@ -8,4 +8,4 @@ use Rattle.fq_run.specs.declared.stages.Stage.{Stage}
 
 -- stages on rows with these columns, which they take to those
 abbrev pub later_steps : List Stage → List Gathered → Fields → Fields → Transforming
-later_steps stages joins before after = record { before = before; transforms = transforms_of (map (λ g. g.batch) joins) before stages; after = after }
+later_steps stages sides before after = record { before = before; transforms = transforms_of (map (λ g. g.batch) sides) before stages; after = after }

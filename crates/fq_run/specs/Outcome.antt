@@ -19,13 +19,13 @@ abbrev pub columns_after : Fields → List Transform → Fields
 columns_after fields [] = fields
 columns_after fields (m ∷ ms) = columns_after m.gives ms
 
--- what stages make of a stream of rows with these columns, where `joins` are the sources before the last
+-- what stages make of a stream of rows with these columns, where `sides` are the sources before the last
 abbrev pub outcome : List Frame → Fields → List Stage → Stream Fault → Result Frame Fault
-outcome joins fields stages u = frame_or_fault (columns_after fields (transforms_of joins fields stages)) (whole_all (transforms_of joins fields stages) u)
+outcome sides fields stages u = frame_or_fault (columns_after fields (transforms_of sides fields stages)) (whole_all (transforms_of sides fields stages) u)
 
 -- the first fault of the sources before the last, or what the stages make of the last
 abbrev pub outcome_of_stages : List Stage → List Gathered → Gathered → Result Frame Fault
-outcome_of_stages stages joins main = elim (first_fault (map gathered_stream joins)) [
+outcome_of_stages stages sides main = elim (first_fault (map gathered_stream sides)) [
   | Some f ↦ Err f
-  | None ↦ outcome (map (λ g. g.batch) joins) main.batch.fields stages (gathered_stream main)
+  | None ↦ outcome (map (λ g. g.batch) sides) main.batch.fields stages (gathered_stream main)
 ]

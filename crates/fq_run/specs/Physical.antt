@@ -22,8 +22,8 @@ pub record Physical : Type 0 where
 abbrev pub files_wanted : Physical → ℕ
 files_wanted p = sum_by (λ s. s.files) p.sources
 
-abbrev pub join_files : Physical → ℕ
-join_files p = sum_by (λ s. s.files) (but_last p.sources)
+abbrev pub side_files : Physical → ℕ
+side_files p = sum_by (λ s. s.files) (but_last p.sources)
 
 -- how each file is read, and the streams of the files' bytes, in argument order
 abbrev pub file_layouts : Physical → List Layout
@@ -33,8 +33,8 @@ abbrev pub file_streams : Physical → List (List ℕ) → List (Stream ScanFaul
 file_streams p files = streams_of_files (file_layouts p) files
 
 -- the columns of the sources before the last, of the last, and of the last after the leading steps
-abbrev pub join_fields : Physical → List Fields
-join_fields p = map (λ s. s.fields) (but_last p.sources)
+abbrev pub side_fields : Physical → List Fields
+side_fields p = map (λ s. s.fields) (but_last p.sources)
 
 abbrev pub main_fields : Physical → Fields
 main_fields p = last_or [] (map (λ s. s.fields) p.sources)
@@ -49,12 +49,12 @@ after_leading p u = apply_steps Overflow 0 (main_fields p) p.front u
 -- the outcome over the streams of the sources before the last, and of the last: the first fault of the former, or else what the
 -- leading steps and the stages make of the latter
 abbrev pub outcome_of_sources : Physical → List (Stream Fault) → Stream Fault → Result Frame Fault
-outcome_of_sources p joins main = elim (first_fault joins)
-    [ Some f ↦ Err f | None ↦ outcome (frames_of (but_last p.sources) joins) (front_fields p) p.stages (after_leading p main) ]
+outcome_of_sources p sides main = elim (first_fault sides)
+    [ Some f ↦ Err f | None ↦ outcome (frames_of (but_last p.sources) sides) (front_fields p) p.stages (after_leading p main) ]
 
 -- the outcome over the files' streams, in argument order
 abbrev pub outcome_of_files : Physical → List (Stream Fault) → Result Frame Fault
-outcome_of_files p us = outcome_of_sources p (source_streams (but_last p.sources) us) (concat_streams (drop (join_files p) us))
+outcome_of_files p us = outcome_of_sources p (source_streams (but_last p.sources) us) (concat_streams (drop (side_files p) us))
 
 -- the same, for streams that end in faults of the files
 abbrev pub outcome_of_run : Physical → List (Stream ScanFault) → Result Frame Fault

@@ -10,7 +10,7 @@ use Rattle.fq_ops.specs.Group.{group_schema}
 use Rattle.fq_ops.specs.Join.{join_schema}
 use Rattle.fq_ops.specs.Roll.{roll_schema}
 use Rattle.fq_ops.specs.declared.joins.How.{How}
-use Rattle.fq_run.specs.Physical.{Physical, files_wanted, front_fields, join_fields, main_fields}
+use Rattle.fq_run.specs.Physical.{Physical, files_wanted, front_fields, side_fields, main_fields}
 use Rattle.fq_run.specs.Sources.{Source}
 use Rattle.fq_run.specs.declared.physical_plans.TheConstants.{MAX_FILES}
 use Rattle.fq_run.specs.declared.stages.SourceFiles.{SourceFiles}
@@ -29,12 +29,12 @@ physical_of sources front stages = record { sources = map source_of_files source
 abbrev pub schema_with : How → Fields → List Name → Option Fields → Result Fields StepFault
 schema_with how fields on o = elim o [ None ↦ Err NoSuchSource | Some right ↦ join_schema how fields right on ]
 
--- below, `joins` are the columns of the sources before the last
-module _ (joins : List Fields) where
+-- below, `sides` are the columns of the sources before the last
+module _ (sides : List Fields) where
   -- an operator takes rows with these columns to rows with those
   abbrev pub Accepts : Fields → Operator → Fields → Type 0
   Accepts fields (Rows front) after = (front.fields ≡ fields) × (steps_schema fields front.steps ≡ Ok after)
-  Accepts fields (Join j) after = schema_with j.how fields (map string_bytes j.on.items) (slice_get joins j.source) ≡ Ok after
+  Accepts fields (Join j) after = schema_with j.how fields (map string_bytes j.on.items) (slice_get sides j.source) ≡ Ok after
   Accepts fields (GroupBy g) after = group_schema fields (map string_bytes g.keys.items) (outputs_of g.aggs.items) ≡ Ok after
   Accepts fields (RollingSum r) after = roll_schema fields (string_bytes r.column) (pos r.window) (pos r.min_samples) (string_bytes r.name) ≡ Ok after
 
@@ -50,4 +50,4 @@ pub record IsRunnable (sources : List SourceFiles) (front : NumberedSteps) (stag
   pub few_files : files_wanted (physical_of sources front stages) ≤ MAX_FILES
   pub from_first : front.first ≡ 0
   pub on_main : front.fields ≡ main_fields (physical_of sources front stages)
-  pub fits : (after : Fields) × Fit (join_fields (physical_of sources front stages)) (front_fields (physical_of sources front stages)) stages after
+  pub fits : (after : Fields) × Fit (side_fields (physical_of sources front stages)) (front_fields (physical_of sources front stages)) stages after

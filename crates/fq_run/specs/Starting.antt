@@ -11,11 +11,11 @@ use Rattle.fq_run.specs.declared.stages.Stage.{Stage}
 abbrev pub nothing : Frame
 nothing = record { fields = []; rows = [] }
 
-module _ (joins : List Frame) where
+module _ (sides : List Frame) where
   -- an operator whose first step is step n, on rows with these columns
   abbrev pub transform_of : ℕ → Fields → Operator → Transform
   transform_of n fields (Rows front) = steps_transform front
-  transform_of n fields (Join j) = let right = slice_index_or joins j.source nothing in
+  transform_of n fields (Join j) = let right = slice_index_or sides j.source nothing in
       join_transform n j.how (record { fields = right.fields; rows = right.rows; on = map string_bytes j.on.items; nulls_equal = j.nulls_equal }) fields
   transform_of n fields (GroupBy g) = group_transform n fields (map string_bytes g.keys.items) (outputs_of g.aggs.items)
   transform_of n fields (RollingSum r) = roll_transform n fields (string_bytes r.column) r.window r.min_samples (string_bytes r.name)

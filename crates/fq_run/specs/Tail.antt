@@ -2,13 +2,13 @@
 -- leading row-wise steps.
 use Rattle.std.specs.Prelude.{ℕ, ◌+◌, ◌&&◌, nat_le, nat_lt, List, [], ◌∷◌, ◌++◌, map, filter, if◌then◌else◌}
 use Rattle.fq_column.specs.Stream.{Stream}
-use Rattle.fq_run.specs.Physical.{Physical, after_leading, join_files}
+use Rattle.fq_run.specs.Physical.{Physical, after_leading, side_files}
 use Rattle.fq_run.specs.Sources.{Source, concat_streams}
 use Rattle.fq_run.specs.declared.faults.Fault.{Fault}
 
 -- a file's stream, or a piece of it, as the workers give it: after the leading steps if it is of the main source
 abbrev pub worked : Physical → ℕ → Stream Fault → Stream Fault
-worked p file u = if nat_lt file (join_files p) then u else after_leading p u
+worked p file u = if nat_lt file (side_files p) then u else after_leading p u
 
 -- so the streams of files, which are numbered from this one on
 abbrev pub worked_files : Physical → ℕ → List (Stream Fault) → List (Stream Fault)

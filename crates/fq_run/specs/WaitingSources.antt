@@ -6,6 +6,6 @@ use Rattle.fq_run.specs.declared.stages.Stage.{Stage}
 
 -- the sources so far, the columns of the main one's rows, and the stages that take these
 pub record WaitingSources : Type 0 where
-  pub joins : List Gathered
+  pub sides : List Gathered
   pub before : Fields
   pub stages : List Stage

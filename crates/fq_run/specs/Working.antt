@@ -31,9 +31,9 @@ abbrev pub stepped : NumberedSteps → Frame → Piece RowFault
 stepped front batch = let u = apply_steps fault_at front.first front.fields front.steps (done batch.rows) in
     record { batch = record { fields = fields_after_all front.fields front.steps; rows = u.rows }; fault = u.fault }
 
--- a batch of a file after the leading steps; those of files below `join_files`, and those of other columns, are left as they are
+-- a batch of a file after the leading steps; those of files below `side_files`, and those of other columns, are left as they are
 abbrev pub piece_of : NumberedSteps → ℕ → ℕ → Frame → Piece RowFault
-piece_of front join_files file batch = if nat_lt file join_files then untouched batch else (if same_fields batch.fields front.fields then stepped front batch else untouched batch)
+piece_of front side_files file batch = if nat_lt file side_files then untouched batch else (if same_fields batch.fields front.fields then stepped front batch else untouched batch)
 
 -- a piece, and the fault of the file after its rows, if there is one
 abbrev pub piece_until : Option ScanFault → Piece RowFault → Worked
@@ -42,8 +42,8 @@ piece_until (Some fault) p = worked.Cut p fault
 
 -- the work on an item: a run's rows, and the leading steps on them
 abbrev pub work_on : NumberedSteps → ℕ → ℕ → Scanned → Worked
-work_on front join_files file (scanned.Ended fault) = worked.Ended fault
-work_on front join_files file (scanned.Run run) = piece_until (rows_of_run run).fault (piece_of front join_files file (framed run.layout.schema (rows_of_run run).rows))
+work_on front side_files file (scanned.Ended fault) = worked.Ended fault
+work_on front side_files file (scanned.Run run) = piece_until (rows_of_run run).fault (piece_of front side_files file (framed run.layout.schema (rows_of_run run).rows))
 
 -- the stream that a worked item is
 abbrev pub piece_stream : Piece RowFault → Stream Fault

@@ -39,10 +39,10 @@ impl Display for Explanation<'_> {
 
 // The lines of the sources.
 fn write_sources<W: Write>(f: &mut Formatter<W>, plan: &PhysicalPlan) -> fmt::Result {
-    for (number, source) in plan.joins.iter().enumerate() {
+    for (number, source) in plan.sides.iter().enumerate() {
         write_source(f, number, source)?;
     }
-    write_source(f, plan.joins.len(), &plan.main)
+    write_source(f, plan.sides.len(), &plan.main)
 }
 
 // The lines of the leading steps, with the columns after each.

@@ -28,7 +28,7 @@ pub(crate) struct LeadingSteps {
     pub(crate) alloc: Global,
     pub(crate) front: Front,
     /// How many files are of the sources before the main one; their batches are left as they are.
-    pub(crate) join_files: u16,
+    pub(crate) side_files: u16,
 }
 
 impl Work for LeadingSteps {
@@ -36,7 +36,7 @@ impl Work for LeadingSteps {
 
     type Out = Worked;
 
-    ghost gives = { λ s file item out. out ≡ work_on s.front s.join_files file item };
+    ghost gives = { λ s file item out. out ≡ work_on s.front s.side_files file item };
 
     fn work(&self, file: u16, item: Scanned) -> Result<Worked, Memory> {
         match item {
@@ -49,7 +49,7 @@ impl Work for LeadingSteps {
 impl LeadingSteps {
     // The rows of a run after the steps, and the fault of the file that ends them.
     fn work_on(&self, file: u16, run: RecordRun) -> Result<Worked, Memory>
-        ensures { IfOk result (λ out. out ≡ work_on self.now.front self.now.join_files file (Scanned.Run run)) }
+        ensures { IfOk result (λ out. out ≡ work_on self.now.front self.now.side_files file (Scanned.Run run)) }
     {
         let Ok(rows) = run.into_batch(self.alloc) else {
             return Err(Memory);
@@ -63,9 +63,9 @@ impl LeadingSteps {
 
     // A batch after the steps; one of a source before the main one, or of other columns, is left as it is.
     fn step(&self, file: u16, batch: Batch) -> Result<Piece, Memory>
-        ensures { IfOk result (λ p. p ≡ piece_of self.now.front self.now.join_files file batch) }
+        ensures { IfOk result (λ p. p ≡ piece_of self.now.front self.now.side_files file batch) }
     {
-        if file < self.join_files || batch.schema() != self.front.schema() {
+        if file < self.side_files || batch.schema() != self.front.schema() {
             return Ok(Piece { batch, fault: None });
         }
         match self.front.apply(self.alloc, batch) {

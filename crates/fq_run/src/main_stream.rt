@@ -59,16 +59,16 @@ impl<'a> MainStream<'a> {
     /// The steps over the sources before the last, which have taken no row of the last; or the first fault of those sources.
     pub(crate) fn start(
         alloc: Global,
-        joins: Vec<Gathered>,
+        sides: Vec<Gathered>,
         before: Schema,
         stages: &'a [Stage],
     ) -> Result<MainStream<'a>, Fault>
-        requires { (after : Fields) × Fit (map (λ g. g.batch.fields) joins.items) before stages.now after }
-        ensures started { IfOk result (λ s. (after : Fields) → Fit (map (λ g. g.batch.fields) joins.items) before stages.entry.now after →
-            (first_fault (map gathered_stream joins.items) ≡ None) × (HasRun s.operators (later_steps stages.entry.now joins.items before after) [] [] × ((s.before ≡ before) × (s.text ≡ printed (record { fields = after; rows = [] }))))) }
-        ensures refused { IfErr result (λ f. (first_fault (map gathered_stream joins.items) ≡ Some f) ⊎ (f ≡ fault.Memory)) }
+        requires { (after : Fields) × Fit (map (λ g. g.batch.fields) sides.items) before stages.now after }
+        ensures started { IfOk result (λ s. (after : Fields) → Fit (map (λ g. g.batch.fields) sides.items) before stages.entry.now after →
+            (first_fault (map gathered_stream sides.items) ≡ None) × (HasRun s.operators (later_steps stages.entry.now sides.items before after) [] [] × ((s.before ≡ before) × (s.text ≡ printed (record { fields = after; rows = [] }))))) }
+        ensures refused { IfErr result (λ f. (first_fault (map gathered_stream sides.items) ≡ Some f) ⊎ (f ≡ fault.Memory)) }
     {
-        let batches = whole_batches(alloc, joins)?;
+        let batches = whole_batches(alloc, sides)?;
         let (pipeline, after) = Pipeline::start(alloc, batches.as_slice(), &before, stages)?;
         let text = PrintedText::new(alloc, &after)?;
         Ok(MainStream {

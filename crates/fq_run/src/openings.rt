@@ -14,13 +14,13 @@ use std::io::Read;
 /// How each file is read, in argument order.
 pub(crate) fn file_layouts(
     alloc: Global,
-    joins: &[SourceFiles],
+    sides: &[SourceFiles],
     main: &SourceFiles,
 ) -> Result<Vec<Layout>, Memory>
-    ensures { IfOk result (λ layouts. layouts.items ≡ flat_map (λ s. replicate s.files s.layout) (joins.now ++ main.now ∷ [])) }
+    ensures { IfOk result (λ layouts. layouts.items ≡ flat_map (λ s. replicate s.files s.layout) (sides.now ++ main.now ∷ [])) }
 {
     let mut layouts = Vec::new(alloc);
-    for source in joins {
+    for source in sides {
         push_layouts(alloc, &mut layouts, source)?;
     }
     push_layouts(alloc, &mut layouts, main)?;
@@ -67,11 +67,11 @@ pub(crate) fn open_feeds<R: Read + Drop>(
 }
 
 /// The sources before the main one, with no rows.
-pub(crate) fn empty_sources(alloc: Global, joins: &[SourceFiles]) -> Result<Vec<Gathered>, Memory>
-    ensures { IfOk result (λ sources. sources.items ≡ map (λ s. no_rows s.files s.layout.schema) joins.now) }
+pub(crate) fn empty_sources(alloc: Global, sides: &[SourceFiles]) -> Result<Vec<Gathered>, Memory>
+    ensures { IfOk result (λ sources. sources.items ≡ map (λ s. no_rows s.files s.layout.schema) sides.now) }
 {
-    let mut sources = Vec::with_capacity(alloc, joins.len())?;
-    for source in joins {
+    let mut sources = Vec::with_capacity(alloc, sides.len())?;
+    for source in sides {
         let schema = source.layout.schema.copy(alloc)?;
         sources.push(Gathered::new(alloc, source.files, schema)?)?;
     }

@@ -74,19 +74,19 @@ impl<'a> Running<'a> {
     /// The operator of a stage that has taken no row, on rows of a schema.
     pub(crate) fn start(
         alloc: Global,
-        joins: &[Batch],
+        sides: &[Batch],
         schema: &Schema,
         stage: &'a Stage,
     ) -> Result<Running<'a>, Memory>
-        requires { (after : Fields) × Accepts (map (λ f. f.fields) joins.now) schema.now stage.now.operator after }
-        ensures { IfOk result (λ r. (after : Fields) → Accepts (map (λ f. f.fields) joins.now) schema.now stage.entry.now.operator after →
-            HasTaken r (transform_of joins.now stage.entry.now.number schema.now stage.entry.now.operator) []) }
+        requires { (after : Fields) × Accepts (map (λ f. f.fields) sides.now) schema.now stage.now.operator after }
+        ensures { IfOk result (λ r. (after : Fields) → Accepts (map (λ f. f.fields) sides.now) schema.now stage.entry.now.operator after →
+            HasTaken r (transform_of sides.now stage.entry.now.number schema.now stage.entry.now.operator) []) }
     {
         let number = stage.number;
         match &stage.operator {
             Operator::Rows(front) => Ok(Running::Rows(front)),
             Operator::Join(join) => {
-                let right = &joins[join.source];
+                let right = &sides[join.source];
                 Ok(Running::Join(Joining::new(alloc, number, right, join)?))
             }
             Operator::GroupBy(group_by) => {

@@ -1,7 +1,7 @@
 //! Physical plans.
 ghost use Rattle.std.specs.Prelude.{◌≡◌, ◌++◌, ◌∷◌, []};
 ghost use Rattle.fq_expr.specs.Steps.{fields_after_all};
-ghost use Rattle.fq_run.specs.Physical.{files_wanted, join_files as files_before_main};
+ghost use Rattle.fq_run.specs.Physical.{files_wanted, side_files as files_before_main};
 ghost use Rattle.fq_run.specs.Stages.{IsRunnable, physical_of};
 
 use crate::leading_steps::LeadingSteps;
@@ -22,7 +22,7 @@ const _: () = prove!(MAX_FILES as usize == MAX_FEEDS);
 #[derive(Drop)]
 pub struct PhysicalPlan {
     /// The sources before the main one.
-    pub(crate) joins: Vec<SourceFiles>,
+    pub(crate) sides: Vec<SourceFiles>,
     pub(crate) main: SourceFiles,
     pub(crate) leading: LeadingSteps,
     /// The main source's columns after the leading steps.
@@ -43,13 +43,13 @@ impl Model for PhysicalPlan {
 
     ghost use Rattle.std.specs.Prelude.{◌≡◌, ◌++◌, ◌∷◌, []};
     ghost use Rattle.fq_expr.specs.Steps.{fields_after_all};
-    ghost use Rattle.fq_run.specs.Physical.{join_files};
+    ghost use Rattle.fq_run.specs.Physical.{side_files};
     ghost use Rattle.fq_run.specs.Stages.{IsRunnable, physical_of};
 
-    ghost view = { λ p. physical_of (p.joins.items ++ p.main ∷ []) p.leading.front p.stages.items };
+    ghost view = { λ p. physical_of (p.sides.items ++ p.main ∷ []) p.leading.front p.stages.items };
 
-    ghost invariant = { λ p. IsRunnable (p.joins.items ++ p.main ∷ []) p.leading.front p.stages.items p.inputs
-        × (p.leading.join_files ≡ join_files (physical_of (p.joins.items ++ p.main ∷ []) p.leading.front p.stages.items))
+    ghost invariant = { λ p. IsRunnable (p.sides.items ++ p.main ∷ []) p.leading.front p.stages.items p.inputs
+        × (p.leading.side_files ≡ side_files (physical_of (p.sides.items ++ p.main ∷ []) p.leading.front p.stages.items))
         × (p.after_leading ≡ fields_after_all p.leading.front.fields p.leading.front.steps) };
 }
 
@@ -57,26 +57,26 @@ impl PhysicalPlan {
     /// A plan over so many files, of which so many are of the sources before the main one.
     pub fn new(
         alloc: Global,
-        joins: Vec<SourceFiles>,
+        sides: Vec<SourceFiles>,
         main: SourceFiles,
         front: Front,
         after_leading: Schema,
         stages: Vec<Stage>,
         inputs: u16,
-        join_files: u16,
+        side_files: u16,
     ) -> PhysicalPlan
-        requires runnable { IsRunnable (joins.items ++ main ∷ []) front stages.items inputs }
-        requires before_main { join_files ≡ files_before_main (physical_of (joins.items ++ main ∷ []) front stages.items) }
+        requires runnable { IsRunnable (sides.items ++ main ∷ []) front stages.items inputs }
+        requires before_main { side_files ≡ files_before_main (physical_of (sides.items ++ main ∷ []) front stages.items) }
         requires columns { after_leading ≡ fields_after_all front.fields front.steps }
-        ensures { result ≡ physical_of (joins.items ++ main ∷ []) front stages.items }
+        ensures { result ≡ physical_of (sides.items ++ main ∷ []) front stages.items }
     {
         PhysicalPlan {
-            joins,
+            sides,
             main,
             leading: LeadingSteps {
                 alloc,
                 front,
-                join_files,
+                side_files,
             },
             after_leading,
             stages,

@@ -22,18 +22,18 @@ impl<'a> Pipeline<'a> {
     /// The operators of stages that have taken no row, on rows of a schema; and the schema of what they pass on.
     pub(crate) fn start(
         alloc: Global,
-        joins: &[Batch],
+        sides: &[Batch],
         schema: &Schema,
         stages: &'a [Stage],
     ) -> Result<(Pipeline<'a>, Schema), Memory>
-        requires { (after : Fields) × Fit (map (λ f. f.fields) joins.now) schema.now stages.now after }
-        ensures { IfOk result (λ r. (after : Fields) → Fit (map (λ f. f.fields) joins.now) schema.now stages.entry.now after →
-            (r.1 ≡ after) × HasRun r.0.operators.items (record { before = schema.now; transforms = transforms_of joins.now schema.now stages.entry.now; after = after }) [] []) }
+        requires { (after : Fields) × Fit (map (λ f. f.fields) sides.now) schema.now stages.now after }
+        ensures { IfOk result (λ r. (after : Fields) → Fit (map (λ f. f.fields) sides.now) schema.now stages.entry.now after →
+            (r.1 ≡ after) × HasRun r.0.operators.items (record { before = schema.now; transforms = transforms_of sides.now schema.now stages.entry.now; after = after }) [] []) }
     {
         let mut operators = Vec::with_capacity(alloc, stages.len())?;
         let mut at = schema;
         for stage in stages {
-            operators.push(Running::start(alloc, joins, at, stage)?)?;
+            operators.push(Running::start(alloc, sides, at, stage)?)?;
             at = &stage.after;
         }
         Ok((Pipeline { operators }, at.copy(alloc)?))

@@ -33,7 +33,7 @@ pub(crate) enum TailState<'a> {
 impl<'a> TailState<'a> {
     // Takes a worked item of a source before the main one.
     fn take_before_main(self, file: u16, item: Worked) -> Result<TailState<'a>, Memory>
-        ensures { IfOk result (λ t. (stages : List Stage) (joins : List Source) (main : Source) → Waits stages joins main self.entry → Waits stages (taken_in file item joins) main t) }
+        ensures { IfOk result (λ t. (stages : List Stage) (sides : List Source) (main : Source) → Waits stages sides main self.entry → Waits stages (taken_in file item sides) main t) }
     {
         match self {
             TailState::Waiting(waiting) => Ok(TailState::Waiting(waiting.take(file, item)?)),
@@ -43,8 +43,8 @@ impl<'a> TailState<'a> {
 
     // Takes a worked item of the main source.
     fn take_main(self, alloc: Global, item: Worked) -> Result<TailState<'a>, Memory>
-        ensures { IfOk result (λ t. (stages : List Stage) (after : Fields) (joins : List Source) (main : Source) → FitOver stages after joins main → Stands stages after joins main self.entry →
-            Stands stages after joins (gathered main item) t) }
+        ensures { IfOk result (λ t. (stages : List Stage) (after : Fields) (sides : List Source) (main : Source) → FitOver stages after sides main → Stands stages after sides main self.entry →
+            Stands stages after sides (gathered main item) t) }
     {
         match self.pass(alloc, item) {
             Ok(stream) => Ok(TailState::Streaming(stream)),
@@ -55,10 +55,10 @@ impl<'a> TailState<'a> {
 
     // Passes a worked item of the main source on to its rows, unless a fault ends all.
     fn pass(self, alloc: Global, item: Worked) -> Result<MainStream<'a>, Fault>
-        ensures streaming { IfOk result (λ s. (stages : List Stage) (after : Fields) (joins : List Source) (main : Source) → FitOver stages after joins main → Stands stages after joins main self.entry →
-            IsStreaming stages after joins (gathered main item) s) }
-        ensures settled { IfErr result (λ f. (stages : List Stage) (after : Fields) (joins : List Source) (main : Source) → FitOver stages after joins main → Stands stages after joins main self.entry →
-            (f ≡ fault.Memory) ⊎ IsSettled stages after joins (gathered main item) f) }
+        ensures streaming { IfOk result (λ s. (stages : List Stage) (after : Fields) (sides : List Source) (main : Source) → FitOver stages after sides main → Stands stages after sides main self.entry →
+            IsStreaming stages after sides (gathered main item) s) }
+        ensures settled { IfErr result (λ f. (stages : List Stage) (after : Fields) (sides : List Source) (main : Source) → FitOver stages after sides main → Stands stages after sides main self.entry →
+            (f ≡ fault.Memory) ⊎ IsSettled stages after sides (gathered main item) f) }
     {
         let stream = self.open(alloc)?;
         Ok(stream.take(alloc, item)?)
@@ -66,10 +66,10 @@ impl<'a> TailState<'a> {
 
     // The main source's rows on their way, unless a fault ends all; with the first of them, the sources before it are whole.
     fn open(self, alloc: Global) -> Result<MainStream<'a>, Fault>
-        ensures streaming { IfOk result (λ s. (stages : List Stage) (after : Fields) (joins : List Source) (main : Source) → FitOver stages after joins main → Stands stages after joins main self.entry →
-            IsStreaming stages after joins main s) }
-        ensures settled { IfErr result (λ f. (stages : List Stage) (after : Fields) (joins : List Source) (main : Source) → FitOver stages after joins main → Stands stages after joins main self.entry →
-            (f ≡ fault.Memory) ⊎ IsSettled stages after joins main f) }
+        ensures streaming { IfOk result (λ s. (stages : List Stage) (after : Fields) (sides : List Source) (main : Source) → FitOver stages after sides main → Stands stages after sides main self.entry →
+            IsStreaming stages after sides main s) }
+        ensures settled { IfErr result (λ f. (stages : List Stage) (after : Fields) (sides : List Source) (main : Source) → FitOver stages after sides main → Stands stages after sides main self.entry →
+            (f ≡ fault.Memory) ⊎ IsSettled stages after sides main f) }
     {
         match self {
             TailState::Waiting(waiting) => waiting.start(alloc),
@@ -80,8 +80,8 @@ impl<'a> TailState<'a> {
 
     // The text of the frame of all that was taken, or the fault in which it ends.
     fn finish(self, alloc: Global) -> Result<PrintedText, Fault>
-        ensures { (stages : List Stage) (after : Fields) (joins : List Source) (main : Source) → FitOver stages after joins main → Stands stages after joins main self.entry →
-            Prints (outcome_of_stages stages joins main) result }
+        ensures { (stages : List Stage) (after : Fields) (sides : List Source) (main : Source) → FitOver stages after sides main → Stands stages after sides main self.entry →
+            Prints (outcome_of_stages stages sides main) result }
     {
         let stream = self.open(alloc)?;
         stream.finish(alloc)
@@ -93,21 +93,21 @@ impl<'a> TailState<'a> {
 pub(crate) struct RunTail<'a> {
     alloc: Global,
     /// How many files are of the sources before the main one.
-    pub(crate) join_files: u16,
+    pub(crate) side_files: u16,
     pub(crate) state: TailState<'a>,
 }
 
 impl<'a> Tail for RunTail<'a> {
     type Out = Worked;
 
-    ghost takes = { λ old file _ out new. TailTakes old.join_files old.state file out new.join_files new.state };
+    ghost takes = { λ old file _ out new. TailTakes old.side_files old.state file out new.side_files new.state };
 
     ghost refuses = { λ _ _. Unit {0} };
 
     fn take(&mut self, file: u16, _serial: u32, out: Worked) -> Result<(), fq_lanes::Memory> {
         // a refused item leaves a tail that has ended
         let state = mem::replace(&mut self.state, TailState::Ended(Fault::Memory));
-        let taken = if file < self.join_files {
+        let taken = if file < self.side_files {
             state.take_before_main(file, out)
         } else {
             state.take_main(self.alloc, out)
@@ -124,21 +124,21 @@ impl<'a> Tail for RunTail<'a> {
 
 impl<'a> RunTail<'a> {
     /// A tail that has taken nothing, of which so many files are of the sources before the main one.
-    pub(crate) fn new(alloc: Global, join_files: u16, waiting: Waiting<'a>) -> RunTail<'a>
-        ensures files { result.join_files ≡ join_files }
-        ensures waits { (stages : List Stage) (joins : List Source) (main : Source) → IsWaiting stages joins main waiting.entry → Waits stages joins main result.state }
+    pub(crate) fn new(alloc: Global, side_files: u16, waiting: Waiting<'a>) -> RunTail<'a>
+        ensures files { result.side_files ≡ side_files }
+        ensures waits { (stages : List Stage) (sides : List Source) (main : Source) → IsWaiting stages sides main waiting.entry → Waits stages sides main result.state }
     {
         RunTail {
             alloc,
-            join_files,
+            side_files,
             state: TailState::Waiting(waiting),
         }
     }
 
     /// The text of the frame of all that was taken, or the fault in which it ends.
     pub(crate) fn finish(self) -> Result<PrintedText, Fault>
-        ensures { (stages : List Stage) (after : Fields) (joins : List Source) (main : Source) → FitOver stages after joins main → Stands stages after joins main self.entry.state →
-            Prints (outcome_of_stages stages joins main) result }
+        ensures { (stages : List Stage) (after : Fields) (sides : List Source) (main : Source) → FitOver stages after sides main → Stands stages after sides main self.entry.state →
+            Prints (outcome_of_stages stages sides main) result }
     {
         self.state.finish(self.alloc)
     }

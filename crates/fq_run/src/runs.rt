@@ -121,13 +121,13 @@ impl PhysicalPlan {
         ensures gathered { IfOk result (λ r. HasGathered R.remaining inputs.items self.entry.now batch_size r.0.state r.1.trace.items) }
         ensures fault { IfErr result IsEngineFault }
     {
-        let joins = self.joins.as_slice();
-        let layouts = file_layouts(alloc, joins, &self.main)?;
+        let sides = self.sides.as_slice();
+        let layouts = file_layouts(alloc, sides, &self.main)?;
         let feeds = open_feeds(alloc, layouts, inputs, batch_size)?;
-        let sources = empty_sources(alloc, joins)?;
+        let sources = empty_sources(alloc, sides)?;
         let before = self.after_leading.copy(alloc)?;
         let waiting = Waiting::new(sources, before, self.stages.as_slice());
-        let tail = RunTail::new(alloc, self.leading.join_files, waiting);
+        let tail = RunTail::new(alloc, self.leading.side_files, waiting);
         let (tail, outcome) = run_lanes(rt, alloc, feeds, &self.leading, gate, tail, workers);
         Ok((tail, outcome?))
     }

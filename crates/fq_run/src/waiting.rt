@@ -21,7 +21,7 @@ use std::marker::Model;
 /// Sources whose rows are gathered, and the steps that take the main source's rows once these are there.
 #[derive(Drop)]
 pub(crate) struct Waiting<'a> {
-    joins: Vec<Gathered>,
+    sides: Vec<Gathered>,
     before: Schema,
     stages: &'a [Stage],
 }
@@ -40,19 +40,19 @@ impl<'a> Model for Waiting<'a> {
     ghost use Rattle.fq_column.specs.Frame.{Fields};
     ghost use Rattle.fq_run.specs.Stages.{Fit};
 
-    ghost view = { λ w. record { joins = w.joins.items; before = w.before; stages = w.stages.now } };
+    ghost view = { λ w. record { sides = w.sides.items; before = w.before; stages = w.stages.now } };
 
-    ghost invariant = { λ w. (after : Fields) × Fit (map (λ g. g.batch.fields) w.joins.items) w.before w.stages.now after };
+    ghost invariant = { λ w. (after : Fields) × Fit (map (λ g. g.batch.fields) w.sides.items) w.before w.stages.now after };
 }
 
 impl<'a> Waiting<'a> {
     /// Sources, and the steps after the leading ones on rows of a schema.
-    pub(crate) fn new(joins: Vec<Gathered>, before: Schema, stages: &'a [Stage]) -> Waiting<'a>
-        requires { (after : Fields) × Fit (map (λ g. g.batch.fields) joins.items) before stages.now after }
-        ensures { result ≡ record { joins = joins.items; before = before; stages = stages.entry.now } }
+    pub(crate) fn new(sides: Vec<Gathered>, before: Schema, stages: &'a [Stage]) -> Waiting<'a>
+        requires { (after : Fields) × Fit (map (λ g. g.batch.fields) sides.items) before stages.now after }
+        ensures { result ≡ record { sides = sides.items; before = before; stages = stages.entry.now } }
     {
         Waiting {
-            joins,
+            sides,
             before,
             stages,
         }
@@ -60,17 +60,17 @@ impl<'a> Waiting<'a> {
 
     /// Takes a worked item of one of the sources.
     pub(crate) fn take(self, file: u16, item: Worked) -> Result<Waiting<'a>, Memory>
-        ensures { IfOk result (λ w. w ≡ record { joins = taken_in file item self.entry.joins; before = self.entry.before; stages = self.entry.stages }) }
+        ensures { IfOk result (λ w. w ≡ record { sides = taken_in file item self.entry.sides; before = self.entry.before; stages = self.entry.stages }) }
     {
         let Waiting {
-            joins,
+            sides,
             before,
             stages,
         } = self;
-        let mut joins = joins;
-        take_in(joins.as_mut_slice(), file, item)?;
+        let mut sides = sides;
+        take_in(sides.as_mut_slice(), file, item)?;
         Ok(Waiting {
-            joins,
+            sides,
             before,
             stages,
         })
@@ -78,15 +78,15 @@ impl<'a> Waiting<'a> {
 
     /// The steps over the sources, which are whole; or the first fault of these.
     pub(crate) fn start(self, alloc: Global) -> Result<MainStream<'a>, Fault>
-        ensures started { IfOk result (λ s. (after : Fields) → Fit (map (λ g. g.batch.fields) self.entry.joins) self.entry.before self.entry.stages after →
-            (first_fault (map gathered_stream self.entry.joins) ≡ None) × (HasRun s.operators (later_steps self.entry.stages self.entry.joins self.entry.before after) [] [] × ((s.before ≡ self.entry.before) × (s.text ≡ printed (record { fields = after; rows = [] }))))) }
-        ensures refused { IfErr result (λ f. (first_fault (map gathered_stream self.entry.joins) ≡ Some f) ⊎ (f ≡ fault.Memory)) }
+        ensures started { IfOk result (λ s. (after : Fields) → Fit (map (λ g. g.batch.fields) self.entry.sides) self.entry.before self.entry.stages after →
+            (first_fault (map gathered_stream self.entry.sides) ≡ None) × (HasRun s.operators (later_steps self.entry.stages self.entry.sides self.entry.before after) [] [] × ((s.before ≡ self.entry.before) × (s.text ≡ printed (record { fields = after; rows = [] }))))) }
+        ensures refused { IfErr result (λ f. (first_fault (map gathered_stream self.entry.sides) ≡ Some f) ⊎ (f ≡ fault.Memory)) }
     {
         let Waiting {
-            joins,
+            sides,
             before,
             stages,
         } = self;
-        MainStream::start(alloc, joins, before, stages)
+        MainStream::start(alloc, sides, before, stages)
     }
 }

@@ -51,8 +51,8 @@ pub fn check_leading(
     requires { length steps.now ≤ MAX_STEPS }
     ensures place { (sources total : ℕ) → length steps.now ≤ total → IsPlaceOf sources total place.old → IsPlaceOf sources total place.new }
     ensures ok { IfOk result (λ after. steps_schema main.now (map step_of steps.now) ≡ Ok after) }
-    ensures refused { IfErr result (λ code. ((joins : List Fields) (rest : List PlanStep) →
-        judged_steps joins 0 main.now (map row_wise (map step_of steps.now) ++ rest) ≡ Err (refused_at place.new code)) ⊎ (code ≡ StepFault.Memory)) }
+    ensures refused { IfErr result (λ code. ((sides : List Fields) (rest : List PlanStep) →
+        judged_steps sides 0 main.now (map row_wise (map step_of steps.now) ++ rest) ≡ Err (refused_at place.new code)) ⊎ (code ≡ StepFault.Memory)) }
 {
     let mut schema = main.copy(alloc)?;
     for i in 0..steps.len() {
@@ -66,7 +66,7 @@ pub fn check_leading(
 /// which leaves the place of its step.
 pub fn check_stages(
     alloc: Global,
-    joins: &[SourceFiles],
+    sides: &[SourceFiles],
     first: u16,
     mut schema: Schema,
     steps: Vec<Step>,
@@ -75,14 +75,14 @@ pub fn check_stages(
     requires { first + vec_len steps ≤ MAX_STEPS }
     ensures place { (sources total : ℕ) → first + length steps.items ≤ total → IsPlaceOf sources total place.old → IsPlaceOf sources total place.new }
     ensures steps { IfOk result (λ stages. stage_steps stages.items ≡ map plan_step_of steps.items) }
-    ensures leads { IfOk result (λ stages. (after : Fields) × Leads (columns_of joins.now) first schema stages.items after) }
-    ensures refused { IfErr result (λ code. (judged_steps (columns_of joins.now) first schema (map plan_step_of steps.items) ≡ Err (refused_at place.new code)) ⊎ (code ≡ StepFault.Memory)) }
+    ensures leads { IfOk result (λ stages. (after : Fields) × Leads (columns_of sides.now) first schema stages.items after) }
+    ensures refused { IfErr result (λ code. (judged_steps (columns_of sides.now) first schema (map plan_step_of steps.items) ≡ Err (refused_at place.new code)) ⊎ (code ≡ StepFault.Memory)) }
 {
     let mut stages = Vec::with_capacity(alloc, steps.len())?;
     for step in steps {
         let number = first + stages.len() as u16;
         *place = Place::Step(number);
-        let (operator, after) = check_step(alloc, joins, number, schema, step)?;
+        let (operator, after) = check_step(alloc, sides, number, schema, step)?;
         schema = after.copy(alloc)?;
         stages.push(Stage {
             number,
@@ -96,15 +96,15 @@ pub fn check_stages(
 // The operator of a step on rows of a schema, and the schema after it; or the step's first refusal.
 fn check_step(
     alloc: Global,
-    joins: &[SourceFiles],
+    sides: &[SourceFiles],
     number: u16,
     schema: Schema,
     step: Step,
 ) -> Result<(Operator, Schema), StepFault>
     requires { number + 1 ≤ MAX_STEPS }
     ensures step { IfOk result (λ r. operator_steps r.0 ≡ plan_step_of step ∷ []) }
-    ensures turns { IfOk result (λ r. Turns (columns_of joins.now) number schema r.0 r.1) }
-    ensures refused { IfErr result (λ code. (judged_step (columns_of joins.now) schema (plan_step_of step) ≡ Err code) ⊎ (code ≡ StepFault.Memory)) }
+    ensures turns { IfOk result (λ r. Turns (columns_of sides.now) number schema r.0 r.1) }
+    ensures refused { IfErr result (λ code. (judged_step (columns_of sides.now) schema (plan_step_of step) ≡ Err code) ⊎ (code ≡ StepFault.Memory)) }
 {
     match step {
         Step::Rows(step) => check_rows(alloc, number, schema, step),
@@ -113,7 +113,7 @@ fn check_step(
             on,
             how,
             nulls_equal,
-        } => check_join(alloc, joins, &schema, source, on, how, nulls_equal),
+        } => check_join(alloc, sides, &schema, source, on, how, nulls_equal),
         Step::GroupBy { keys, aggs } => check_grouping(alloc, &schema, keys, aggs),
         Step::RollingSum {
             column,
@@ -133,7 +133,7 @@ fn check_rows(
 ) -> Result<(Operator, Schema), StepFault>
     requires { number + 1 ≤ MAX_STEPS }
     ensures step { IfOk result (λ r. operator_steps r.0 ≡ row_wise (step_of step) ∷ []) }
-    ensures turns { IfOk result (λ r. (joins : List Fields) → Turns joins number schema r.0 r.1) }
+    ensures turns { IfOk result (λ r. (sides : List Fields) → Turns sides number schema r.0 r.1) }
     ensures refused { IfErr result (λ code. (step_schema schema (step_of step) ≡ Err code) ⊎ (code ≡ StepFault.Memory)) }
 {
     let after = step.schema(alloc, &schema)?;
@@ -146,7 +146,7 @@ fn check_rows(
 // `check_step` of a join.
 fn check_join(
     alloc: Global,
-    joins: &[SourceFiles],
+    sides: &[SourceFiles],
     schema: &Schema,
     source: i64,
     on: Vec<String>,
@@ -154,10 +154,10 @@ fn check_join(
     nulls_equal: bool,
 ) -> Result<(Operator, Schema), StepFault>
     ensures step { IfOk result (λ r. operator_steps r.0 ≡ join source (map string_bytes on.items) how nulls_equal ∷ []) }
-    ensures turns { IfOk result (λ r. (number : ℕ) → Turns (columns_of joins.now) number schema.now r.0 r.1) }
-    ensures refused { IfErr result (λ code. (judged_step (columns_of joins.now) schema.now (join source (map string_bytes on.items) how nulls_equal) ≡ Err code) ⊎ (code ≡ StepFault.Memory)) }
+    ensures turns { IfOk result (λ r. (number : ℕ) → Turns (columns_of sides.now) number schema.now r.0 r.1) }
+    ensures refused { IfErr result (λ code. (judged_step (columns_of sides.now) schema.now (join source (map string_bytes on.items) how nulls_equal) ≡ Err code) ⊎ (code ≡ StepFault.Memory)) }
 {
-    let Some((source, right)) = source_at(joins, source) else {
+    let Some((source, right)) = source_at(sides, source) else {
         return Err(StepFault::NoSuchSource);
     };
     let after = join_schema(alloc, schema, &right.layout.schema, on.as_slice(), how)?;
@@ -178,7 +178,7 @@ fn check_grouping(
     aggs: Vec<Agg>,
 ) -> Result<(Operator, Schema), StepFault>
     ensures step { IfOk result (λ r. operator_steps r.0 ≡ group_by (map string_bytes keys.items) (outputs_of aggs.items) ∷ []) }
-    ensures turns { IfOk result (λ r. (joins : List Fields) (number : ℕ) → Turns joins number schema.now r.0 r.1) }
+    ensures turns { IfOk result (λ r. (sides : List Fields) (number : ℕ) → Turns sides number schema.now r.0 r.1) }
     ensures refused { IfErr result (λ code. (group_schema_of schema.now (map string_bytes keys.items) (outputs_of aggs.items) ≡ Err code) ⊎ (code ≡ StepFault.Memory)) }
 {
     let after = group_schema(alloc, schema, keys.as_slice(), aggs.as_slice())?;
@@ -195,7 +195,7 @@ fn check_rolling(
     name: String,
 ) -> Result<(Operator, Schema), StepFault>
     ensures step { IfOk result (λ r. operator_steps r.0 ≡ rolling_sum (string_bytes column) window min_samples (string_bytes name) ∷ []) }
-    ensures turns { IfOk result (λ r. (joins : List Fields) (number : ℕ) → Turns joins number schema.now r.0 r.1) }
+    ensures turns { IfOk result (λ r. (sides : List Fields) (number : ℕ) → Turns sides number schema.now r.0 r.1) }
     ensures refused { IfErr result (λ code. (roll_schema_of schema.now (string_bytes column) window min_samples (string_bytes name) ≡ Err code) ⊎ (code ≡ StepFault.Memory)) }
 {
     let after = roll_schema(

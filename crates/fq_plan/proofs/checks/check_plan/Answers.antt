@@ -12,7 +12,7 @@ use Rattle.fq_plan.specs.Judged.{IsPlaceOf, checked, judged_steps, source_refusa
 use Rattle.fq_plan.specs.Plan.{PlanStep, Query, IsWithinLimits, row_wise}
 use Rattle.fq_run.specs.Sources.{Source}
 use Rattle.fq_plan.specs.Stages.{columns_of, query_of, stage_steps, IsChecked, Leads}
-use Rattle.fq_run.specs.Physical.{Physical, join_files}
+use Rattle.fq_run.specs.Physical.{Physical, side_files}
 use Rattle.fq_run.specs.Stages.{physical_of, source_of_files, IsRunnable}
 use Rattle.fq_plan.specs.View.{plan_step_of, source_data}
 use Rattle.fq_plan.proofs.PreparedLemmas.{checked-is, leading-refuses, prepared, runnable, stages-refuse, steps-are}
@@ -20,9 +20,9 @@ use Rattle.fq_plan.specs.declared.faults.Place.{Place}
 use Rattle.fq_run.specs.declared.stages.SourceFiles.{SourceFiles}
 use Rattle.fq_run.proofs.StageLemmas.{fields-after-all}
 use Rattle.fq_plan.proofs.SplitLemmas.{few-split, length-split}
-use Rattle.fq_run.proofs.RunStartLemmas.{join-count, wanted-is}
+use Rattle.fq_run.proofs.RunStartLemmas.{side-count, wanted-is}
 use Rattle.fq_plan.proofs.checks.check_plan.Goals as goal
-use Rattle.fq_plan.proofs.checks.check_plan.Goals.{In_ok-joins, In_ok-leading, In_ok-schema, In_ok-stages}
+use Rattle.fq_plan.proofs.checks.check_plan.Goals.{In_ok-sides, In_ok-leading, In_ok-schema, In_ok-stages}
 
 pub check_leading-requires : goal.check_leading-requires
 check_leading-requires c =
@@ -55,34 +55,34 @@ new-requires-clause-numbers c =
 pub returns-in_err-schema-clause-refused : goal.returns-in_err-schema-clause-refused
 returns-in_err-schema-clause-refused c =
     let exit = err_from_is_err_and c.from_residual-in_err-schema.result c.from_residual-in_err-schema.ensures.1 in
-    let sources = c.in_ok-joins.joins.items in
+    let sources = c.in_ok-sides.sides.items in
     let steps = map plan_step_of c.plan.inside.steps.items in
     let parts = c.pop.ensures.items ∙ ap (λ (o : Option SourceFiles). c.pop.new.self.items ++ option_to_list o) c.in-Some.is in
     let of_sources : List Source → Query = λ ss. record { sources = ss; steps = steps } in
-    let passed = ap (source_refusal 0) c.in_ok-joins.ensures.sources ∙ c.in_ok-joins.ensures.passed in
+    let passed = ap (source_refusal 0) c.in_ok-sides.ensures.sources ∙ c.in_ok-sides.ensures.passed in
     rw (exit.1, exit.2) (elim c.in_err-schema.ensures.refused [
       | inl e ↦ inl (
-          ap checked (sym c.plan.view_is ∙ ap of_sources (sym c.in_ok-joins.ensures.sources))
+          ap checked (sym c.plan.view_is ∙ ap of_sources (sym c.in_ok-sides.ensures.sources))
           ∙ leading-refuses sources c.pop.new.self.items c.in-Some.main parts steps (map step_of c.in_ok-leading.leading.items) c.in_ok-leading.ensures.leading _ passed
-          (λ joins rest. ap (λ (ss : List RowStep). judged_steps joins 0 c.in-Some.main.layout.schema (map row_wise (map step_of ss) ++ rest)) (sym c.as_slice.ensures.value) ∙ e joins rest))
+          (λ sides rest. ap (λ (ss : List RowStep). judged_steps sides 0 c.in-Some.main.layout.schema (map row_wise (map step_of ss) ++ rest)) (sym c.as_slice.ensures.value) ∙ e sides rest))
       | inr memory ↦ inr memory
     ])
 
 pub returns-in_err-stages-clause-refused : goal.returns-in_err-stages-clause-refused
 returns-in_err-stages-clause-refused c =
     let exit = err_from_is_err_and c.from_residual-in_err-stages.result c.from_residual-in_err-stages.ensures.1 in
-    let sources = c.in_ok-joins.joins.items in
+    let sources = c.in_ok-sides.sides.items in
     let steps = map plan_step_of c.plan.inside.steps.items in
     let leading = map step_of c.in_ok-leading.leading.items in
     let rest = map plan_step_of c.in_ok-leading.rest.items in
     let parts = c.pop.ensures.items ∙ ap (λ (o : Option SourceFiles). c.pop.new.self.items ++ option_to_list o) c.in-Some.is in
     let of_sources : List Source → Query = λ ss. record { sources = ss; steps = steps } in
-    let passed = ap (source_refusal 0) c.in_ok-joins.ensures.sources ∙ c.in_ok-joins.ensures.passed in
+    let passed = ap (source_refusal 0) c.in_ok-sides.ensures.sources ∙ c.in_ok-sides.ensures.passed in
     let to_mid = ap (λ (ss : List RowStep). steps_schema c.in-Some.main.layout.schema (map step_of ss)) (sym c.as_slice.ensures.value) ∙ c.in_ok-schema.ensures.ok in
     let count : length leading ≡ c.len.result = omega (arith, length-map c.in_ok-leading.leading.items step_of, c.in_ok-leading.leading.ok.0, c.len.ensures) in
     rw (exit.1, exit.2) (elim c.in_err-stages.ensures.refused [
       | inl e ↦ inl (
-          ap checked (sym c.plan.view_is ∙ ap of_sources (sym c.in_ok-joins.ensures.sources))
+          ap checked (sym c.plan.view_is ∙ ap of_sources (sym c.in_ok-sides.ensures.sources))
           ∙ stages-refuse sources c.pop.new.self.items c.in-Some.main parts steps leading c.in_ok-leading.ensures.leading rest c.in_ok-schema.schema _ passed c.in_ok-leading.ensures.rest to_mid
           (ap (λ n. judged_steps (columns_of c.pop.new.self.items) n c.in_ok-schema.schema rest) count
           ∙ ap (λ (js : List SourceFiles). judged_steps (columns_of js) c.len.result c.in_ok-schema.schema rest) (sym c.as_slice-2.ensures.value) ∙ e))
@@ -99,7 +99,7 @@ front-is c front e =
     let chain : Fields → NumberedSteps = λ fields. record { steps = map step_of c.in_ok-leading.leading.items; fields = fields; first = 0 } in
     e ∙ ap chain c.in_ok-front_schema.ensures
 
-parts_of : (c : In_ok-stages) → c.in_ok-joins.joins.items ≡ c.pop.new.self.items ++ c.in-Some.main ∷ []
+parts_of : (c : In_ok-stages) → c.in_ok-sides.sides.items ≡ c.pop.new.self.items ++ c.in-Some.main ∷ []
 parts_of c = c.pop.ensures.items ∙ ap (λ (o : Option SourceFiles). c.pop.new.self.items ++ option_to_list o) c.in-Some.is
 
 -- what is known of them
@@ -115,42 +115,42 @@ leads-of c =
 to-mid : (c : In_ok-stages) → steps_schema c.in-Some.main.layout.schema (map step_of c.in_ok-leading.leading.items) ≡ Ok c.in_ok-schema.schema
 to-mid c = ap (λ (ss : List RowStep). steps_schema c.in-Some.main.layout.schema (map step_of ss)) (sym c.as_slice.ensures.value) ∙ c.in_ok-schema.ensures.ok
 
-within : (c : In_ok-stages) → (let q : Query = record { sources = map source_of_files c.in_ok-joins.joins.items; steps = map plan_step_of c.plan.inside.steps.items } in IsWithinLimits q)
+within : (c : In_ok-stages) → (let q : Query = record { sources = map source_of_files c.in_ok-sides.sides.items; steps = map plan_step_of c.plan.inside.steps.items } in IsWithinLimits q)
 within c =
     let of_sources : List Source → Query = λ ss. record { sources = ss; steps = map plan_step_of c.plan.inside.steps.items } in
-    subst IsWithinLimits (ap of_sources (sym c.in_ok-joins.ensures.sources)) c.plan.invariant
+    subst IsWithinLimits (ap of_sources (sym c.in_ok-sides.ensures.sources)) c.plan.invariant
 
-is-prepared : (c : In_ok-stages) → IsChecked (physical_of c.in_ok-joins.joins.items (front_of c) c.in_ok-stages.stages.items)
+is-prepared : (c : In_ok-stages) → IsChecked (physical_of c.in_ok-sides.sides.items (front_of c) c.in_ok-stages.stages.items)
 unfolding front_of
 is-prepared c =
-    prepared c.in_ok-joins.joins.items c.pop.new.self.items c.in-Some.main (parts_of c) (map plan_step_of c.plan.inside.steps.items) (map step_of c.in_ok-leading.leading.items) c.in_ok-leading.ensures.leading
-    c.in_ok-stages.stages.items c.in_ok-schema.schema (leads-of c).0 (c.in_ok-stages.ensures.steps ∙ c.in_ok-leading.ensures.rest) (ap (source_refusal 0) c.in_ok-joins.ensures.sources ∙ c.in_ok-joins.ensures.passed)
+    prepared c.in_ok-sides.sides.items c.pop.new.self.items c.in-Some.main (parts_of c) (map plan_step_of c.plan.inside.steps.items) (map step_of c.in_ok-leading.leading.items) c.in_ok-leading.ensures.leading
+    c.in_ok-stages.stages.items c.in_ok-schema.schema (leads-of c).0 (c.in_ok-stages.ensures.steps ∙ c.in_ok-leading.ensures.rest) (ap (source_refusal 0) c.in_ok-sides.ensures.sources ∙ c.in_ok-sides.ensures.passed)
     (to-mid c) (leads-of c).1 (within c)
 
-is-runnable : (c : In_ok-stages) → IsRunnable c.in_ok-joins.joins.items (front_of c) c.in_ok-stages.stages.items c.file_count-inputs.result
+is-runnable : (c : In_ok-stages) → IsRunnable c.in_ok-sides.sides.items (front_of c) c.in_ok-stages.stages.items c.file_count-inputs.result
 unfolding front_of
 is-runnable c =
-    runnable c.in_ok-joins.joins.items c.pop.new.self.items c.in-Some.main (parts_of c) (map plan_step_of c.plan.inside.steps.items) (map step_of c.in_ok-leading.leading.items) c.in_ok-leading.ensures.leading
-    c.in_ok-stages.stages.items c.in_ok-schema.schema (leads-of c).0 (c.in_ok-stages.ensures.steps ∙ c.in_ok-leading.ensures.rest) (ap (source_refusal 0) c.in_ok-joins.ensures.sources ∙ c.in_ok-joins.ensures.passed)
+    runnable c.in_ok-sides.sides.items c.pop.new.self.items c.in-Some.main (parts_of c) (map plan_step_of c.plan.inside.steps.items) (map step_of c.in_ok-leading.leading.items) c.in_ok-leading.ensures.leading
+    c.in_ok-stages.stages.items c.in_ok-schema.schema (leads-of c).0 (c.in_ok-stages.ensures.steps ∙ c.in_ok-leading.ensures.rest) (ap (source_refusal 0) c.in_ok-sides.ensures.sources ∙ c.in_ok-sides.ensures.passed)
     (to-mid c) (leads-of c).1 c.file_count-inputs.result (within c)
-    (c.file_count-inputs.ensures ∙ ap (λ ss. sum_by (λ (s : Source). s.files) (map source_data ss)) c.deref.ensures.value ∙ ap (sum_by (λ (s : Source). s.files)) (sym c.in_ok-joins.ensures.sources))
+    (c.file_count-inputs.ensures ∙ ap (λ ss. sum_by (λ (s : Source). s.files) (map source_data ss)) c.deref.ensures.value ∙ ap (sum_by (λ (s : Source). s.files)) (sym c.in_ok-sides.ensures.sources))
 
-pub overflow_sub-join_files : goal.overflow_sub-join_files
-overflow_sub-join_files c =
-    let d = (goal.at.overflow_sub-join_files c).In_ok-stages in
-    omega (arith, (is-runnable d).inputs_wanted, wanted-is c.in_ok-joins.joins.items (front_of d) c.in_ok-stages.stages.items c.file_count-inputs.result (is-runnable d) c.pop.new.self.items c.in-Some.main (parts_of d))
+pub overflow_sub-side_files : goal.overflow_sub-side_files
+overflow_sub-side_files c =
+    let d = (goal.at.overflow_sub-side_files c).In_ok-stages in
+    omega (arith, (is-runnable d).inputs_wanted, wanted-is c.in_ok-sides.sides.items (front_of d) c.in_ok-stages.stages.items c.file_count-inputs.result (is-runnable d) c.pop.new.self.items c.in-Some.main (parts_of d))
 
 pub new-physical-requires-clause-runnable : goal.new-physical-requires-clause-runnable
 new-physical-requires-clause-runnable c =
     let d = (goal.at.new-physical-requires-clause-runnable c).In_ok-stages in
     subst (λ ss. IsRunnable ss c.in_ok-front.front c.in_ok-stages.stages.items c.file_count-inputs.result) (parts_of d)
-    (subst (λ front. IsRunnable c.in_ok-joins.joins.items front c.in_ok-stages.stages.items c.file_count-inputs.result) (sym (front-is d c.in_ok-front.front c.in_ok-front.ensures.front)) (is-runnable d))
+    (subst (λ front. IsRunnable c.in_ok-sides.sides.items front c.in_ok-stages.stages.items c.file_count-inputs.result) (sym (front-is d c.in_ok-front.front c.in_ok-front.ensures.front)) (is-runnable d))
 
 pub new-physical-requires-clause-before_main : goal.new-physical-requires-clause-before_main
 new-physical-requires-clause-before_main c =
     let d = (goal.at.new-physical-requires-clause-before_main c).In_ok-stages in
-    subst (λ ss. c.file_count-inputs.result - c.in-Some.main.files ≡ join_files (physical_of ss c.in_ok-front.front c.in_ok-stages.stages.items)) (parts_of d)
-    (join-count c.in_ok-joins.joins.items (front_of d) c.in_ok-stages.stages.items c.file_count-inputs.result (is-runnable d) c.pop.new.self.items c.in-Some.main (parts_of d))
+    subst (λ ss. c.file_count-inputs.result - c.in-Some.main.files ≡ side_files (physical_of ss c.in_ok-front.front c.in_ok-stages.stages.items)) (parts_of d)
+    (side-count c.in_ok-sides.sides.items (front_of d) c.in_ok-stages.stages.items c.file_count-inputs.result (is-runnable d) c.pop.new.self.items c.in-Some.main (parts_of d))
 
 pub new-physical-requires-clause-columns : goal.new-physical-requires-clause-columns
 unfolding front_of
@@ -161,7 +161,7 @@ new-physical-requires-clause-columns c =
 
 -- the physical plan, by its parts as they were checked
 physical-is : (c : In_ok-stages) (front : NumberedSteps) (p : Physical) → front ≡ front_of c → p ≡ physical_of (c.pop.new.self.items ++ c.in-Some.main ∷ []) front c.in_ok-stages.stages.items →
-    physical_of c.in_ok-joins.joins.items (front_of c) c.in_ok-stages.stages.items ≡ p
+    physical_of c.in_ok-sides.sides.items (front_of c) c.in_ok-stages.stages.items ≡ p
 physical-is c front p e made = (λ i. physical_of (parts_of c i) (sym e i) c.in_ok-stages.stages.items) ∙ sym made
 
 pub invariant_of-result : goal.invariant_of-result
@@ -170,20 +170,20 @@ invariant_of-result c =
     subst IsChecked (physical-is d c.in_ok-front.front c.new-physical.result (front-is d c.in_ok-front.front c.in_ok-front.ensures.front) c.new-physical.ensures) (is-prepared d)
 
 -- the steps are those of the parts
-steps-checked : (d : In_ok-stages) → (let q : Query = record { sources = map source_of_files d.in_ok-joins.joins.items; steps = map plan_step_of d.plan.inside.steps.items } in q) ≡ query_of (physical_of d.in_ok-joins.joins.items (front_of d) d.in_ok-stages.stages.items)
+steps-checked : (d : In_ok-stages) → (let q : Query = record { sources = map source_of_files d.in_ok-sides.sides.items; steps = map plan_step_of d.plan.inside.steps.items } in q) ≡ query_of (physical_of d.in_ok-sides.sides.items (front_of d) d.in_ok-stages.stages.items)
 unfolding front_of
 steps-checked d =
-    let of_steps : List PlanStep → Query = λ ss. record { sources = map source_of_files d.in_ok-joins.joins.items; steps = ss } in
+    let of_steps : List PlanStep → Query = λ ss. record { sources = map source_of_files d.in_ok-sides.sides.items; steps = ss } in
     ap of_steps (sym (steps-are (map plan_step_of d.plan.inside.steps.items) (map step_of d.in_ok-leading.leading.items) d.in_ok-leading.ensures.leading (stage_steps d.in_ok-stages.stages.items) (d.in_ok-stages.ensures.steps ∙ d.in_ok-leading.ensures.rest)))
 
 pub returns-clause-ok : goal.returns-clause-ok
 returns-clause-ok c =
     let d = (goal.at.returns-clause-ok c).In_ok-stages in
-    let sources = c.in_ok-joins.joins.items in
+    let sources = c.in_ok-sides.sides.items in
     let stages = c.in_ok-stages.stages.items in
     let steps = map plan_step_of c.plan.inside.steps.items in
     let of_sources : List Source → Query = λ ss. record { sources = ss; steps = steps } in
-    ap checked (sym c.plan.view_is ∙ ap of_sources (sym c.in_ok-joins.ensures.sources))
+    ap checked (sym c.plan.view_is ∙ ap of_sources (sym c.in_ok-sides.ensures.sources))
     ∙ ap checked (steps-checked d)
     ∙ checked-is (physical_of sources (front_of d) stages) (is-prepared d)
     ∙ ap (λ (p : Physical). Ok (query_of p)) (physical-is d c.in_ok-front.front c.new-physical.result (front-is d c.in_ok-front.front c.in_ok-front.ensures.front) c.new-physical.ensures)
@@ -194,10 +194,10 @@ returns-clause-ok c =
 among : (s n t : ℕ) (old new : Place) → s ≡ n → ((steps : ℕ) → IsPlaceOf n steps old → IsPlaceOf n steps new) → IsPlaceOf s t old → IsPlaceOf s t new
 among s n t old new e moves h = subst (λ m. IsPlaceOf m t new) (sym e) (moves t (subst (λ m. IsPlaceOf m t old) e h))
 
-after-sources : (c : In_ok-joins) → IsPlaceOf (length c.args.plan.sources) (length c.args.plan.steps) c.check_sources.new.place
+after-sources : (c : In_ok-sides) → IsPlaceOf (length c.args.plan.sources) (length c.args.plan.steps) c.check_sources.new.place
 after-sources c =
     among (length c.args.plan.sources) (length c.plan.inside.sources.items) (length c.args.plan.steps) c.args.place.now c.check_sources.new.place
-    (ap (λ (q : Query). length q.sources) (sym c.plan.view_is) ∙ length-map c.plan.inside.sources.items source_data) c.in_ok-joins.ensures.place c.requires
+    (ap (λ (q : Query). length q.sources) (sym c.plan.view_is) ∙ length-map c.plan.inside.sources.items source_data) c.in_ok-sides.ensures.place c.requires
 
 -- as many steps as the leading ones and the rest
 all-steps : (c : In_ok-leading) → length c.in_ok-leading.leading.items + length c.in_ok-leading.rest.items ≡ length c.args.plan.steps
@@ -208,7 +208,7 @@ all-steps c =
 after-leading : (c : In_ok-schema) → IsPlaceOf (length c.args.plan.sources) (length c.args.plan.steps) c.check_leading.new.place
 after-leading c =
     let d = goal.at.In_ok-schema c in
-    c.in_ok-schema.ensures.place _ _ (omega (arith, ap length c.as_slice.ensures.value, all-steps d.In_ok-leading)) (after-sources d.In_ok-joins)
+    c.in_ok-schema.ensures.place _ _ (omega (arith, ap length c.as_slice.ensures.value, all-steps d.In_ok-leading)) (after-sources d.In_ok-sides)
 
 -- and so after the stages
 after-stages : (c : In_ok-stages) → IsPlaceOf (length c.args.plan.sources) (length c.args.plan.steps) c.check_stages.new.place
@@ -216,21 +216,21 @@ after-stages c =
     let d = goal.at.In_ok-stages c in
     c.in_ok-stages.ensures.place _ _ (omega (arith, c.len.ensures, c.in_ok-leading.leading.ok.0, all-steps d.In_ok-leading)) (after-leading d.In_ok-schema)
 
-pub returns-in_err-joins-clause-place : goal.returns-in_err-joins-clause-place
-returns-in_err-joins-clause-place c =
+pub returns-in_err-sides-clause-place : goal.returns-in_err-sides-clause-place
+returns-in_err-sides-clause-place c =
     among (length c.args.plan.sources) (length c.plan.inside.sources.items) (length c.args.plan.steps) c.args.place.now c.check_sources.new.place
-    (ap (λ (q : Query). length q.sources) (sym c.plan.view_is) ∙ length-map c.plan.inside.sources.items source_data) c.in_err-joins.ensures.place c.requires
+    (ap (λ (q : Query). length q.sources) (sym c.plan.view_is) ∙ length-map c.plan.inside.sources.items source_data) c.in_err-sides.ensures.place c.requires
 
 pub returns-in_err-leading-clause-place : goal.returns-in_err-leading-clause-place
-returns-in_err-leading-clause-place c = after-sources (goal.at.returns-in_err-leading-clause-place c).In_ok-joins
+returns-in_err-leading-clause-place c = after-sources (goal.at.returns-in_err-leading-clause-place c).In_ok-sides
 
 pub returns-in_err-front_schema-clause-place : goal.returns-in_err-front_schema-clause-place
-returns-in_err-front_schema-clause-place c = after-sources (goal.at.returns-in_err-front_schema-clause-place c).In_ok-joins
+returns-in_err-front_schema-clause-place c = after-sources (goal.at.returns-in_err-front_schema-clause-place c).In_ok-sides
 
 pub returns-in_err-schema-clause-place : goal.returns-in_err-schema-clause-place
 returns-in_err-schema-clause-place c =
     let d = goal.at.returns-in_err-schema-clause-place c in
-    c.in_err-schema.ensures.place _ _ (omega (arith, ap length c.as_slice.ensures.value, all-steps d.In_ok-leading)) (after-sources d.In_ok-joins)
+    c.in_err-schema.ensures.place _ _ (omega (arith, ap length c.as_slice.ensures.value, all-steps d.In_ok-leading)) (after-sources d.In_ok-sides)
 
 pub returns-in_err-after_leading-clause-place : goal.returns-in_err-after_leading-clause-place
 returns-in_err-after_leading-clause-place c = after-leading (goal.at.returns-in_err-after_leading-clause-place c).In_ok-schema

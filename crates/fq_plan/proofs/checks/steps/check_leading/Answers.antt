@@ -25,10 +25,10 @@ returns-in_err-schema-2-clause-refused c =
     ∙ map-append row_wise before (step_of step ∷ map step_of (drop (suc i) steps)) in
     let number : length before ≡ i = length-map (take i steps) step_of ∙ length-take-le i steps (omega arith) in
     rw (exit.1, exit.2) (elim (judged-err (step_schema c.loop-i.schema (step_of step)) code c.in_err-schema-2.ensures) [
-      | inl e ↦ inl (λ joins rest.
-          ap (λ ss. judged_steps joins 0 c.args.main.now (ss ++ rest)) parts
-          ∙ ap (judged_steps joins 0 c.args.main.now) (append_assoc (map row_wise before) (row_wise (step_of step) ∷ after) rest)
-          ∙ rows-refused joins 0 c.args.main.now before (step_of step) (after ++ rest) c.loop-i.schema code c.loop-i.invariant.schema e
+      | inl e ↦ inl (λ sides rest.
+          ap (λ ss. judged_steps sides 0 c.args.main.now (ss ++ rest)) parts
+          ∙ ap (judged_steps sides 0 c.args.main.now) (append_assoc (map row_wise before) (row_wise (step_of step) ∷ after) rest)
+          ∙ rows-refused sides 0 c.args.main.now before (step_of step) (after ++ rest) c.loop-i.schema code c.loop-i.invariant.schema e
           ∙ ap (λ n. Err (refused_at (place.Step n) code)) (omega (arith, number)))
       | inr memory ↦ inr memory
     ])

@@ -24,7 +24,7 @@ so-far c = omega (
 pub returns-in_err-operator-clause-refused : goal.returns-in_err-operator-clause-refused
 returns-in_err-operator-clause-refused c =
     let exit = err_from_is_err_and c.from_residual-in_err-operator.result c.from_residual-in_err-operator.ensures.1 in
-    let joins = columns_of c.args.joins.now in
+    let sides = columns_of c.args.sides.now in
     let step = c.in-Some.step in
     let left = c.next.new.self.rest.items in
     let stages = c.loop-step.stages.items in
@@ -36,8 +36,8 @@ returns-in_err-operator-clause-refused c =
     let number = so-far (goal.at.returns-in_err-operator-clause-refused c).After-len-in-loop-step in
     rw (exit.1, exit.2) (elim c.in_err-operator.ensures.refused [
       | inl e ↦ inl (
-          ap (judged_steps joins c.args.first c.args.schema) parts
-          ∙ stages-refused joins c.args.first c.args.schema stages (plan_step_of step) (map plan_step_of left) c.loop-step.schema code c.loop-step.invariant.leads e
+          ap (judged_steps sides c.args.first c.args.schema) parts
+          ∙ stages-refused sides c.args.first c.args.schema stages (plan_step_of step) (map plan_step_of left) c.loop-step.schema code c.loop-step.invariant.leads e
           ∙ ap (λ n. Err (refused_at (place.Step (c.args.first + n)) code)) number)
       | inr memory ↦ inr memory
     ])
@@ -61,7 +61,7 @@ returns-in_err-push-clause-place c sources total few h = to-come (goal.at.return
 
 pub loop-step-preserved : goal.loop-step-preserved
 loop-step-preserved c =
-    let joins = columns_of c.args.joins.now in
+    let sides = columns_of c.args.sides.now in
     let step = c.in-Some.step in
     let stages = c.loop-step.stages.items in
     let number = c.args.first + c.len-in-loop-step.result in
@@ -74,8 +74,8 @@ loop-step-preserved c =
           ∙ stage_steps-snoc stages stage
           ∙ (λ i. c.loop-step.invariant.steps i ++ c.in_ok-operator.ensures.step i)
           ∙ sym (map-append plan_step_of c.loop-step.yielded (step ∷ []));
-      leads = subst (λ (f : Fields). Leads joins c.args.first c.args.schema c.push.new.self.items f) (sym c.in_ok-schema.ensures)
-          (subst (λ (ss : List Stage). Leads joins c.args.first c.args.schema ss c.in_ok-operator.after) (sym c.in_ok-push.ensures.items)
-          (leads-further joins c.args.first c.args.schema stages c.loop-step.schema stage number c.loop-step.invariant.leads same refl c.in_ok-operator.ensures.turns));
+      leads = subst (λ (f : Fields). Leads sides c.args.first c.args.schema c.push.new.self.items f) (sym c.in_ok-schema.ensures)
+          (subst (λ (ss : List Stage). Leads sides c.args.first c.args.schema ss c.in_ok-operator.after) (sym c.in_ok-push.ensures.items)
+          (leads-further sides c.args.first c.args.schema stages c.loop-step.schema stage number c.loop-step.invariant.leads same refl c.in_ok-operator.ensures.turns));
       place = λ sources total few h. to-come (goal.at.loop-step-preserved c).After-len-in-loop-step total few;
     }

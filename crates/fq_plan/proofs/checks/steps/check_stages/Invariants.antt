@@ -9,6 +9,6 @@ invariant-loop-step l = record {
   left : l.fn.steps.items ≡ l.yielded ++ l.step-iterator.rest.items;
   count : vec_len l.stages ≡ length l.yielded;
   steps : stage_steps l.stages.items ≡ map plan_step_of l.yielded;
-  leads : Leads (columns_of l.joins) l.first l.fn.schema l.stages.items l.schema;
+  leads : Leads (columns_of l.sides) l.first l.fn.schema l.stages.items l.schema;
   place : (sources total : ℕ) → l.first + length l.fn.steps.items ≤ total → IsPlaceOf sources total l.fn.place → IsPlaceOf sources total l.place;
 }

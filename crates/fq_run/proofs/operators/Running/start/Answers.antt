@@ -13,8 +13,8 @@ use Rattle.fq_run.proofs.operators.Running.start.Goals as goal
 pub new-requires : goal.new-requires
 new-requires c = let j = c.in-Join.join in (
   c.args.schema.now,
-  join-can c.args.joins.now c.args.stage.now.number c.args.schema.now c.requires.0 j.source (map string_bytes j.on.items) c.index-joins-join.result c.index-joins-join.is j.how j.nulls_equal
-      (subst (λ (o : Operator). Accepts (map (λ (f : Frame). f.fields) c.args.joins.now) c.args.schema.now o c.requires.0) c.in-Join.is c.requires.1)
+  join-can c.args.sides.now c.args.stage.now.number c.args.schema.now c.requires.0 j.source (map string_bytes j.on.items) c.index-sides-join.result c.index-sides-join.is j.how j.nulls_equal
+      (subst (λ (o : Operator). Accepts (map (λ (f : Frame). f.fields) c.args.sides.now) c.args.schema.now o c.requires.0) c.in-Join.is c.requires.1)
       (map string_bytes j.on.items) refl,
 )
 
@@ -24,16 +24,16 @@ returns-in-Rows c after t = let front = c.in-Rows.front in
 
 pub returns-in_ok-new-in-Join : goal.returns-in_ok-new-in-Join
 returns-in_ok-new-in-Join c after t = let j = c.in-Join.join in
-    rw c.in-Join.is (join-started c.args.joins.now c.args.stage.now.number c.args.schema.now after j.source (map string_bytes j.on.items) c.index-joins-join.result c.index-joins-join.is j.how j.nulls_equal
-    (subst (λ (o : Operator). Accepts (map (λ (f : Frame). f.fields) c.args.joins.now) c.args.schema.now o after) c.in-Join.is t)
+    rw c.in-Join.is (join-started c.args.sides.now c.args.stage.now.number c.args.schema.now after j.source (map string_bytes j.on.items) c.index-sides-join.result c.index-sides-join.is j.how j.nulls_equal
+    (subst (λ (o : Operator). Accepts (map (λ (f : Frame). f.fields) c.args.sides.now) c.args.schema.now o after) c.in-Join.is t)
     (map string_bytes j.on.items) refl c.in_ok-new-in-Join.field-0 c.in_ok-new-in-Join.ensures)
 
 pub returns-in_ok-grouping-in-GroupBy : goal.returns-in_ok-grouping-in-GroupBy
 returns-in_ok-grouping-in-GroupBy c after t = let g = c.in-GroupBy.group_by in
-    rw c.in-GroupBy.is (group-started c.args.joins.now c.args.stage.now.number c.args.schema.now after (map string_bytes g.keys.items) (map string_bytes g.keys.items) (outputs_of g.aggs.items) (outputs_of g.aggs.items)
+    rw c.in-GroupBy.is (group-started c.args.sides.now c.args.stage.now.number c.args.schema.now after (map string_bytes g.keys.items) (map string_bytes g.keys.items) (outputs_of g.aggs.items) (outputs_of g.aggs.items)
     refl refl c.in_ok-grouping-in-GroupBy.grouping c.in_ok-grouping-in-GroupBy.ensures)
 
 pub returns-in_ok-summing-in-RollingSum : goal.returns-in_ok-summing-in-RollingSum
 returns-in_ok-summing-in-RollingSum c after t = let r = c.in-RollingSum.rolling_sum in
-    rw c.in-RollingSum.is (roll-started c.args.joins.now c.args.stage.now.number c.args.schema.now after (string_bytes r.column) (string_bytes r.column) r.window r.min_samples (string_bytes r.name) (string_bytes r.name)
+    rw c.in-RollingSum.is (roll-started c.args.sides.now c.args.stage.now.number c.args.schema.now after (string_bytes r.column) (string_bytes r.column) r.window r.min_samples (string_bytes r.name) (string_bytes r.name)
     refl refl c.in_ok-summing-in-RollingSum.summing c.in_ok-summing-in-RollingSum.ensures)

@@ -23,7 +23,7 @@ use Rattle.fq_run.specs.declared.stages.Stage.{Stage}
 use Rattle.fq_run.proofs.GatheredLemmas.{has-gathered}
 use Rattle.fq_run.proofs.StageOutcomeLemmas.{fit-over}
 use Rattle.fq_run.proofs.LogLemmas.{Takes-one}
-use Rattle.fq_run.proofs.RunStartLemmas.{count-layouts, join-count, length-opened, opened-open}
+use Rattle.fq_run.proofs.RunStartLemmas.{count-layouts, side-count, length-opened, opened-open}
 use Rattle.fq_run.proofs.physical_plans.PhysicalPlan.gather.Given.{Over}
 use Rattle.fq_run.proofs.physical_plans.PhysicalPlan.gather.Goals as goal
 use Rattle.fq_run.proofs.physical_plans.PhysicalPlan.gather.Goals.{After-as_slice, In_ok-outcome}
@@ -31,8 +31,8 @@ use Rattle.fq_run.proofs.physical_plans.PhysicalPlan.gather.Goals.{After-as_slic
 pub open_feeds-requires-clause-one_each : goal.open_feeds-requires-clause-one_each
 open_feeds-requires-clause-one_each g c =
     let s = c.self.inside in
-    let layouts = c.in_ok-layouts.ensures ∙ ap (λ (js : List SourceFiles). flat_map (λ (s : SourceFiles). replicate s.files s.layout) (js ++ c.self.inside.main ∷ [])) c.as_slice-joins.ensures.value in
-    let count = ap length layouts ∙ count-layouts (s.joins.items ++ s.main ∷ []) s.leading.front s.stages.items s.inputs c.self.invariant.0 ∙ ap files_wanted c.self.view_is in
+    let layouts = c.in_ok-layouts.ensures ∙ ap (λ (js : List SourceFiles). flat_map (λ (s : SourceFiles). replicate s.files s.layout) (js ++ c.self.inside.main ∷ [])) c.as_slice-sides.ensures.value in
+    let count = ap length layouts ∙ count-layouts (s.sides.items ++ s.main ∷ []) s.leading.front s.stages.items s.inputs c.self.invariant.0 ∙ ap files_wanted c.self.view_is in
     omega (arith, count, c.requires.inputs, c.in_ok-layouts.layouts.ok.0)
 
 pub run_lanes-tail-requires-clause-feeds : goal.run_lanes-tail-requires-clause-feeds
@@ -54,47 +54,47 @@ run_lanes-tail-requires-clause-open g c κs within =
 
 -- what the threads did
 finished : (g : Over) (c : In_ok-outcome g) →
-    Finishes MayCome (λ file item out. out ≡ work_on c.self.inside.leading.front (c.self.inside.inputs - c.self.inside.main.files) file item) (Takes-one (λ t. t.join_files) (λ t. t.state))
+    Finishes MayCome (λ file item out. out ≡ work_on c.self.inside.leading.front (c.self.inside.inputs - c.self.inside.main.files) file item) (Takes-one (λ t. t.side_files) (λ t. t.state))
     c.in_ok-feeds.feeds.items c.new-tail.result c.in_ok-outcome.field-0.trace.items c.run_lanes-tail.result.0
 finished g c =
     let s = c.self.inside in
-    let joins-are = c.self.invariant.1 ∙ sym (join-count (s.joins.items ++ s.main ∷ []) s.leading.front s.stages.items s.inputs c.self.invariant.0 c.self.inside.joins.items c.self.inside.main refl) in
-    let Done : ℕ → Report → Type 0 = λ joins report. Finishes MayCome (λ file item out. out ≡ work_on c.self.inside.leading.front joins file item) (Takes-one (λ t. t.join_files) (λ t. t.state))
+    let sides-are = c.self.invariant.1 ∙ sym (side-count (s.sides.items ++ s.main ∷ []) s.leading.front s.stages.items s.inputs c.self.invariant.0 c.self.inside.sides.items c.self.inside.main refl) in
+    let Done : ℕ → Report → Type 0 = λ sides report. Finishes MayCome (λ file item out. out ≡ work_on c.self.inside.leading.front sides file item) (Takes-one (λ t. t.side_files) (λ t. t.state))
     c.in_ok-feeds.feeds.items c.new-tail.result report.trace.items c.run_lanes-tail.result.0 in
-    subst (λ joins. Done joins c.in_ok-outcome.field-0) joins-are
-    (subst (λ (r : Result Report RunFault). IfOk r (Done s.leading.join_files)) c.in_ok-outcome.was c.run_lanes-tail.ensures.done)
+    subst (λ sides. Done sides c.in_ok-outcome.field-0) sides-are
+    (subst (λ (r : Result Report RunFault). IfOk r (Done s.leading.side_files)) c.in_ok-outcome.was c.run_lanes-tail.ensures.done)
 
 -- the sources before the main one, of which nothing was taken
-sources-are : (g : Over) (c : After-as_slice g) → c.in_ok-sources.sources.items ≡ map (λ (s : SourceFiles). no_rows s.files s.layout.schema) c.self.inside.joins.items
-sources-are g c = c.in_ok-sources.ensures ∙ ap (map (λ (s : SourceFiles). no_rows s.files s.layout.schema)) c.as_slice-joins.ensures.value
+sources-are : (g : Over) (c : After-as_slice g) → c.in_ok-sources.sources.items ≡ map (λ (s : SourceFiles). no_rows s.files s.layout.schema) c.self.inside.sides.items
+sources-are g c = c.in_ok-sources.ensures ∙ ap (map (λ (s : SourceFiles). no_rows s.files s.layout.schema)) c.as_slice-sides.ensures.value
 
 pub new-waiting-requires : goal.new-waiting-requires
 new-waiting-requires g c =
     let s = c.self.inside in
     let runnable = c.self.invariant.0 in
-    let joins = s.joins.items in
+    let sides = s.sides.items in
     let main = s.main in (
       runnable.fits.0,
       subst (λ (t : List Gathered × Fields × List Stage). Fit (map (λ (g : Gathered). g.batch.fields) t.0) t.1 t.2 runnable.fits.0)
           (λ i. (sym (sources-are g c) i, sym (c.in_ok-before.ensures ∙ c.self.invariant.2) i, sym c.as_slice.ensures.value i))
-          (fit-over (s.joins.items ++ s.main ∷ []) s.leading.front s.stages.items s.inputs runnable joins main refl),
+          (fit-over (s.sides.items ++ s.main ∷ []) s.leading.front s.stages.items s.inputs runnable sides main refl),
     )
 
 pub returns-clause-gathered : goal.returns-clause-gathered
 returns-clause-gathered g c =
     let s = c.self.inside in
     let runnable = c.self.invariant.0 in
-    let joins = s.joins.items in
+    let sides = s.sides.items in
     let main = s.main in
-    let count : length c.args.inputs.items ≡ files_wanted (physical_of (s.joins.items ++ s.main ∷ []) s.leading.front s.stages.items) = omega (arith, c.args.inputs.ok.0, c.requires.inputs, ap files_wanted c.self.view_is) in
+    let count : length c.args.inputs.items ≡ files_wanted (physical_of (s.sides.items ++ s.main ∷ []) s.leading.front s.stages.items) = omega (arith, c.args.inputs.ok.0, c.requires.inputs, ap files_wanted c.self.view_is) in
     subst (λ (p : Physical). HasGathered g.R.Read.remaining c.args.inputs.items p c.args.batch_size c.run_lanes-tail.result.0.state c.in_ok-outcome.field-0.trace.items) c.self.view_is
-    (has-gathered (s.joins.items ++ s.main ∷ []) s.leading.front s.stages.items s.inputs runnable joins main refl (λ t. t.join_files) (λ t. t.state) g.R.Read.remaining c.args.inputs.items c.args.batch_size c.in_ok-feeds.feeds.items
+    (has-gathered (s.sides.items ++ s.main ∷ []) s.leading.front s.stages.items s.inputs runnable sides main refl (λ t. t.side_files) (λ t. t.state) g.R.Read.remaining c.args.inputs.items c.args.batch_size c.in_ok-feeds.feeds.items
     c.new-tail.result c.run_lanes-tail.result.0 c.in_ok-outcome.field-0.trace.items
     (omega (arith, c.requires.batch_size.0)) count
-    (c.in_ok-feeds.ensures ∙ ap (λ fss. opened (g.R.Read.remaining) c.args.batch_size 0 fss c.args.inputs.items) (c.in_ok-layouts.ensures ∙ ap (λ (js : List SourceFiles). flat_map (λ (s : SourceFiles). replicate s.files s.layout) (js ++ c.self.inside.main ∷ [])) c.as_slice-joins.ensures.value))
+    (c.in_ok-feeds.ensures ∙ ap (λ fss. opened (g.R.Read.remaining) c.args.batch_size 0 fss c.args.inputs.items) (c.in_ok-layouts.ensures ∙ ap (λ (js : List SourceFiles). flat_map (λ (s : SourceFiles). replicate s.files s.layout) (js ++ c.self.inside.main ∷ [])) c.as_slice-sides.ensures.value))
     (c.new-tail.ensures.files ∙ c.self.invariant.1)
     (c.new-tail.ensures.waits s.stages.items _ _ (record {
-      sources = c.new-waiting.ensures ∙ (λ i. record { joins = sources-are g (goal.at.returns-clause-gathered g c).After-as_slice i; before = (c.in_ok-before.ensures ∙ c.self.invariant.2) i; stages = c.as_slice.ensures.value i });
+      sources = c.new-waiting.ensures ∙ (λ i. record { sides = sources-are g (goal.at.returns-clause-gathered g c).After-as_slice i; before = (c.in_ok-before.ensures ∙ c.self.invariant.2) i; stages = c.as_slice.ensures.value i });
       nothing = refl;
     }))
     (finished g c))

@@ -19,7 +19,7 @@ returns-in_err-text-clause-fault g c files tell =
     let all = c.in_ok-tail.ensures.gathered in
     let p = err_from_is_err_and c.from_residual-in_err-text.result c.from_residual-in_err-text.ensures.1 in
     let base : IsOfMeaning c.in_err-text.field-0.0 → outcome_of_run c.args.self.now (file_streams c.args.self.now files) ≡ Err c.in_err-text.field-0.0 =
-    elim (c.in_err-text.ensures all.stages all.after all.joins all.main all.fits all.stands) [
+    elim (c.in_err-text.ensures all.stages all.after all.sides all.main all.fits all.stands) [
       | inl memory ↦ λ h. absurd (subst IsOfMeaning memory h)
       | inr made ↦ λ _. sym (all.outcome files tell) ∙ made
     ] in
@@ -31,9 +31,9 @@ returns-in_err-text-clause-kind g c =
     let all = c.in_ok-tail.ensures.gathered in
     let p = err_from_is_err_and c.from_residual-in_err-text.result c.from_residual-in_err-text.ensures.1 in
     let base : IsRunFault c.in_err-text.field-0.0 =
-    elim (c.in_err-text.ensures all.stages all.after all.joins all.main all.fits all.stands) [
+    elim (c.in_err-text.ensures all.stages all.after all.sides all.main all.fits all.stands) [
       | inl memory ↦ subst IsRunFault (sym memory) tt
-      | inr made ↦ subst (λ (r : Result Frame Fault). IfErr r IsRunFault) made (sound-outcome all.stages all.joins all.main all.sound)
+      | inr made ↦ subst (λ (r : Result Frame Fault). IfErr r IsRunFault) made (sound-outcome all.stages all.sides all.main all.sound)
     ] in
     subst (λ (r : Result (PrintedText × Report) Fault). IfErr r IsRunFault) (sym p.1) (subst IsRunFault (sym p.2) base)
 
@@ -42,7 +42,7 @@ framed : (g : Over) (c : In_ok-text g) (files : List (List ℕ)) → Tell g.R.Re
     (frame : Frame) × (outcome_of_run c.args.self.now (file_streams c.args.self.now files) ≡ Ok frame) × (text_of c.in_ok-text.text ≡ printed frame)
 framed g c files tell =
     let all = c.in_ok-tail.ensures.gathered in
-    let made = c.in_ok-text.ensures all.stages all.after all.joins all.main all.fits all.stands in
+    let made = c.in_ok-text.ensures all.stages all.after all.sides all.main all.fits all.stands in
     (made.0, sym (all.outcome files tell) ∙ made.1, made.2)
 
 pub returns-clause-frame : goal.returns-clause-frame

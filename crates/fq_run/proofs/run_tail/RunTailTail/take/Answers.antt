@@ -16,12 +16,12 @@ returns-in-Ok-clause-ok c =
     elim c.if-file-self.branch [
       | then-file-self w ↦ record {
         same = refl;
-        before_main = λ early stages joins main waits. was-ok _ w.take_before_main-taken.result new (sym w.taken-is ∙ c.in-Ok.is) w.take_before_main-taken.ensures stages joins main (subst (λ (t : TailState). Waits stages joins main t) (sym was) waits);
+        before_main = λ early stages sides main waits. was-ok _ w.take_before_main-taken.result new (sym w.taken-is ∙ c.in-Ok.is) w.take_before_main-taken.ensures stages sides main (subst (λ (t : TailState). Waits stages sides main t) (sym was) waits);
         on_main = λ late. absurd (omega (arith, late, w.if-file-self.true));
       }
       | else-file-self w ↦ record {
         same = refl;
         before_main = λ early. absurd (omega (arith, early, w.if-file-self.false));
-        on_main = λ late stages after joins main fits stands. was-ok _ w.take_main-taken.result new (sym w.taken-is ∙ c.in-Ok.is) w.take_main-taken.ensures stages after joins main fits (subst (λ (t : TailState). Stands stages after joins main t) (sym was) stands);
+        on_main = λ late stages after sides main fits stands. was-ok _ w.take_main-taken.result new (sym w.taken-is ∙ c.in-Ok.is) w.take_main-taken.ensures stages after sides main fits (subst (λ (t : TailState). Stands stages after sides main t) (sym was) stands);
       }
     ]

@@ -23,22 +23,22 @@ on-ok (Err e) f h = tt
 
 -- the main source's rows on their way, which have taken no row
 abbrev HasStarted : Fields → WaitingSources → Streaming → Type 0
-HasStarted after w s = Fit (map (λ (g : Gathered). g.batch.fields) w.joins) w.before w.stages after →
-    (first_fault (map gathered_stream w.joins) ≡ None) × (HasRun s.operators (later_steps w.stages w.joins w.before after) [] [] × ((s.before ≡ w.before) × (s.text ≡ printed (record { fields = after; rows = [] }))))
+HasStarted after w s = Fit (map (λ (g : Gathered). g.batch.fields) w.sides) w.before w.stages after →
+    (first_fault (map gathered_stream w.sides) ≡ None) × (HasRun s.operators (later_steps w.stages w.sides w.before after) [] [] × ((s.before ≡ w.before) × (s.text ≡ printed (record { fields = after; rows = [] }))))
 
-streams : (stages : List Stage) (after : Fields) (joins : List Gathered) (main : Gathered) (w : WaitingSources) (s : Streaming) →
-    FitOver stages after joins main → IsWaiting stages joins main w → HasStarted after w s → IsStreaming stages after joins main s
-streams stages after joins main w s fits i has =
+streams : (stages : List Stage) (after : Fields) (sides : List Gathered) (main : Gathered) (w : WaitingSources) (s : Streaming) →
+    FitOver stages after sides main → IsWaiting stages sides main w → HasStarted after w s → IsStreaming stages after sides main s
+streams stages after sides main w s fits i has =
     let started = subst (λ (v : WaitingSources). HasStarted after v s) i.sources has fits in record {
       none = started.0;
       faultless = ap (λ (u : Stream Fault). u.fault) i.nothing;
       before = started.1.1.0;
       out = [];
-      run = subst (λ (rows : List Row). HasRun s.operators (later_steps stages joins main.batch.fields after) rows []) (sym (ap (λ (u : Stream Fault). u.rows) i.nothing)) started.1.0;
+      run = subst (λ (rows : List Row). HasRun s.operators (later_steps stages sides main.batch.fields after) rows []) (sym (ap (λ (u : Stream Fault). u.rows) i.nothing)) started.1.0;
       text = started.1.1.1;
     }
 
 pub returns-in-Waiting-clause-streaming : goal.returns-in-Waiting-clause-streaming
 returns-in-Waiting-clause-streaming c =
-    on-ok c.start.result (λ s has stages after joins main fits stands.
-    streams stages after joins main c.in-Waiting.waiting s fits (subst (λ (t : TailState). Stands stages after joins main t) c.in-Waiting.is stands) (has after)) c.start.ensures.started
+    on-ok c.start.result (λ s has stages after sides main fits stands.
+    streams stages after sides main c.in-Waiting.waiting s fits (subst (λ (t : TailState). Stands stages after sides main t) c.in-Waiting.is stands) (has after)) c.start.ensures.started
