@@ -1,12 +1,8 @@
 //! A checked plan over files.
-ghost use Rattle.std.specs.Prelude.{◌≡◌, ◌≢◌, ℕ, List, vec_len, Some, Ok, Err, IfOk, IfErr, IsOk, OnOk};
-ghost use Rattle.std.specs.Io.KnownBytes.{Appends, Keeps};
-ghost use Rattle.fq_column.specs.Frame.{Frame};
-ghost use Rattle.fq_csv.specs.Printed.{printed};
+ghost use Rattle.std.specs.Prelude.{vec_len};
 ghost use Rattle.fq_plan.specs.Meaning.{meaning};
 ghost use Rattle.fq_plan.specs.Plan.{file_streams, files_wanted};
-ghost use Rattle.fq_run.specs.Run.{start_refusal, IsOfMeaning, IsStartFault, Tell, trace_of};
-ghost use Rattle.fq_run.specs.declared.faults.Fault.TheVariants as fault;
+ghost use Rattle.fq_run.specs.Run.{IsAnswer, Tell};
 
 use crate::checks::Checked;
 use fq_column::Memory;
@@ -40,21 +36,7 @@ impl Checked {
         batch_size: u32,
         workers: u16,
     ) -> Result<Report, Fault>
-        // the number of inputs is judged first, then the settings
-        ensures refused { (f : _) → start_refusal (files_wanted self.now) (vec_len inputs) batch_size workers ≡ Some f → result ≡ Err f }
-        ensures started { IfErr result (λ f. IsStartFault f → start_refusal (files_wanted self.now) (vec_len inputs) batch_size workers ≡ Some f) }
-        // a report: the frame that the plan means was written, and each file's batches were taken in order
-        ensures printed { (files : List (List ℕ)) → Tell R.remaining inputs.items files → OnOk result
-            ((frame : Frame) × (meaning self.now (file_streams self.now files) ≡ Ok frame) × Appends (W.contents out.old) (W.contents out.new) (printed frame)) }
-        ensures trace { (files : List (List ℕ)) → Tell R.remaining inputs.items files → IfOk result
-            (λ report. report.trace.items ≡ trace_of batch_size (file_streams self.now files)) }
-        // a fault of the files or of the steps is the meaning
-        ensures fault { (files : List (List ℕ)) → Tell R.remaining inputs.items files → IfErr result
-            (λ f. IsOfMeaning f → meaning self.now (file_streams self.now files) ≡ Err f) }
-        // a failed write is answered only if the plan means a frame
-        ensures write { (files : List (List ℕ)) → Tell R.remaining inputs.items files → result ≡ Err fault.Write →
-            IsOk (meaning self.now (file_streams self.now files)) }
-        ensures unwritten { IfErr result (λ f. f ≢ fault.Write → Keeps (W.contents out.old) (W.contents out.new)) }
+        ensures { IsAnswer (files_wanted self.now) (vec_len inputs) batch_size workers (Tell R.remaining inputs.items) (file_streams self.now) (meaning self.now) (W.contents out.old) (W.contents out.new) result }
     {
         self.run_gated(rt, alloc, &NoGate, inputs, out, batch_size, workers)
     }
@@ -78,21 +60,7 @@ impl Checked {
         batch_size: u32,
         workers: u16,
     ) -> Result<Report, Fault>
-        // the number of inputs is judged first, then the settings
-        ensures refused { (f : _) → start_refusal (files_wanted self.now) (vec_len inputs) batch_size workers ≡ Some f → result ≡ Err f }
-        ensures started { IfErr result (λ f. IsStartFault f → start_refusal (files_wanted self.now) (vec_len inputs) batch_size workers ≡ Some f) }
-        // a report: the frame that the plan means was written, and each file's batches were taken in order
-        ensures printed { (files : List (List ℕ)) → Tell R.remaining inputs.items files → OnOk result
-            ((frame : Frame) × (meaning self.now (file_streams self.now files) ≡ Ok frame) × Appends (W.contents out.old) (W.contents out.new) (printed frame)) }
-        ensures trace { (files : List (List ℕ)) → Tell R.remaining inputs.items files → IfOk result
-            (λ report. report.trace.items ≡ trace_of batch_size (file_streams self.now files)) }
-        // a fault of the files or of the steps is the meaning
-        ensures fault { (files : List (List ℕ)) → Tell R.remaining inputs.items files → IfErr result
-            (λ f. IsOfMeaning f → meaning self.now (file_streams self.now files) ≡ Err f) }
-        // a failed write is answered only if the plan means a frame
-        ensures write { (files : List (List ℕ)) → Tell R.remaining inputs.items files → result ≡ Err fault.Write →
-            IsOk (meaning self.now (file_streams self.now files)) }
-        ensures unwritten { IfErr result (λ f. f ≢ fault.Write → Keeps (W.contents out.old) (W.contents out.new)) }
+        ensures { IsAnswer (files_wanted self.now) (vec_len inputs) batch_size workers (Tell R.remaining inputs.items) (file_streams self.now) (meaning self.now) (W.contents out.old) (W.contents out.new) result }
     {
         self.physical
             .run(rt, alloc, gate, inputs, out, batch_size, workers)

@@ -1,9 +1,13 @@
--- What a run answers beside its plan's meaning.
-use Rattle.std.specs.Prelude.{◌≡◌, ℕ, Bool, ◌==◌, not, ◌&&◌, nat_le, ⊤, List, map, length, zip, flat_map, Option, Some, None, if◌then◌else◌}
+-- What a run answers.
+use Rattle.std.specs.Prelude.{◌≡◌, ◌≢◌, ℕ, Bool, ◌==◌, not, ◌&&◌, nat_le, ⊤, List, map, length, zip, flat_map, Option, Some, None, Result, Ok, Err, IfErr, IfOk, IsOk, OnOk, if◌then◌else◌}
+use Rattle.std.specs.Io.KnownBytes.{Appends, Keeps}
+use Rattle.fq_column.specs.Frame.{Frame}
 use Rattle.fq_column.specs.Lists.{numbers, pieces}
 use Rattle.fq_column.specs.Stream.{Stream}
+use Rattle.fq_csv.specs.Printed.{printed as printed_frame}
 use Rattle.fq_csv.specs.declared.faults.ScanFault.{ScanFault}
 use Rattle.fq_lanes.specs.declared.faults.RunFault.{RunFault}
+use Rattle.fq_lanes.specs.declared.reports.Report.{Report}
 use Rattle.fq_lanes.specs.declared.faults.RunFault.TheVariants as engine
 use Rattle.fq_run.specs.declared.faults.Fault.{Fault}
 use Rattle.fq_run.specs.declared.faults.Fault.TheVariants.{Inputs, Setting, Memory, Read, Write}
@@ -60,3 +64,22 @@ Tell remaining readers files = map remaining readers ≡ map Some files
 -- the numbers of the batches of each file, in order: the file's, then the batch's
 abbrev pub trace_of : ℕ → List (Stream ScanFault) → List (ℕ × ℕ)
 trace_of batch_size us = flat_map (λ p. map (λ serial. (p.0, serial)) (numbers (length (pieces batch_size p.1.rows)))) (zip (numbers (length us)) us)
+
+-- ---- the answer
+
+-- below, a run wants so many files and is given so many readers, which tell the bytes of files if `Told` holds of these; they come to
+-- streams, which have an outcome, and the trace that a report holds
+module _ (wanted given batch_size workers : ℕ) (Told : List (List ℕ) → Type 0) (streams : List (List ℕ) → List (Stream ScanFault)) (outcome : List (Stream ScanFault) → Result Frame Fault) where
+  -- what is answered, where the output held these bytes and now holds those
+  pub record IsAnswer (before after : Option (List ℕ)) (result : Result Report Fault) : Type 0 where
+    -- the number of inputs is judged first, then the settings
+    pub refused : (f : Fault) → start_refusal wanted given batch_size workers ≡ Some f → result ≡ Err f
+    pub started : IfErr result (λ f. IsStartFault f → start_refusal wanted given batch_size workers ≡ Some f)
+    -- a report: the frame of the outcome was written, and each file's batches were taken in order
+    pub printed : (files : List (List ℕ)) → Told files → OnOk result ((frame : Frame) × (outcome (streams files) ≡ Ok frame) × Appends before after (printed_frame frame))
+    pub trace : (files : List (List ℕ)) → Told files → IfOk result (λ report. report.trace.items ≡ trace_of batch_size (streams files))
+    -- a fault of the files or of the steps is the outcome
+    pub fault : (files : List (List ℕ)) → Told files → IfErr result (λ f. IsOfMeaning f → outcome (streams files) ≡ Err f)
+    -- a failed write is answered only if the outcome is a frame
+    pub write : (files : List (List ℕ)) → Told files → result ≡ Err Write → IsOk (outcome (streams files))
+    pub unwritten : IfErr result (λ f. f ≢ Write → Keeps before after)

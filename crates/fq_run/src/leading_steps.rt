@@ -1,7 +1,6 @@
 //! The work on the items of files: the rows of a run, and the leading row-wise steps on those of the main source.
-ghost use Rattle.std.specs.Prelude.{◌≡◌, IfOk, if◌then◌else◌};
-ghost use Rattle.fq_column.specs.Schema.{same_fields};
-ghost use Rattle.fq_run.specs.Working.{piece_of, stepped, untouched, work_on};
+ghost use Rattle.std.specs.Prelude.{◌≡◌, IfOk};
+ghost use Rattle.fq_run.specs.Working.{piece_of, work_on};
 
 use crate::file_feeds::Scanned;
 use fq_column::Batch;

@@ -1,5 +1,5 @@
 //! What a run starts from: the feeds of the files, and the sources with no rows.
-ghost use Rattle.std.specs.Prelude.{◌≡◌, ◌≤◌, ◌++◌, ◌∷◌, [], flat_map, map, replicate, vec_len, length, IfOk};
+ghost use Rattle.std.specs.Prelude.{◌≡◌, ◌≤◌, ◌++◌, ◌∷◌, [], flat_map, map, replicate, vec_len, IfOk};
 ghost use Rattle.fq_run.specs.EngineRun.{no_rows, opened};
 
 use crate::file_feeds::FileFeed;

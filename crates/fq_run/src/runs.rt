@@ -1,13 +1,11 @@
 //! A physical plan over files.
-ghost use Rattle.std.specs.Prelude.{◌≡◌, ◌≢◌, ◌≤◌, ◌⊎◌, ℕ, List, map, vec_len, Some, Ok, Err, IfOk, IfErr, IsOk, OnOk};
-ghost use Rattle.std.specs.Io.KnownBytes.{Appends, Keeps};
+ghost use Rattle.std.specs.Prelude.{◌≡◌, ◌≤◌, ℕ, List, vec_len, Ok, Err, IfOk, IfErr};
 ghost use Rattle.fq_column.specs.Frame.{Frame};
 ghost use Rattle.fq_csv.specs.Printed.{printed};
 ghost use Rattle.fq_run.specs.GatheredRun.{HasGathered};
 ghost use Rattle.fq_run.specs.Physical.{file_streams, files_wanted, outcome_of_run};
 ghost use Rattle.fq_run.specs.PrintedText.{text_of};
-ghost use Rattle.fq_run.specs.Run.{start_refusal, IsEngineFault, IsOfMeaning, IsRunFault, IsStartFault, Tell, trace_of};
-ghost use Rattle.fq_run.specs.declared.faults.Fault.TheVariants as fault;
+ghost use Rattle.fq_run.specs.Run.{IsAnswer, IsEngineFault, IsOfMeaning, IsRunFault, Tell, trace_of};
 
 use crate::faults::Fault;
 use crate::leading_steps::Worked;
@@ -50,21 +48,7 @@ impl PhysicalPlan {
         batch_size: u32,
         workers: u16,
     ) -> Result<Report, Fault>
-        // the number of inputs is judged first, then the settings
-        ensures refused { (f : _) → start_refusal (files_wanted self.now) (vec_len inputs) batch_size workers ≡ Some f → result ≡ Err f }
-        ensures started { IfErr result (λ f. IsStartFault f → start_refusal (files_wanted self.now) (vec_len inputs) batch_size workers ≡ Some f) }
-        // a report: the frame that the plan comes to was written, and each file's batches were taken in order
-        ensures printed { (files : List (List ℕ)) → Tell R.remaining inputs.items files → OnOk result
-            ((frame : Frame) × (outcome_of_run self.now (file_streams self.now files) ≡ Ok frame) × Appends (W.contents out.old) (W.contents out.new) (printed frame)) }
-        ensures trace { (files : List (List ℕ)) → Tell R.remaining inputs.items files → IfOk result
-            (λ report. report.trace.items ≡ trace_of batch_size (file_streams self.now files)) }
-        // a fault of the files or of the steps is the outcome
-        ensures fault { (files : List (List ℕ)) → Tell R.remaining inputs.items files → IfErr result
-            (λ f. IsOfMeaning f → outcome_of_run self.now (file_streams self.now files) ≡ Err f) }
-        // a failed write is answered only if the plan comes to a frame
-        ensures write { (files : List (List ℕ)) → Tell R.remaining inputs.items files → result ≡ Err fault.Write →
-            IsOk (outcome_of_run self.now (file_streams self.now files)) }
-        ensures unwritten { IfErr result (λ f. f ≢ fault.Write → Keeps (W.contents out.old) (W.contents out.new)) }
+        ensures { IsAnswer (files_wanted self.now) (vec_len inputs) batch_size workers (Tell R.remaining inputs.items) (file_streams self.now) (outcome_of_run self.now) (W.contents out.old) (W.contents out.new) result }
     {
         let wanted = self.inputs();
         let got = inputs.len();
