@@ -121,7 +121,7 @@ def name_of(answer, own):
     return {5: "read or write failed", 6: "out of memory"}.get(answer.status, f"status {answer.status}")
 
 
-SORTS = ("memory", "thread", "open", "read", "write", "interrupt", "short-read", "short-write")
+SORTS = ("memory", "thread", "open", "read", "write", "interrupt", "short-read", "short-write", "keep")
 
 
 def is_allowed(sort, answer, own):
@@ -130,6 +130,8 @@ def is_allowed(sort, answer, own):
         return True
     if sort in ("memory", "thread"):
         return answer == MEMORY
+    if sort in ("open", "keep") and answer == Answer(5, "", WRITE_LINE):
+        return True
     if sort in ("open", "read"):
         return answer == NO_PLAN or bool(re.fullmatch(r"frameq: read failed: file \d+\n", answer.err)) and answer.status == 5 and not answer.out
     if sort == "write" and own.status == 0:
@@ -180,7 +182,26 @@ def build_library(count, room):
     return library
 
 
-def try_program(count, pool, program, library):
+class IntoFile:
+    """A run whose frame takes the place of a file, in a folder of its own. Its output is what the file then holds."""
+
+    def __init__(self, program, folder):
+        os.mkdir(folder)
+        self.program, self.folder, self.file = program, folder, f"{folder}/v.csv"
+        self.arguments = ["--output", self.file, "--plan", write(f"{folder}/plan.json", plan([source(1, "v int")], OVER_TEN)), self.file]
+
+    def __call__(self, **how):
+        before = "v\n5\n20\n"
+        write(self.file, before)
+        answer = self.program.run(self.arguments, **how)
+        with open(self.file, encoding="utf-8") as file:
+            held = file.read()
+        if answer.out or sorted(os.listdir(self.folder)) != ["plan.json", "v.csv"] or (answer.status != 0 and held != before):
+            return answer._replace(status=None, err=f"{os.listdir(self.folder)}, {held!r}, {answer}")
+        return answer._replace(out=held if answer.status == 0 else "")
+
+
+def try_program(count, pool, program, library, room):
     runs = [(row.name, functools.partial(program.run_row, row), row.answer) for row in ROWS]
     for status, *arguments in ARGUMENTS:
         # what clap prints is its own, and the same if nothing is refused
@@ -189,6 +210,8 @@ def try_program(count, pool, program, library):
         count.add("program, arguments", f"status {own.status}", None if own.status == status else f"{name}: {own}")
         runs.append((name, run, own))
     together(((try_sort, count, *it, library, sort) for it in runs for sort in SORTS), pool)
+    own = frame("v\n20\n")
+    together(((try_sort, count, "into a file", IntoFile(program, f"{room}/into-{sort}"), own, library, sort) for sort in SORTS), pool)
 
 
 def makes(run, library, sort, number):

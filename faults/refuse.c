@@ -10,11 +10,12 @@
        short-read    read asks for one byte
        write         write answers EIO
        short-write   write takes one byte
+       keep          fsync and rename answer EIO
 
    If a call is refused, a byte goes to the descriptor REFUSE_TELL. Needs no header. */
 
 #define RTLD_NEXT ((void *)-1L)
-enum { EINTR = 4, EIO = 5, EAGAIN = 11, ENOMEM = 12, EMFILE = 24, READ = 0, WRITE = 1, OPENAT = 257, HERE = -100 };
+enum { EINTR = 4, EIO = 5, EAGAIN = 11, ENOMEM = 12, EMFILE = 24, READ = 0, WRITE = 1, FSYNC = 74, RENAME = 82, OPENAT = 257, HERE = -100 };
 
 typedef unsigned long size_t;
 
@@ -100,6 +101,14 @@ int open(const char *path, int flags, unsigned mode) {
 
 int open64(const char *path, int flags, unsigned mode) {
     return openat(HERE, path, flags, mode);
+}
+
+int fsync(int file) {
+    return is_refused("keep") ? fails(EIO) : syscall(FSYNC, (long)file);
+}
+
+int rename(const char *from, const char *to) {
+    return is_refused("keep") ? fails(EIO) : syscall(RENAME, from, to);
 }
 
 int pthread_create(void *thread, const void *attributes, void *(*body)(void *), void *given) {

@@ -1,5 +1,6 @@
 """The built program when the operating system refuses something."""
 import os
+import pty
 import shutil
 import subprocess
 import tempfile
@@ -140,6 +141,59 @@ def folders(count, program, room):
           lambda it: it == fault(5, "read failed: file 0"))
 
 
+def outputs(count, program, room):
+    """A file that takes the frame: new, over another, over an input, through a link; one that cannot; a run that is killed."""
+    room = f"{room}/outputs"
+    os.mkdir(room)
+    text, other = "v\n1\n2\n", "other\n"
+    steps, data = write(f"{room}/plan.json", plan([source(1, "v int")], "")), write(f"{room}/v.csv", text)
+    bad = write(f"{room}/bad.csv", "v\nx\n")
+
+    def into(what, path, file, wanted, holds, **how):
+        answer = program.run(["--plan", steps, "-o", path, file], **how)
+        said = None
+        if holds is not None:
+            with open(path, encoding="utf-8") as opened:
+                said = opened.read()
+        new = [it for it in os.listdir(room) if it.startswith(".frameq")]
+        check(count, "output file", f"{what}: holds {said!r}, beside it {new}", answer, lambda it: it == wanted and said == holds and not new)
+
+    done, failed = Answer(0, "", ""), Answer(5, "", WRITE_LINE)
+    into("a new file", f"{room}/new.csv", data, done, text)
+    own = write(f"{room}/own.csv", text)
+    os.chmod(own, 0o640)
+    into("an input", own, own, done, text)
+    check(count, "output file", "its permissions", Answer(os.stat(own).st_mode & 0o777, "", ""), lambda it: it.status == 0o640)
+    into("a fault", write(f"{room}/other.csv", other), bad, fault(4, "file 0, row 1, column 0: bad cell"), other)
+    os.symlink("other.csv", f"{room}/link.csv")
+    into("a link", f"{room}/link.csv", data, done, text)
+    check(count, "output file", "the link", Answer(int(os.path.islink(f"{room}/link.csv")), "", ""), lambda it: it.status == 1)
+    write(f"{room}/other.csv", other)
+    into("a limited size", f"{room}/other.csv", data, failed, other, under=limit("fsize", 3), restore_signals=False)
+    into("a folder that is not there", f"{room}/none/new.csv", data, failed, None)
+    into("a folder", room, data, failed, None)
+    into("a full device", "/dev/full", data, failed, None)
+    os.mkfifo(f"{room}/pipe")
+    ran = subprocess.Popen([program.path, "--plan", steps, "-o", f"{room}/other.csv", f"{room}/pipe"], stderr=subprocess.DEVNULL)
+    with open(f"{room}/pipe", "wb") as pipe:
+        pipe.write(b"v\n1\n")
+        pipe.flush()
+        time.sleep(0.2)
+        ran.kill()
+        ran.wait()
+    with open(f"{room}/other.csv", encoding="utf-8") as opened:
+        check(count, "output file", "killed midway", Answer(ran.returncode, opened.read(), ""), lambda it: it.out == other)
+
+
+def terminal(count, program):
+    """A terminal as standard input, and no argument."""
+    controller, terminal = pty.openpty()
+    answer = program.run([], stdin=terminal)
+    os.close(controller)
+    os.close(terminal)
+    check(count, "terminal", "no argument", answer, lambda it: it.status == 2 and not it.out and "Usage: frameq" in it.err)
+
+
 def pipes(count, program, room):
     """Named pipes as plan and data, written byte by byte, and ones whose writer ends early."""
     whole, row = "v\n1\n2\n3\n", plan([source(2, "v int")], "")
@@ -210,6 +264,7 @@ def try_system(count, pool, program, room):
     small = [(it.name, program.arguments[it.name], it.answer) for it in ROWS if it.answer.status == 0 and it.options is not None]
     parts = [(stack_sizes, count, program, rows), (devices, count, program, rows), (early_reader, count, program, rows),
              (open_files, count, program, small + rows), (folders, count, program, room), (pipes, count, program, room), (shrinking_files, count, program, room),
+             (outputs, count, program, room), (terminal, count, program),
              (threads, count, program, small + rows)]
     together(parts, pool)
     address_spaces(count, pool, program, rows + small)

@@ -9,18 +9,20 @@ use crate::failures::{Failure, report};
 use crate::files::{OpenFault, Opener};
 use crate::inputs::read_whole;
 use crate::options::Options;
+use crate::outputs::Output;
 use crate::program::checked_plan;
 use crate::status::Status;
 use clap::error::ErrorKind;
 use fq_plan::{Checked, Fault};
 use std::alloc::Global;
-use std::io::Write;
+use std::io::{Read, Write};
 use std::sync::Wait;
 use std::thread::Threads;
 
 /// Does what the arguments ask for, and answers the exit status. The program's own name is not among these.
 ///
-/// `--plan PLAN [--batch N] [--workers N] [--progress] FILE...` runs a plan over files and writes the frame to `out`. `--plan PLAN
+/// `--plan PLAN [--batch N] [--workers N] [--output OUT] [--progress] FILE...` runs a plan over files and writes the frame to `out`, or in
+/// the place of a file, which stays as it was if there is no frame. `--plan PLAN
 /// --explain` writes there what the plan's steps leave, and opens no file of data; `--help` and `--version` write a text. At any
 /// status but 0 a message on `err` says why, and nothing is written to `out`, except that at 5, if the write itself failed, an
 /// unknown part may be. A failed write to `err` changes no status. The arguments are judged first, then the plan file, the plan, and
@@ -149,6 +151,28 @@ fn run_plan<T: Threads + Wait + Sync, O: Opener, W: Write>(
         return Err(Failure::Run(Fault::Inputs { wanted, got }));
     }
     let inputs = open_all(alloc, files, names)?;
+    match options.output() {
+        None => run_to(rt, alloc, plan, options, inputs, out),
+        Some(name) => {
+            let output = files
+                .output_of(alloc, name)
+                .map_err(|fault| failure_of(fault, Failure::Run(Fault::Write)))?;
+            run_to_file(rt, alloc, plan, options, inputs, output)
+        }
+    }
+}
+
+// Writes the frame of the plan over inputs.
+fn run_to<T: Threads + Wait + Sync, R: Read + Drop + Send, W: Write>(
+    rt: &T,
+    alloc: Global,
+    plan: &Checked,
+    options: &Options<'_>,
+    inputs: Vec<R>,
+    out: &mut W,
+) -> Result<(), Failure>
+    ensures unwritten { IfErr result (λ f. f ≢ failure.Run fault.Write → Keeps (W.contents out.old) (W.contents out.new)) }
+{
     plan.run(
         rt,
         alloc,
@@ -158,6 +182,24 @@ fn run_plan<T: Threads + Wait + Sync, O: Opener, W: Write>(
         options.workers(),
     )?;
     Ok(())
+}
+
+// Writes the frame of the plan over inputs in the place of a file, which stays as it was if there is no frame.
+fn run_to_file<T: Threads + Wait + Sync, R: Read + Drop + Send, O: Output>(
+    rt: &T,
+    alloc: Global,
+    plan: &Checked,
+    options: &Options<'_>,
+    inputs: Vec<R>,
+    mut output: O,
+) -> Result<(), Failure> {
+    match run_to(rt, alloc, plan, options, inputs, &mut output) {
+        Ok(()) => output.keep().map_err(|_| Failure::Run(Fault::Write)),
+        Err(failure) => {
+            output.discard();
+            Err(failure)
+        }
+    }
 }
 
 // Readers of the files of these names, in order.
@@ -178,8 +220,15 @@ fn open_all<O: Opener>(
 
 // A reader of the file of this name, or this failure if it cannot be opened.
 fn open<O: Opener>(files: &mut O, name: &str, failure: Failure) -> Result<O::Reader, Failure> {
-    files.reader_of(name).map_err(|fault| match fault {
+    files
+        .reader_of(name)
+        .map_err(|fault| failure_of(fault, failure))
+}
+
+// The failure of a file that is not opened: this one, unless an allocation failed.
+fn failure_of(fault: OpenFault, failure: Failure) -> Failure {
+    match fault {
         OpenFault::Failed => failure,
         OpenFault::Memory => Failure::MEMORY,
-    })
+    }
 }

@@ -1,11 +1,16 @@
 //! What opens files by name.
+use crate::outputs::{Output, SystemOutput};
 use crate::progress::{Line, Watched};
+use std::alloc::Global;
 use std::fs::{File, Files, OpenFile};
 use std::io;
 use std::io::{ErrorKind, Read, Write};
 
 /// The name of standard input among the names of files.
 pub const STANDARD_INPUT: &str = "-";
+
+/// The name of standard output among the names of files that take a frame.
+pub const STANDARD_OUTPUT: &str = "-";
 
 /// Goes back to the start of a terminal's line and clears it (ECMA-48, EL).
 pub const CLEAR_LINE: &[u8] = b"\r\x1b[K";
@@ -24,8 +29,14 @@ pub trait Opener {
     /// What reads an open file.
     type Reader: Read + Drop + Send;
 
+    /// What takes the frame in the place of a file.
+    type Output: Output;
+
     /// A reader of the file of this name, from its start.
     fn reader_of(&mut self, name: &str) -> Result<Self::Reader, OpenFault>;
+
+    /// What takes the place of the file of this name, once it is kept.
+    fn output_of(&mut self, alloc: Global, name: &str) -> Result<Self::Output, OpenFault>;
 
     /// From here on, the readers of the files that are opened show how far they are. An opener may have nowhere to show it.
     fn show_progress(&mut self) {}
@@ -63,20 +74,27 @@ impl<F: Files, I: Read, L: Write> SystemFiles<'_, F, I, L> {
         if name == STANDARD_INPUT {
             return Ok(SystemReader::Input(self.input.take().ok_or(OpenFault::Failed)?));
         }
-        match File::open(self.files, name) {
-            Ok(file) => Ok(SystemReader::File(file)),
-            Err(error) if error.kind() == ErrorKind::OutOfMemory => Err(OpenFault::Memory),
-            Err(_) => Err(OpenFault::Failed),
-        }
+        let file = File::open(self.files, name).map_err(open_fault)?;
+        Ok(SystemReader::File(file))
     }
 }
 
-impl<F: Files, I: Read + Drop + Send, L: Write + Copy + Drop + Send> Opener
-    for SystemFiles<'_, F, I, L>
+// Why a file that a system did not open is not opened.
+fn open_fault(error: io::Error) -> OpenFault {
+    match error.kind() {
+        ErrorKind::OutOfMemory => OpenFault::Memory,
+        _ => OpenFault::Failed,
+    }
+}
+
+impl<'a, F: Files, I: Read + Drop + Send, L: Write + Copy + Drop + Send> Opener
+    for SystemFiles<'a, F, I, L>
 where
     F::File: Send,
 {
     type Reader = Watched<SystemReader<F::File, I>, L>;
+
+    type Output = SystemOutput<'a, F>;
 
     fn reader_of(&mut self, name: &str) -> Result<Self::Reader, OpenFault> {
         let reader = self.open(name)?;
@@ -88,6 +106,10 @@ where
             None => None,
         };
         Ok(Watched::new(reader, line))
+    }
+
+    fn output_of(&mut self, alloc: Global, name: &str) -> Result<SystemOutput<'a, F>, OpenFault> {
+        SystemOutput::create(alloc, self.files, name).map_err(open_fault)
     }
 
     fn show_progress(&mut self) {

@@ -1,5 +1,5 @@
 //! The arguments of the command line.
-use crate::files::STANDARD_INPUT;
+use crate::files::{STANDARD_INPUT, STANDARD_OUTPUT};
 use crate::program::{BATCH_SIZE, WORKERS};
 use clap::{Arg, ArgAction, ArgMatches, Command, Error, value_parser};
 use fq_plan::{MAX_BATCH_SIZE, MAX_WORKERS};
@@ -39,6 +39,13 @@ impl<'a> Options<'a> {
         self.0.get_one("workers").unwrap_or(WORKERS)
     }
 
+    /// The name of the file that takes the frame, if standard output does not.
+    pub fn output(&self) -> Option<&'a str> {
+        self.0
+            .get_str("output")
+            .filter(|name| *name != STANDARD_OUTPUT)
+    }
+
     /// Whether the plan is to be explained, and not run.
     pub fn explain(&self) -> bool {
         self.0.get_flag("explain")
@@ -65,8 +72,9 @@ fn command<'a>(alloc: Global) -> Result<Command<'a>, AllocError> {
         .about("Runs a plan over CSV files, and prints one CSV frame")
         .after_help(AFTER_HELP)
         .arg(plan(alloc))?
-        .arg(batch(alloc))?
-        .arg(workers(alloc))?
+        .arg(batch(alloc)?)?
+        .arg(workers(alloc)?)?
+        .arg(output(alloc)?)?
         .arg(explain(alloc))?
         .arg(progress(alloc))?
         .arg(file(alloc)?)
@@ -81,22 +89,38 @@ fn plan<'a>(alloc: Global) -> Arg<'a> {
         .help("The plan: a file with one JSON object, or - for standard input")
 }
 
-fn batch<'a>(alloc: Global) -> Arg<'a> {
-    Arg::new(alloc, "batch")
+fn batch<'a>(alloc: Global) -> Result<Arg<'a>, AllocError> {
+    let batch = Arg::new(alloc, "batch")
         .long("batch")
         .value_name("N")
+        .overrides_with("batch")?
         .value_parser(value_parser!(u32).range(1..=i64::from(MAX_BATCH_SIZE)))
         .default_value("1024")
-        .help("Rows that are read and worked on at a time, from 1 to 65536")
+        .help("Rows that are read and worked on at a time, from 1 to 65536");
+    Ok(batch)
 }
 
-fn workers<'a>(alloc: Global) -> Arg<'a> {
-    Arg::new(alloc, "workers")
+fn workers<'a>(alloc: Global) -> Result<Arg<'a>, AllocError> {
+    let workers = Arg::new(alloc, "workers")
         .long("workers")
         .value_name("N")
+        .overrides_with("workers")?
         .value_parser(value_parser!(u16).range(1..=i64::from(MAX_WORKERS)))
         .default_value("2")
-        .help("Threads that work on batches, from 1 to 16")
+        .help("Threads that work on batches, from 1 to 16");
+    Ok(workers)
+}
+
+fn output<'a>(alloc: Global) -> Result<Arg<'a>, AllocError> {
+    let output = Arg::new(alloc, "output")
+        .long("output")
+        .short('o')
+        .value_name("OUT")
+        .overrides_with("output")?
+        .conflicts_with("explain")?
+        .action(ArgAction::Set)
+        .help("The file that takes the frame once all of it is there, or - for standard output");
+    Ok(output)
 }
 
 fn explain<'a>(alloc: Global) -> Arg<'a> {
@@ -133,7 +157,7 @@ steps. They run in order over the rows of the last source; a join names one of t
 Without arguments, the first line of standard input is the plan, and the bytes after it are its one file.
 
 Exit status:
-  0  the frame, or the text asked for, is on standard output
+  0  the frame, or the text asked for, is on standard output or in OUT
   2  arguments that are refused, or the wrong number of files
   3  the plan is refused
   4  a fault of a file's text, or of a step on its rows

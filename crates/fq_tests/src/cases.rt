@@ -1,6 +1,8 @@
 //! Runs of the program over inputs in memory, with the answers that are wanted.
-use fq_program::{OpenFault, Opener, one_input, with_words};
+use fq_program::{OpenFault, Opener, Output, one_input, with_words};
 use std::alloc::Global;
+use std::io;
+use std::io::{ErrorKind, Write};
 use std::process::Abort;
 use std::sync::Wait;
 use std::test::Fail;
@@ -20,9 +22,37 @@ struct Inputs<'a> {
 impl<'a> Opener for Inputs<'a> {
     type Reader = &'a [u8];
 
+    type Output = Nowhere;
+
     fn reader_of(&mut self, name: &str) -> Result<&'a [u8], OpenFault> {
         self.text(name).map(str::as_bytes).ok_or(OpenFault::Failed)
     }
+
+    fn output_of(&mut self, _alloc: Global, _name: &str) -> Result<Nowhere, OpenFault> {
+        Err(OpenFault::Failed)
+    }
+}
+
+/// What takes no frame.
+#[derive(Drop)]
+struct Nowhere;
+
+impl Write for Nowhere {
+    fn write(&mut self, _buffer: &[u8]) -> io::Result<usize> {
+        Err(io::Error::from(ErrorKind::Other))
+    }
+
+    fn flush(&mut self) -> io::Result<()> {
+        Ok(())
+    }
+}
+
+impl Output for Nowhere {
+    fn keep(self) -> io::Result<()> {
+        Ok(())
+    }
+
+    fn discard(self) {}
 }
 
 impl<'a> Inputs<'a> {

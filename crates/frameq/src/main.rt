@@ -1,14 +1,14 @@
 //! frameq: a plan over CSV files.
 //!
 //! With arguments, a plan file runs over data files: see `frameq --help`. Without arguments, the first line of standard input is
-//! the plan, in JSON, and the bytes after it are the one CSV file. The frame goes to standard output, a line on standard
+//! the plan, in JSON, and the bytes after it are the one CSV file; if it is a terminal, the usage is shown. The frame goes to standard output, a line on standard
 //! error says why there is none, and the exit status says how the run ended. What is done stands in `fq_program`; here
 //! it meets the system.
 #![tactic(auto)]
 
 use fq_program::{Failure, SystemFiles, one_input, report, with_words};
 use std::env;
-use std::io::ErrorKind;
+use std::io::{ErrorKind, IsTerminal};
 use std::process::ExitCode;
 
 fn main(rt: HostRuntime) -> ExitCode {
@@ -16,7 +16,9 @@ fn main(rt: HostRuntime) -> ExitCode {
     let (mut out, mut err) = (rt.stdout(), rt.stderr());
     ExitCode::from(match words_of(&rt) {
         Err(failure) => report(Err(failure), &mut err),
-        Ok(words) if words.is_empty() => one_input(&rt, alloc, rt.stdin(), &mut out, &mut err),
+        Ok(words) if words.is_empty() && !rt.stdin().is_terminal() => {
+            one_input(&rt, alloc, rt.stdin(), &mut out, &mut err)
+        }
         Ok(words) => {
             let mut files = SystemFiles::new(&rt, rt.stdin(), rt.stderr());
             with_words(&rt, alloc, words, &mut files, &mut out, &mut err)
