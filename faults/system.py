@@ -185,13 +185,19 @@ def outputs(count, program, room):
         check(count, "output file", "killed midway", Answer(ran.returncode, opened.read(), ""), lambda it: it.out == other)
 
 
-def terminal(count, program):
-    """A terminal as standard input, and no argument."""
+def terminal(count, program, room):
+    """A terminal as standard input, without arguments, and as standard error, which shows how much is read."""
+    text = "v\n" + "1234567\n" * 300_000
+    watched = ["--progress", "--plan", write(f"{room}/megabytes.json", plan([source(1, "v int")], "")), write(f"{room}/megabytes.csv", text)]
+    shown = "\r\x1b[K".join(["", "frameq: file 0: 1 of 2 MB", "frameq: file 0: 2 of 2 MB", ""])
     controller, terminal = pty.openpty()
     answer = program.run([], stdin=terminal)
+    check(count, "terminal", "no argument", answer, lambda it: it.status == 2 and not it.out and "Usage: frameq" in it.err)
+    check(count, "terminal", "--progress without one", program.run(watched), lambda it: it == frame(text))
+    answer = program.run(watched, stderr=terminal)._replace(err=os.read(controller, 4096).decode())
+    check(count, "terminal", "--progress", answer, lambda it: it == Answer(0, text, shown))
     os.close(controller)
     os.close(terminal)
-    check(count, "terminal", "no argument", answer, lambda it: it.status == 2 and not it.out and "Usage: frameq" in it.err)
 
 
 def pipes(count, program, room):
@@ -264,7 +270,7 @@ def try_system(count, pool, program, room):
     small = [(it.name, program.arguments[it.name], it.answer) for it in ROWS if it.answer.status == 0 and it.options is not None]
     parts = [(stack_sizes, count, program, rows), (devices, count, program, rows), (early_reader, count, program, rows),
              (open_files, count, program, small + rows), (folders, count, program, room), (pipes, count, program, room), (shrinking_files, count, program, room),
-             (outputs, count, program, room), (terminal, count, program),
+             (outputs, count, program, room), (terminal, count, program, room),
              (threads, count, program, small + rows)]
     together(parts, pool)
     address_spaces(count, pool, program, rows + small)

@@ -52,14 +52,15 @@ pub struct SystemFiles<'a, F: Files, I: Read, L: Write> {
     files: &'a F,
     // none once it is opened
     input: Option<I>,
-    log: L,
+    // where progress is shown, if anywhere
+    log: Option<L>,
     // the number of the next file that shows how far it is read, if files do
     shown: Option<usize>,
 }
 
 impl<'a, F: Files, I: Read, L: Write> SystemFiles<'a, F, I, L> {
-    /// These files and this standard input. Progress is shown on `log`.
-    pub fn new(files: &'a F, input: I, log: L) -> SystemFiles<'a, F, I, L> {
+    /// These files and this standard input. Progress is shown on `log`, if there is one.
+    pub fn new(files: &'a F, input: I, log: Option<L>) -> SystemFiles<'a, F, I, L> {
         SystemFiles {
             files,
             input: Some(input),
@@ -98,12 +99,12 @@ where
 
     fn reader_of(&mut self, name: &str) -> Result<Self::Reader, OpenFault> {
         let reader = self.open(name)?;
-        let line = match self.shown {
-            Some(file) => {
+        let line = match (self.shown, self.log) {
+            (Some(file), Some(log)) => {
                 self.shown = Some(file.saturating_add(1));
-                Some(Line::new(self.log, file, reader.size()))
+                Some(Line::new(log, file, reader.size()))
             }
-            None => None,
+            _ => None,
         };
         Ok(Watched::new(reader, line))
     }
@@ -117,7 +118,9 @@ where
     }
 
     fn clear_progress(&mut self) {
-        let _ = self.log.write_all(CLEAR_LINE);
+        if let Some(log) = &mut self.log {
+            let _ = log.write_all(CLEAR_LINE);
+        }
     }
 }
 

@@ -134,7 +134,7 @@ fn progress<'a>(alloc: Global) -> Arg<'a> {
     Arg::new(alloc, "progress")
         .long("progress")
         .action(ArgAction::SetTrue)
-        .help("Show on standard error how far the files are read")
+        .help("Show on standard error how far the files are read, if it is a terminal")
 }
 
 fn file<'a>(alloc: Global) -> Result<Arg<'a>, AllocError> {

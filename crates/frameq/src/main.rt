@@ -20,7 +20,8 @@ fn main(rt: HostRuntime) -> ExitCode {
             one_input(&rt, alloc, rt.stdin(), &mut out, &mut err)
         }
         Ok(words) => {
-            let mut files = SystemFiles::new(&rt, rt.stdin(), rt.stderr());
+            let log = rt.stderr().is_terminal().then(|| rt.stderr());
+            let mut files = SystemFiles::new(&rt, rt.stdin(), log);
             with_words(&rt, alloc, words, &mut files, &mut out, &mut err)
         }
     })
