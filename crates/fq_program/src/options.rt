@@ -70,7 +70,7 @@ fn command<'a>(alloc: Global) -> Result<Command<'a>, AllocError> {
         .no_binary_name(true)
         .version(VERSION)
         .about("Runs a plan over CSV files, and prints one CSV frame")
-        .after_help(AFTER_HELP)
+        .after_long_help(AFTER_HELP)
         .arg(plan(alloc))?
         .arg(batch(alloc)?)?
         .arg(workers(alloc)?)?
