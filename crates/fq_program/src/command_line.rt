@@ -1,5 +1,5 @@
 //! The program with arguments.
-ghost use Rattle.std.specs.Prelude.{◌≢◌, ◌<◌, ◌^◌, length, IfErr};
+ghost use Rattle.std.specs.Prelude.{◌≢◌, ◌<◌, ◌^◌, length, IfErr, OnOk};
 ghost use Rattle.std.specs.Io.KnownBytes.{Keeps};
 ghost use Rattle.fq_run.specs.declared.faults.Fault.TheVariants as fault;
 ghost use Rattle.fq_program.specs.Ending.{done, bad_device};
@@ -23,7 +23,7 @@ use std::thread::Threads;
 ///
 /// `--plan PLAN [--batch N] [--workers N] [--output OUT] [--progress] FILE...` runs a plan over files and writes the frame to `out`, or in
 /// the place of a file, which stays as it was if there is no frame. `--plan PLAN
-/// --explain` writes there what the plan's steps leave, and opens no file of data; `--help` and `--version` write a text. At any
+/// --explain [FILE...]` writes there what the plan's steps leave, and opens no file of data; `--help` and `--version` write a text. At any
 /// status but 0 a message on `err` says why, and nothing is written to `out`, except that at 5, if the write itself failed, an
 /// unknown part may be. A failed write to `err` changes no status. The arguments are judged first, then the plan file, the plan, and
 /// the number of files; then the files are opened in order, and read as the run goes on.
@@ -101,7 +101,7 @@ fn explain_or_run<T: Threads + Wait + Sync, O: Opener, W: Write>(
     ensures unwritten { IfErr result (λ f. f ≢ failure.Run fault.Write → Keeps (W.contents out.old) (W.contents out.new)) }
 {
     if options.explain() {
-        write_explanation(alloc, plan, out)
+        write_explanation(alloc, plan, options.files(), out)
     } else if options.progress() {
         run_with_progress(rt, alloc, plan, options, files, out)
     } else {
@@ -126,10 +126,18 @@ fn run_with_progress<T: Threads + Wait + Sync, O: Opener, W: Write>(
     answer
 }
 
-// Writes what the steps of the plan leave.
-fn write_explanation<W: Write>(alloc: Global, plan: &Checked, out: &mut W) -> Result<(), Failure>
+// Writes what the steps of the plan leave. If there are names of files, their number has to be the plan's.
+fn write_explanation<W: Write>(
+    alloc: Global,
+    plan: &Checked,
+    names: &[&str],
+    out: &mut W,
+) -> Result<(), Failure>
     ensures unwritten { IfErr result (λ f. f ≢ failure.Run fault.Write → Keeps (W.contents out.old) (W.contents out.new)) }
 {
+    if !names.is_empty() {
+        count_files(plan, names)?;
+    }
     let explanation = plan.explain(alloc)?;
     write!(out, "{explanation}").map_err(|_| Failure::Run(Fault::Write))
 }
@@ -145,11 +153,8 @@ fn run_plan<T: Threads + Wait + Sync, O: Opener, W: Write>(
 ) -> Result<(), Failure>
     ensures unwritten { IfErr result (λ f. f ≢ failure.Run fault.Write → Keeps (W.contents out.old) (W.contents out.new)) }
 {
-    let (names, wanted) = (options.files(), plan.inputs());
-    let got = names.len();
-    if got != usize::from(wanted) {
-        return Err(Failure::Run(Fault::Inputs { wanted, got }));
-    }
+    let names = options.files();
+    count_files(plan, names)?;
     let inputs = open_all(alloc, files, names)?;
     match options.output() {
         None => run_to(rt, alloc, plan, options, inputs, out),
@@ -160,6 +165,18 @@ fn run_plan<T: Threads + Wait + Sync, O: Opener, W: Write>(
             run_to_file(rt, alloc, plan, options, inputs, output)
         }
     }
+}
+
+// Refuses a number of files that is not the plan's.
+fn count_files(plan: &Checked, names: &[&str]) -> Result<(), Failure>
+    ensures few { OnOk result (length names.now < 2 ^ 16) }
+    ensures refused { IfErr result (λ f. f ≢ failure.Run fault.Write) }
+{
+    let (wanted, got) = (plan.inputs(), names.len());
+    if got != usize::from(wanted) {
+        return Err(Failure::Run(Fault::Inputs { wanted, got }));
+    }
+    Ok(())
 }
 
 // Writes the frame of the plan over inputs.
