@@ -16,6 +16,7 @@ TOTALS = {"customer": INT, "total": INT}
 BLOCKED = {"customer": INT, "blocked": BOOL}
 ORDERS = {"order": INT, "customer": INT}
 CENTS = {"account": INT, "cents": INT}
+OFFERS = {"region": TEXT, "product": TEXT, "cents": INT}
 SALES = {"month": TEXT, "region": TEXT, "product": TEXT, "units": INT, "unit_cents": INT, "returned": BOOL}
 EXPORT = {"Order no": INT, "Day": TEXT, "Customer": TEXT, "Country": TEXT, "Units": INT, "Unit price": INT, "Paid": TEXT}
 MARKS = {**EXPORT, "Units": TEXT, "Unit price": TEXT}
@@ -224,6 +225,24 @@ FRAMES = {
         .group_by("all")
         .agg(C("cents").count().alias("sales"), C("cents").sum().alias("total"))
         .select("sales", "total", mean=C("total") // C("sales"))
+    ),
+    "guide/month_of_a_date": lambda calendar, *f: (
+        scan(f, {"date": TEXT, "visits": INT})
+        .join(scan([calendar], {"date": TEXT, "month": TEXT}), on="date", how="left")
+        .group_by("month")
+        .agg(C("visits").sum())
+    ),
+    "guide/joined_condition": lambda customers, *f: (
+        scan(f, {"order": INT, "customer": INT, "cents": INT})
+        .join(scan([customers], {"customer": INT, "city": TEXT}), on="customer")
+        .filter(C("city") == "Bonn")
+        .select("order", "cents")
+    ),
+    "guide/row_of_the_maximum": lambda sales, *f: (
+        scan(f, OFFERS)
+        .group_by("region")
+        .agg(C("cents").max())
+        .join(scan([sales], OFFERS), on=["region", "cents"])
     ),
     "guide/null_values": lambda *f: scan(f, {"station": TEXT, "reading": INT}, ["NA", "-", "n/a"]),
     "guide/overflow": lambda *f: scan(f, {"a": INT, "b": INT}).with_columns(p=C("a") + 1).with_columns(q=C("b") + 1),
