@@ -9,5 +9,6 @@ pub mod csv;
 pub mod expressions;
 pub mod lanes;
 pub mod operators;
+pub mod places;
 pub mod plans;
 pub mod program;

@@ -1,0 +1,3 @@
+pub mod LineCountLemmas
+pub mod LineLemmas
+pub mod RecordLemmas
