@@ -1,5 +1,5 @@
 -- What a JSON reader's answer says of the plan that bytes spell.
-use Rattle.std.proofs.Common.{◌≡◌, ℕ, Bool, true, false, List, Option, Some, None, Result, Err, IsUtf8, refl, ap, sym, ◌∙◌}
+use Rattle.std.proofs.Common.{◌≡◌, ℕ, Bool, true, false, List, Option, Some, None, Result, Err, IsOk, IsUtf8, refl, ap, sym, subst, rules, ◌∙◌}
 use Rattle.std.specs.Prelude.{ok_or}
 use Rattle.std.specs.Str.{is_utf8}
 use Rattle.std.proofs.lemmas.Str.{IsUtf8-from_is_utf8, is_utf8-from_IsUtf8}
@@ -24,3 +24,15 @@ read_as_plan-none bytes h = go (is_utf8 bytes) refl
     go : (b : Bool) → is_utf8 bytes ≡ b → Err Json ≡ read_as_plan bytes
     go true e = sym (ap (λ b. of_data (only_if b (read bytes))) e ∙ ap of_data (h (IsUtf8-from_is_utf8 bytes e)))
     go false e = sym (ap (λ b. of_data (only_if b (read bytes))) e)
+
+-- if the value that was read spells a plan, the bytes do
+pub spells-if_read : (bytes : List ℕ) (d : Data) (p : Query) (o : Option Query) → IsUtf8 bytes → read bytes ≡ Some d → o ≡ plan_of d → o ≡ Some p → IsOk (read_as_plan bytes)
+spells-if_read bytes d p o valid e same is =
+    let P : Result Query PlanFault → Type 0 = λ r. IsOk r in subst P (read_as_plan-some bytes d (Some p) valid e (sym is ∙ same)) (search rules)
+
+-- if no value was read, the bytes spell no plan
+pub spells_not-if_unread : (bytes : List ℕ) → (IsUtf8 bytes → read bytes ≡ None) → IsOk (read_as_plan bytes) → ⊥
+spells_not-if_unread bytes h ok =
+    let P : Result Query PlanFault → Type 0 = λ r. IsOk r in
+    let none : P (Err Json) = subst P (sym (read_as_plan-none bytes h)) ok in
+    let unequal : false ≡ true = none in cc

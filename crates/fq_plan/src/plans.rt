@@ -1,7 +1,7 @@
 //! Plans.
 ghost use Rattle.std.specs.Prelude.{◌≡◌, ◌≤◌, ◌⊎◌, Err, length, map, sum_by};
 ghost use Rattle.fq_plan.specs.Spelling.{read_as_plan};
-ghost use Rattle.fq_plan.specs.View.{source_data};
+ghost use Rattle.fq_plan.specs.View.{field_of, source_data};
 
 use crate::faults::PlanFault;
 use crate::reading::plan_in;
@@ -87,6 +87,31 @@ impl Model for Plan {
     ghost view = { λ p. record { sources = map source_data p.sources.items; steps = map plan_step_of p.steps.items } };
 
     ghost invariant = { λ p. IsWithinLimits (record { sources = map source_data p.sources.items; steps = map plan_step_of p.steps.items }) };
+}
+
+impl Plan {
+    /// The sources, in order; the last is the main one.
+    pub fn sources(&self) -> &[Source]
+        ensures { map source_data result.now ≡ self.now.sources }
+    {
+        self.sources.as_slice()
+    }
+}
+
+impl Source {
+    /// How many files the source has, from 1 to [`MAX_FILES`].
+    pub fn files(&self) -> u16
+        ensures { result ≡ (source_data self.now).files }
+    {
+        self.files
+    }
+
+    /// The names and the kinds of its columns, in order.
+    pub fn columns(&self) -> &[(String, Kind)]
+        ensures { map field_of result.now ≡ (source_data self.now).fields }
+    {
+        self.columns.as_slice()
+    }
 }
 
 /// The plan that a JSON text spells.

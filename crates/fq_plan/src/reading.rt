@@ -10,13 +10,13 @@ use fq_column::Memory;
 use serde_json::Value;
 use std::alloc::Global;
 
-mod aggregates;
+pub mod aggregates;
 mod expressions;
 mod lists;
-mod plans;
+pub mod plans;
 mod steps;
-mod values;
-mod words;
+pub mod values;
+pub mod words;
 
 pub use plans::plan_in;
 

@@ -53,8 +53,8 @@ fn of_rows(function: &Value) -> Option<What>
     }
 }
 
-// The aggregate of a column that a word names.
-fn of_column(function: &Value, column: String) -> Option<What>
+/// The aggregate of a column that a word names.
+pub fn of_column(function: &Value, column: String) -> Option<What>
     ensures { option_map aggregate_of result ≡ option_map (λ f. f (string_bytes column)) (word functions (view function.now)) }
 {
     match function.as_str()? {

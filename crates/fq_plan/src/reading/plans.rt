@@ -108,8 +108,8 @@ pub fn plan_in(alloc: Global, value: &Value) -> Result<Option<Plan>, Memory>
     Ok(Some(Plan { sources, steps }))
 }
 
-// The version of a plan.
-fn version_number(value: &Value) -> Option<Version>
+/// The version of a plan.
+pub fn version_number(value: &Value) -> Option<Version>
     ensures { result ≡ version_of (view value.now) }
 {
     match whole_from_to(value, 1, 2)? {

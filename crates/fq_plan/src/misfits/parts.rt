@@ -1,0 +1,197 @@
+//! Parts of a plan, of which it can be said why a value spells none.
+//!
+//! Whether a value spells a part is judged by `Spelled::read`. What does not is gone into, up to a value of which no part is at fault.
+ghost use Rattle.std.specs.Prelude.{◌≤◌, OnOk};
+
+use crate::plans::Version;
+use crate::reading::Spelled;
+use crate::reading::values::two_items;
+use crate::reasons::{Fit, Segment, bail, within};
+use crate::words::{HOWS, KINDS, Words};
+use fq_column::Kind;
+use fq_expr::Expr;
+use fq_ops::How;
+use fq_places::Quoted;
+use serde_json::Value;
+use std::alloc::Global;
+use std::fmt;
+use std::fmt::{Display, Formatter, Write};
+
+/// A part of a plan, of which it can be said why a value does not spell it.
+pub trait Explained: Spelled {
+    /// Why a value that spells no such part does not.
+    fn explain(judge: Judge, value: &Value) -> Fit;
+}
+
+/// Judges values by a version of the language; its methods give what a value spells, or why it does not.
+#[derive(Clone, Copy)]
+pub struct Judge {
+    pub alloc: Global,
+    pub version: Version,
+}
+
+impl Judge {
+    /// The part that a value spells.
+    pub fn part<T: Explained>(self, value: &Value) -> Fit<T> {
+        if let Some(part) = T::read(self.alloc, self.version, value)? {
+            return Ok(part);
+        }
+        T::explain(self, value)?;
+        bail!(self.alloc, "the plan has the wrong shape")
+    }
+
+    /// The part that an item of an array spells.
+    pub fn item<T: Explained>(self, number: usize, item: &Value) -> Fit<T> {
+        within(Segment::Item(number), self.part(item))
+    }
+
+    /// The part that an object's member spells.
+    pub fn member<T: Explained>(self, value: &Value, name: &'static str) -> Fit<T> {
+        match value.get(name) {
+            Some(part) => within(Segment::Member(name), self.part(part)),
+            None => bail!(self.alloc, "\"{name}\" is missing"),
+        }
+    }
+
+    /// The part that an object's member spells, if it is there.
+    pub fn given<T: Explained>(self, value: &Value, name: &'static str) -> Fit<Option<T>> {
+        match value.get(name) {
+            Some(_) => Ok(Some(self.member(value, name)?)),
+            None => Ok(None),
+        }
+    }
+
+    /// Nothing if a value is an object with no members but these; they may be missing.
+    pub fn members(self, value: &Value, members: Words) -> Fit {
+        let allowed = members.of(self.version);
+        let Some(object) = value.as_object() else {
+            bail!(self.alloc, "{} is not an object of {allowed}", Found(value));
+        };
+        let Some(name) = object.keys().find(|name| !allowed.has(name.as_str())) else {
+            return Ok(());
+        };
+        let found = Quoted(name.as_bytes());
+        if members.has(name.as_str()) {
+            bail!(self.alloc, "{found} needs version 2");
+        }
+        bail!(self.alloc, "{found} is not a member; there are {allowed:#}")
+    }
+
+    /// Nothing if there are at most so many.
+    pub fn at_most(self, count: usize, most: usize, what: &str) -> Fit
+        ensures { OnOk result (count ≤ most) }
+    {
+        if count > most {
+            bail!(self.alloc, "{count} {what}; at most {most}");
+        }
+        Ok(())
+    }
+
+    /// What stands there, and what is wrong with it.
+    pub fn wrong(self, value: &Value, what: &str) -> Fit {
+        bail!(self.alloc, "{} {what}", Found(value))
+    }
+
+    /// Why a value is not one of the words of the version.
+    pub fn no_word(self, value: &Value, words: Words) -> Fit {
+        let allowed = words.of(self.version);
+        if let Some(word) = value.as_str()
+            && words.has(word)
+            && !allowed.has(word)
+        {
+            return self.wrong(value, "needs version 2");
+        }
+        bail!(self.alloc, "{} is not one of {allowed}", Found(value))
+    }
+
+    /// `no_word`, of a word that may be one of others, of which it is said what they take.
+    pub fn other_word(self, value: &Value, words: Words, others: Words, takes: &str) -> Fit {
+        match value.as_str() {
+            Some(word) if others.has(word) => self.wrong(value, takes),
+            _ => self.no_word(value, words),
+        }
+    }
+
+    /// Why a value is no array of the right length.
+    pub fn wrong_length(self, value: &Value, form: &str) -> Fit {
+        let Some(items) = value.as_array() else {
+            return self.wrong(value, "is not an array");
+        };
+        let (found, count) = (Found(value), items.len());
+        let plural = if count == 1 { "" } else { "s" };
+        bail!(self.alloc, "{found} has {count} item{plural}; {form}")
+    }
+}
+
+// What stands in a place, at a glance.
+#[derive(Clone, Copy)]
+struct Found<'a>(&'a Value);
+
+impl Display for Found<'_> {
+    fn fmt<W: Write>(&self, f: &mut Formatter<W>) -> fmt::Result {
+        match self.0 {
+            Value::String(text) => write!(f, "{}", Quoted(text.as_bytes())),
+            Value::Array(items) if !items.is_empty() => f.write_str("[..]"),
+            Value::Object(members) if !members.is_empty() => f.write_str("{..}"),
+            value => write!(f, "{value}"),
+        }
+    }
+}
+
+impl Explained for String {
+    fn explain(judge: Judge, value: &Value) -> Fit {
+        judge.wrong(value, "is not a string")
+    }
+}
+
+impl Explained for i64 {
+    fn explain(judge: Judge, value: &Value) -> Fit {
+        judge.wrong(value, "is not a whole number of 64 bits")
+    }
+}
+
+impl Explained for Kind {
+    fn explain(judge: Judge, value: &Value) -> Fit {
+        judge.no_word(value, KINDS)
+    }
+}
+
+impl Explained for How {
+    fn explain(judge: Judge, value: &Value) -> Fit {
+        judge.no_word(value, HOWS)
+    }
+}
+
+impl<T: Explained> Explained for Vec<T> {
+    fn explain(judge: Judge, value: &Value) -> Fit {
+        let Some(items) = value.as_array() else {
+            return judge.wrong(value, "is not an array");
+        };
+        for (number, item) in items.iter().enumerate() {
+            judge.item::<T>(number, item)?;
+        }
+        Ok(())
+    }
+}
+
+impl Explained for (String, Kind) {
+    fn explain(judge: Judge, value: &Value) -> Fit {
+        explain_pair::<String, Kind>(judge, value, "a column is [NAME, KIND]")
+    }
+}
+
+impl Explained for (String, Expr) {
+    fn explain(judge: Judge, value: &Value) -> Fit {
+        explain_pair::<String, Expr>(judge, value, "an output is [NAME, EXPRESSION]")
+    }
+}
+
+// Why a value is no array of two parts, of which the form says what they are.
+fn explain_pair<A: Explained, B: Explained>(judge: Judge, value: &Value, form: &str) -> Fit {
+    let Some((first, second)) = two_items(value) else {
+        return judge.wrong_length(value, form);
+    };
+    judge.item::<A>(0, first)?;
+    judge.item::<B>(1, second)?;
+    Ok(())
+}

@@ -1,0 +1,84 @@
+//! What a refusal of the check is about, for people.
+use crate::plans::{Plan, Source};
+use crate::reasons::{Fit, Reason, Segment, Unfit};
+use fq_column::{Memory, Schema};
+use std::alloc::Global;
+use std::fmt;
+use std::fmt::{Display, Formatter, Write};
+
+mod columns;
+mod expressions;
+mod joins;
+mod steps;
+
+use columns::explain_columns;
+use steps::schema_after;
+
+/// What a refusal of the check is about: the names, the kinds or the numbers that it is over, without its place.
+#[derive(Drop)]
+pub struct Refusal {
+    reason: Reason,
+}
+
+impl Plan {
+    /// What the check's refusal is about; `None` if the check refuses nothing. `Memory` if an allocation fails.
+    ///
+    /// Sources and steps are judged as `Plan::check` judges them, in the same order.
+    pub fn refusal(&self, alloc: Global) -> Result<Option<Refusal>, Memory> {
+        match judge(alloc, self) {
+            Ok(()) => Ok(None),
+            Err(Unfit::Because(reason)) => Ok(Some(Refusal { reason })),
+            Err(Unfit::Memory) => Err(Memory),
+        }
+    }
+}
+
+impl Refusal {
+    /// The number of the output or aggregate of the step that is refused, if it is one of them.
+    pub fn item(&self) -> Option<u16> {
+        match self.reason.path.first() {
+            Some(Segment::Item(number)) => u16::try_from(*number).ok(),
+            _ => None,
+        }
+    }
+}
+
+impl Display for Refusal {
+    fn fmt<W: Write>(&self, f: &mut Formatter<W>) -> fmt::Result {
+        f.write_str(self.reason.text.as_str())
+    }
+}
+
+// Nothing if the check does not refuse a plan.
+fn judge(alloc: Global, plan: &Plan) -> Fit {
+    let mut sides = Vec::with_capacity(alloc, plan.sources.len())?;
+    for (number, source) in plan.sources.iter().enumerate() {
+        sides.push(source_schema(alloc, number, source)?)?;
+    }
+    let Some(mut schema) = sides.pop() else {
+        return Ok(());
+    };
+    for step in plan.steps.iter() {
+        schema = schema_after(alloc, sides.as_slice(), &schema, step)?;
+    }
+    Ok(())
+}
+
+// The schema of a source.
+fn source_schema(alloc: Global, number: usize, source: &Source) -> Fit<Schema> {
+    let mut names = Vec::with_capacity(alloc, source.columns.len())?;
+    let mut kinds = Vec::with_capacity(alloc, source.columns.len())?;
+    for (name, kind) in source.columns.iter() {
+        names.push(String::from_str(alloc, name.as_str())?)?;
+        kinds.push(*kind)?;
+    }
+    Schema::new(names, kinds).or_else(|fault| {
+        let none = format!(in alloc; "source {number} has no columns")?;
+        let names: Vec<&str> = source
+            .columns
+            .iter()
+            .map(|(name, _)| name.as_str())
+            .collect(alloc)?;
+        explain_columns(alloc, &names, names.len(), none.as_str(), fault)
+    })
+}

@@ -1,0 +1,65 @@
+//! What refusals of columns are about.
+use crate::reasons::{Fit, Unfit, bail, because};
+use crate::words::kind_word;
+use fq_column::{Kind, MAX_COLUMNS, Schema, StepFault};
+use fq_places::Quoted;
+use std::alloc::Global;
+use std::fmt::Write;
+
+/// What the refusal of so many columns, or of none, is about, if it is about more than the fault says.
+pub fn explain_columns<T>(
+    alloc: Global,
+    names: &[&str],
+    count: usize,
+    none: &str,
+    fault: StepFault,
+) -> Fit<T> {
+    match fault {
+        StepFault::NoColumn => bail!(alloc, "{none}"),
+        StepFault::TooMany => bail!(alloc, "{count} columns; at most {MAX_COLUMNS}"),
+        StepFault::DoubleName => {
+            for (number, name) in names.iter().enumerate() {
+                if names.iter().take(number).any(|other| other == name) {
+                    bail!(alloc, "{}", Quoted(name.as_bytes()));
+                }
+            }
+            bail!(alloc, "{fault}")
+        }
+        _ => explain_fault(alloc, fault),
+    }
+}
+
+/// The fault itself, of which no more can be said.
+pub fn explain_fault<T>(alloc: Global, fault: StepFault) -> Fit<T> {
+    match fault {
+        StepFault::Memory => Err(Unfit::Memory),
+        _ => bail!(alloc, "{fault}"),
+    }
+}
+
+/// Nothing if a schema has a column of this name.
+pub fn explain_column(alloc: Global, schema: &Schema, name: &str, place: &str) -> Fit {
+    if schema.position(name).is_some() {
+        return Ok(());
+    }
+    let name = Quoted(name.as_bytes());
+    let mut text = format!(in alloc; "{name}{place}; there are ")?;
+    for column in 0..schema.len() {
+        let comma = if column == 0 { "" } else { ", " };
+        let name = Quoted(schema.name(column).as_bytes());
+        write!(text, "{comma}{name}")?;
+    }
+    Err(because(alloc, text))
+}
+
+/// Nothing if a schema has a column of this name that can be summed.
+pub fn explain_sum(alloc: Global, schema: &Schema, name: &str, sum: &str) -> Fit {
+    explain_column(alloc, schema, name, "")?;
+    match schema.kind_of(name) {
+        Ok(kind) if kind != Kind::Whole => {
+            let (name, kind) = (Quoted(name.as_bytes()), kind_word(kind));
+            bail!(alloc, "{sum}{name} is {kind}")
+        }
+        _ => Ok(()),
+    }
+}

@@ -1,0 +1,33 @@
+//! What a refusal of an expression is about.
+use crate::reasons::{Fit, bail};
+use crate::refusals::columns::explain_column;
+use crate::words::{binary_word, kind_word, unary_word};
+use fq_column::Schema;
+use fq_expr::Expr;
+use std::alloc::Global;
+
+/// Nothing if an expression has a kind, or what is wrong with its innermost part that has none, as `Expr::kind_in` judges.
+pub fn explain_kind(alloc: Global, schema: &Schema, expression: &Expr) -> Fit {
+    if expression.kind_in(schema).is_ok() {
+        return Ok(());
+    }
+    match expression {
+        Expr::Null(_) | Expr::Whole(_) | Expr::Text(_) | Expr::Truth(_) => Ok(()),
+        Expr::Col(name) => explain_column(alloc, schema, name.as_str(), ""),
+        Expr::One(op, part) => match part.kind_in(schema) {
+            Ok(kind) => {
+                let (op, kind) = (unary_word(*op), kind_word(kind));
+                bail!(alloc, "{op}: {kind}")
+            }
+            Err(_) => explain_kind(alloc, schema, part),
+        },
+        Expr::Two(op, left, right) => match (left.kind_in(schema), right.kind_in(schema)) {
+            (Ok(left), Ok(right)) => {
+                let (op, left, right) = (binary_word(*op), kind_word(left), kind_word(right));
+                bail!(alloc, "{op}: {left} and {right}")
+            }
+            (Err(_), _) => explain_kind(alloc, schema, left),
+            (Ok(_), Err(_)) => explain_kind(alloc, schema, right),
+        },
+    }
+}

@@ -1,0 +1,145 @@
+//! What a refusal of a step is about.
+use crate::plans::Step;
+use crate::reasons::{Fit, Segment, bail, within};
+use crate::refusals::columns::{explain_column, explain_columns, explain_fault, explain_sum};
+use crate::refusals::expressions::explain_kind;
+use crate::refusals::joins::explain_join;
+use crate::words::{aggregate_words, kind_word};
+use fq_column::{Kind, Schema, StepFault};
+use fq_expr::{Expr, RowStep};
+use fq_ops::{Agg, MAX_WINDOW, What, group_schema, join_schema, roll_schema};
+use std::alloc::Global;
+
+/// The schema after a step. The sides are the schemas of the sources before the last.
+pub fn schema_after(alloc: Global, sides: &[Schema], schema: &Schema, step: &Step) -> Fit<Schema> {
+    match step {
+        Step::Rows(step) => step
+            .schema(alloc, schema)
+            .or_else(|fault| explain_rows(alloc, schema, step, fault)),
+        Step::Join {
+            source,
+            on,
+            how,
+            ..
+        } => {
+            let place = usize::try_from(*source).ok();
+            let Some(right) = place.and_then(|place| sides.get(place)) else {
+                return explain_source(alloc, *source, sides.len());
+            };
+            let joined = join_schema(alloc, schema, right, on, *how);
+            joined.or_else(|fault| explain_join(alloc, schema, right, on, fault))
+        }
+        Step::GroupBy { keys, aggs } => {
+            let grouped = group_schema(alloc, schema, keys, aggs);
+            grouped.or_else(|fault| explain_grouping(alloc, schema, keys, aggs, fault))
+        }
+        Step::RollingSum {
+            column,
+            window,
+            min_samples,
+            name,
+        } => {
+            let (column, window, samples) = (column.as_str(), *window, *min_samples);
+            let rolled = roll_schema(alloc, schema, column, window, samples, name);
+            rolled.or_else(|fault| explain_roll(alloc, schema, column, window, samples, fault))
+        }
+    }
+}
+
+// What the refusal of a row-wise step is about.
+fn explain_rows<T>(alloc: Global, schema: &Schema, step: &RowStep, fault: StepFault) -> Fit<T> {
+    match step {
+        RowStep::Filter(predicate) => {
+            explain_kind(alloc, schema, predicate)?;
+            match predicate.kind_in(schema) {
+                Ok(kind) if kind != Kind::Truth => {
+                    bail!(alloc, "the condition is {}", kind_word(kind))
+                }
+                _ => explain_fault(alloc, fault),
+            }
+        }
+        RowStep::WithColumns(outputs) => {
+            let names = outputs.iter().map(|output| output.0.as_str());
+            let count = names.filter(|name| schema.position(name).is_none()).count();
+            let count = schema.len().saturating_add(count);
+            explain_outputs(alloc, schema, outputs, count, fault)
+        }
+        RowStep::Select(outputs) => explain_outputs(alloc, schema, outputs, outputs.len(), fault),
+    }
+}
+
+// What the refusal of outputs is about, with which there would be so many columns.
+fn explain_outputs<T>(
+    alloc: Global,
+    schema: &Schema,
+    outputs: &[(String, Expr)],
+    count: usize,
+    fault: StepFault,
+) -> Fit<T> {
+    for (number, (_, expression)) in outputs.iter().enumerate() {
+        let fits = explain_kind(alloc, schema, expression);
+        within(Segment::Item(number), fits)?;
+    }
+    let names: Vec<&str> = outputs
+        .iter()
+        .map(|output| output.0.as_str())
+        .collect(alloc)?;
+    explain_columns(alloc, &names, count, "select has no outputs", fault)
+}
+
+// Why the source of a number cannot be joined, if so many can be.
+fn explain_source<T>(alloc: Global, number: i64, count: usize) -> Fit<T> {
+    match count {
+        0 => bail!(alloc, "{number}; there is no source before the last"),
+        1 => bail!(alloc, "{number}; only source 0 can be joined"),
+        _ => bail!(alloc, "{number}; sources 0 to {} can be joined", count - 1),
+    }
+}
+
+// What the refusal of a grouping is about.
+fn explain_grouping<T>(
+    alloc: Global,
+    schema: &Schema,
+    keys: &[String],
+    aggs: &[Agg],
+    fault: StepFault,
+) -> Fit<T> {
+    for key in keys {
+        explain_column(alloc, schema, key.as_str(), "")?;
+    }
+    for (number, agg) in aggs.iter().enumerate() {
+        let fits = explain_aggregate(alloc, schema, &agg.what);
+        within(Segment::Item(number), fits)?;
+    }
+    let names = keys.iter().map(|key| key.as_str());
+    let names = names.chain(aggs.iter().map(|agg| agg.name.as_str()));
+    let names: Vec<&str> = names.collect(alloc)?;
+    explain_columns(alloc, &names, names.len(), "keys is empty", fault)
+}
+
+// Nothing if an aggregate has a kind.
+fn explain_aggregate(alloc: Global, schema: &Schema, what: &What) -> Fit {
+    match (what, aggregate_words(what)) {
+        (What::Sum(column), _) => explain_sum(alloc, schema, column.as_str(), "sum: "),
+        (_, (_, Some(column))) => explain_column(alloc, schema, column, ""),
+        (_, (_, None)) => Ok(()),
+    }
+}
+
+// What the refusal of a rolling sum is about.
+fn explain_roll<T>(
+    alloc: Global,
+    schema: &Schema,
+    column: &str,
+    window: i64,
+    samples: i64,
+    fault: StepFault,
+) -> Fit<T> {
+    explain_sum(alloc, schema, column, "")?;
+    let count = schema.len().saturating_add(1);
+    match fault {
+        StepFault::Window => bail!(alloc, "{window} is not from 1 to {MAX_WINDOW}"),
+        StepFault::Samples => bail!(alloc, "{samples} is not from 1 to the window, {window}"),
+        _ => explain_columns(alloc, &[], count, "", fault),
+    }
+}
