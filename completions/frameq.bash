@@ -1,0 +1,23 @@
+# Completions of frameq for bash.
+_frameq() {
+    local word=${COMP_WORDS[COMP_CWORD]} before=${COMP_WORDS[COMP_CWORD - 1]} options=
+    case $before in
+        --batch | --workers)
+            COMPREPLY=()
+            return
+            ;;
+        --plan | --output | -o) ;;
+        *)
+            if [[ $word == -* ]]; then
+                options='--plan --batch --workers --output --explain --details --progress --help --version -o -h -V'
+            fi
+            ;;
+    esac
+    if [ -n "$options" ]; then
+        mapfile -t COMPREPLY < <(compgen -W "$options" -- "$word")
+    else
+        compopt -o filenames
+        mapfile -t COMPREPLY < <(compgen -f -- "$word")
+    fi
+}
+complete -F _frameq frameq

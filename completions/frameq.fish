@@ -1,0 +1,10 @@
+# Completions of frameq for fish.
+complete -c frameq -l plan -r -F -d 'The plan: a file with one JSON object, or - for standard input'
+complete -c frameq -l batch -x -d 'Rows that are read and worked on at a time, from 1 to 65536'
+complete -c frameq -l workers -x -d 'Threads that work on batches, from 1 to 16'
+complete -c frameq -s o -l output -r -F -d 'The file that takes the frame once all of it is there, or - for standard output'
+complete -c frameq -l explain -d 'Print what each step of the plan leaves and where it runs; no data is read'
+complete -c frameq -l details -d 'Say more about a fault, in lines after its own: where it is, and what stands there'
+complete -c frameq -l progress -d 'Show on standard error how far the files are read, if it is a terminal'
+complete -c frameq -s h -l help -d 'Print help'
+complete -c frameq -s V -l version -d 'Print version'
