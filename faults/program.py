@@ -73,6 +73,18 @@ ROWS = [
 # Arguments that run no plan, after the status that they give.
 ARGUMENTS = [(0, "--help"), (2, "--nope"), (2, "--plan"), (2, "--plan", "p", "--workers", "17", "a"), (2, "--plan", "p", "--batch", "x", "a")]
 
+# Plans and files that fault, the status, the line, and what --details says after it, of the plan P and the file F.
+DETAILS = [
+    ("a bad cell", plan([source(1, "x int")], ""), "x\n\n1\nz\n", 4, "file 0, row 2, column 0: bad cell", '  F:4: column "x": "z" is not an int\n'),
+    ("a header", plan([source(1, "x int")], ""), "y\n1\n", 4, "file 0: header differs", '  F:1: column 0 is "y", the plan has "x"\n'),
+    ("a width", plan([source(1, "x int", "t text")], ""), 'x,t\n1,a\n2"\n', 4, "file 0, row 2: wrong number of fields",
+        "  F:3: 1 field, the header has 2\n"),
+    ("a sum", plan([source(1, "x int")], '{"filter":["gt",["add",{"col":"x"},1],0]}'), "x\n9223372036854775807\n", 4, "step 0, item 0: overflow",
+        "  filter\n"),
+    ("a shape", '{"version":1,"sources":[],"steps":[]}', "", 3, "plan: wrong shape", "  P: sources: [] has no source; a plan has at least one\n"),
+    ("a column", plan([source(1, "x int")], OVER_TEN), "", 3, "plan: step 0: no such column", '  "v"; there are "x"\n'),
+]
+
 
 class Program:
     """The built program, and a folder with the plans and files of its rows."""
@@ -199,6 +211,34 @@ class IntoFile:
         if answer.out or sorted(os.listdir(self.folder)) != ["plan.json", "v.csv"] or (answer.status != 0 and held != before):
             return answer._replace(status=None, err=f"{os.listdir(self.folder)}, {held!r}, {answer}")
         return answer._replace(out=held if answer.status == 0 else "")
+
+
+class Detailed:
+    """A run with --details, in a folder of its own. Of its answer, the lines after that of the fault are cut off."""
+
+    def __init__(self, program, folder, own_plan, rows):
+        os.mkdir(folder)
+        self.program, self.plan, self.file = program, write(f"{folder}/plan.json", own_plan), write(f"{folder}/rows.csv", rows)
+
+    def whole(self, **how):
+        return self.program.run(["--details", "--plan", self.plan, self.file], **how)
+
+    def __call__(self, **how):
+        answer = self.whole(**how)
+        line, end, more = answer.err.partition("\n")
+        return answer._replace(err=line + end) if all(it.startswith("  ") for it in more.splitlines()) else answer
+
+
+def try_details(count, pool, program, library, room):
+    """What --details says, and that a call that is refused changes nothing of the answer but that."""
+    runs = []
+    for name, own_plan, rows, status, line, details in DETAILS:
+        run, own = Detailed(program, f"{room}/details-{name.replace(' ', '-')}", own_plan, rows), fault(status, line)
+        answer = run.whole()
+        answer = answer._replace(err=answer.err.replace(run.plan, "P").replace(run.file, "F"))
+        count.add("program, details", f"status {status}", None if answer == own._replace(err=own.err + details) else f"{name}: {answer}")
+        runs.append((f"{name}, with details", run, own))
+    together(((try_sort, count, *it, library, sort) for it in runs for sort in SORTS), pool)
 
 
 def try_program(count, pool, program, library, room):

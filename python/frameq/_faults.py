@@ -7,12 +7,13 @@ from typing import List, Optional, Sequence, Tuple, Type
 class FrameqError(Exception):
     """What every error of this package is.
 
-    `line` is what the program said, and `status` its exit status. `file` is the path of the file that faulted, `row` its row after the
+    `line` is what the program said, `details` what it said more, and `status` its exit status. `file` is the path of the file that faulted, `row` its row after the
     header, from 1, and `column` the name of the column. `step` is the number of the plan's step, from 0, `item` that of its output, and
     `call` the call that made the step. What a fault does not name is None.
     """
 
     line: Optional[str] = None
+    details: Tuple[str, ...] = ()
     status: Optional[int] = None
     file: Optional[str] = None
     row: Optional[int] = None
@@ -192,6 +193,7 @@ def fault(said: str, status: int, plan: Optional[dict], files: Sequence[str], ca
     groups = {name: int(value) for name, value in found.groupdict().items() if value is not None} if found else {}
     error = kind(text)
     error.line, error.status = line, status
+    error.details = tuple(it[2:] for it in said.splitlines() if it.startswith("  ")) if found else ()
     error.row, error.step, error.item = groups.get("r"), groups.get("s"), groups.get("i")
     if "f" in groups and groups["f"] < len(files):
         error.file = files[groups["f"]]
@@ -200,5 +202,5 @@ def fault(said: str, status: int, plan: Optional[dict], files: Sequence[str], ca
     if error.step is not None and error.step < len(calls):
         error.call = calls[error.step]
     where = [it for it in (error.file and f"in {error.file}", error.column and f'column "{error.column}"', error.call) if it]
-    error.args = ("; ".join([text, *where]),)
+    error.args = ("\n  ".join(["; ".join([text, *where]), *error.details]),)
     return error

@@ -4,12 +4,11 @@ import io
 import json
 import os
 import shutil
-import stat
 import subprocess
 import tempfile
 from typing import IO, Any, Iterator, List, NamedTuple, Optional, Sequence, Union
 
-from ._faults import ProgramNotFoundError, WriteError, fault
+from ._faults import ProgramNotFoundError, fault
 from ._kinds import Schema
 from ._results import DataFrame, read_frame
 
@@ -65,7 +64,7 @@ def _run(
     """Runs the program, and gives what it wrote if that is not written elsewhere. Raises its fault."""
     program = find_program(settings.program)
     with _plan_file(plan) as path:
-        command = [program, "--plan", path, *settings.words(), *words, *_words_of_files(files)]
+        command = [program, "--plan", path, "--details", *settings.words(), *words, *_words_of_files(files)]
         ran = subprocess.run(command, stdout=out, stderr=subprocess.PIPE, check=False)
     if ran.returncode != 0:
         raise fault(ran.stderr.decode("utf-8", "replace"), ran.returncode, plan, files, calls)
@@ -87,33 +86,8 @@ def collect(plan: dict, files: Sequence[str], schema: Optional[Schema], calls: S
 
 
 def sink(plan: dict, files: Sequence[str], path: str, calls: Sequence[str], settings: Settings) -> None:
-    """Writes what a plan makes of files to a new file beside the path, which then takes its name. A device is written directly."""
-    path = os.path.realpath(path)
-    mode = os.stat(path).st_mode if os.path.exists(path) else None
-    if mode is not None and not stat.S_ISREG(mode):
-        with open(path, "wb") as device:
-            _run(plan, [], files, calls, settings, device)
-        return
-    try:
-        out = tempfile.NamedTemporaryFile(dir=os.path.dirname(path), prefix=".frameq-", delete=False)
-    except OSError as error:
-        raise WriteError(f"cannot write {path}: {error.strerror}") from error
-    try:
-        with out:
-            _run(plan, [], files, calls, settings, out)
-            os.fsync(out.fileno())
-            os.fchmod(out.fileno(), _mode_of_new_files() if mode is None else stat.S_IMODE(mode))
-        os.replace(out.name, path)
-    except BaseException:
-        with contextlib.suppress(FileNotFoundError):
-            os.unlink(out.name)
-        raise
-
-
-def _mode_of_new_files() -> int:
-    mask = os.umask(0)
-    os.umask(mask)
-    return 0o666 & ~mask
+    """Has the program put what a plan makes of files in the place of a file."""
+    _run(plan, ["--output", os.path.abspath(path)], files, calls, settings, subprocess.DEVNULL)
 
 
 def run_plan(

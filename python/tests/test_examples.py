@@ -260,8 +260,8 @@ FRAMES = {
     ),
 }
 
-# Examples whose plan the package does not write: a filter by a text, which it refuses at once, and no run.
-OTHERS = {"export_cleaning/3_condition", "guide/explain"}
+# Examples whose plan the package does not write: a filter by a text, which it refuses at once, no run, and faults by another option.
+OTHERS = {"export_cleaning/3_condition", "guide/explain", *(f"details/{name}" for name in os.listdir(os.path.join(EXAMPLES, "details")))}
 
 
 def read(*path):
@@ -304,6 +304,7 @@ class Examples(unittest.TestCase):
         with self.assertRaises(fq.FrameqError) as raised:
             self.frame(name).sink_csv(result, program=path)
         self.assertEqual((raised.exception.line + "\n").encode(), read(name, "error"))
+        self.assertTrue(raised.exception.details)
         self.assertEqual(raised.exception.status, int(read(name, "status")))
 
 

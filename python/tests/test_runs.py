@@ -113,17 +113,18 @@ class Runs(unittest.TestCase):
     def test_faults_of_files(self):
         """Each names its file, its row and its column."""
         good = self.file("good.csv", "n,t\n1,x\n")
-        for text, error, row, column in [
-            ("n\n1\n", fq.HeaderError, None, None),
-            ("n,t\n1,x\n2\n", fq.WidthError, 2, None),
-            ("n,t\n1,x\n2,y\nz,z\n", fq.BadCellError, 3, "n"),
+        for text, error, row, column, details in [
+            ("n\n1\n", fq.HeaderError, None, None, '1: column 1 is missing, the plan has "t"'),
+            ("n,t\n1,x\n2\n", fq.WidthError, 2, None, "3: 1 field, the header has 2"),
+            ("n,t\n1,x\n2,y\nz,z\n", fq.BadCellError, 3, "n", '4: column "n": "z" is not an int'),
         ]:
             with self.subTest(error):
                 bad = self.file("bad.csv", text)
                 lazy = fq.scan_csv([good, bad], schema={"n": INT, "t": TEXT})
                 fault = self.faulted(error, lambda lazy=lazy: lazy.collect(program=self.program))
                 self.assertEqual((fault.file, fault.row, fault.column, fault.status), (bad, row, column, 4))
-                self.assertIn(bad, str(fault))
+                self.assertEqual(fault.details, (f"{bad}:{details}",))
+                self.assertIn(f"\n  {bad}:{details}", str(fault))
         missing = os.path.join(self.room, "missing.csv")
         fault = self.faulted(fq.ReadError, lambda: fq.scan_csv([good, missing], schema={"n": INT, "t": TEXT}).collect(program=self.program))
         self.assertEqual((fault.file, fault.status, fault.line), (missing, 5, "frameq: read failed: file 1"))

@@ -5,11 +5,12 @@ ghost use Rattle.fq_run.specs.declared.faults.Fault.TheVariants as fault;
 ghost use Rattle.fq_program.specs.Ending.{done, bad_device};
 ghost use Rattle.fq_program.specs.declared.failures.Failure.TheVariants as failure;
 
+use crate::details::{Learned, write_details};
 use crate::failures::{Failure, report};
 use crate::files::{OpenFault, Opener};
 use crate::inputs::read_whole;
 use crate::options::Options;
-use crate::outputs::Output;
+use crate::outputs::{Noted, Output};
 use crate::program::checked_plan;
 use crate::status::Status;
 use clap::error::ErrorKind;
@@ -22,23 +23,23 @@ use std::thread::Threads;
 /// Does what the arguments ask for, and answers the exit status. The program's own name is not among these.
 ///
 /// `--plan PLAN [--batch N] [--workers N] [--output OUT] [--progress] FILE...` runs a plan over files and writes the frame to `out`, or in
-/// the place of a file, which stays as it was if there is no frame. `--plan PLAN
-/// --explain [FILE...]` writes there what the plan's steps leave, and opens no file of data; `--help` and `--version` write a text. At any
-/// status but 0 a message on `err` says why, and nothing is written to `out`, except that at 5, if the write itself failed, an
-/// unknown part may be. A failed write to `err` changes no status. The arguments are judged first, then the plan file, the plan, and
-/// the number of files; then the files are opened in order, and read as the run goes on.
+/// the place of a file, which stays as it was if there is no frame. `--plan PLAN --explain [FILE...]` writes there what the plan's steps
+/// leave, and opens no file of data; `--help` and `--version` write a text. At any status but 0 a message on `err` says why, in one line,
+/// and with `--details` in lines after it, and nothing is written to `out`, except that at 5, if the write itself failed, an unknown part
+/// may be. A failed write to `err` changes no status. The arguments are judged first, then the plan file, the plan, and the number of
+/// files; then the files are opened in order, and read as the run goes on.
 pub fn with_words<T: Threads + Wait + Sync, O: Opener, W: Write, E: Write>(
     rt: &T,
     alloc: Global,
     words: Vec<String>,
     files: &mut O,
-    out: &mut W,
+    out: &mut Noted<W>,
     err: &mut E,
 ) -> u8
-    ensures unwritten { result ≢ done → result ≢ bad_device → Keeps (W.contents out.old) (W.contents out.new) }
+    ensures unwritten { result ≢ done → result ≢ bad_device → Keeps (W.contents out.old.writer) (W.contents out.new.writer) }
 {
     match Options::of_words(alloc, words.as_slice()) {
-        Ok(options) => report(run_options(rt, alloc, &options, files, out), err),
+        Ok(options) => run_and_report(rt, alloc, &options, files, out, err),
         Err(answer) => answer_words(&answer, out, err),
     }
 }
@@ -60,6 +61,29 @@ fn answer_words<W: Write, E: Write>(answer: &clap::Error, out: &mut W, err: &mut
     )
 }
 
+// Explains the plan of the plan file, or runs it over the data files, and says on `err` why there is nothing on `out`.
+fn run_and_report<T: Threads + Wait + Sync, O: Opener, W: Write, E: Write>(
+    rt: &T,
+    alloc: Global,
+    options: &Options<'_>,
+    files: &mut O,
+    out: &mut Noted<W>,
+    err: &mut E,
+) -> u8
+    ensures unwritten { result ≢ done → result ≢ bad_device → Keeps (W.contents out.old.writer) (W.contents out.new.writer) }
+{
+    let mut learned = Learned::new(alloc);
+    let ending = run_options(rt, alloc, options, files, out, &mut learned);
+    learned.write = learned.write.or(out.error);
+    let status = report(ending, err);
+    if let Err(failure) = ending
+        && options.details()
+    {
+        write_details(alloc, failure, options, &learned, files, err);
+    }
+    status
+}
+
 // Explains the plan of the plan file, or runs it over the data files.
 fn run_options<T: Threads + Wait + Sync, O: Opener, W: Write>(
     rt: &T,
@@ -67,26 +91,28 @@ fn run_options<T: Threads + Wait + Sync, O: Opener, W: Write>(
     options: &Options<'_>,
     files: &mut O,
     out: &mut W,
+    learned: &mut Learned,
 ) -> Result<(), Failure>
     ensures unwritten { IfErr result (λ f. f ≢ failure.Run fault.Write → Keeps (W.contents out.old) (W.contents out.new)) }
 {
-    let plan = read_plan_file(alloc, options, files)?;
-    explain_or_run(rt, alloc, &plan, options, files, out)
+    let plan = read_plan_file(alloc, options, files, learned)?;
+    explain_or_run(rt, alloc, &plan, options, files, out, learned)
 }
 
-// The plan of the plan file.
+// The plan of the plan file, whose text is learned.
 fn read_plan_file<O: Opener>(
     alloc: Global,
     options: &Options<'_>,
     files: &mut O,
+    learned: &mut Learned,
 ) -> Result<Checked, Failure> {
     if options.reads_input_twice() {
         return Err(Failure::InputTwice);
     }
     let name = options.plan().ok_or(Failure::PlanFile)?;
     let reader = open(files, name, Failure::PlanFile)?;
-    let text = read_whole(alloc, reader, Failure::PlanFile)?;
-    checked_plan(alloc, text.as_slice())
+    learned.plan = read_whole(alloc, reader, Failure::PlanFile)?;
+    checked_plan(alloc, learned.plan.as_slice())
 }
 
 // Writes what the steps of the plan leave, or its frame over the data files.
@@ -97,33 +123,20 @@ fn explain_or_run<T: Threads + Wait + Sync, O: Opener, W: Write>(
     options: &Options<'_>,
     files: &mut O,
     out: &mut W,
+    learned: &mut Learned,
 ) -> Result<(), Failure>
     ensures unwritten { IfErr result (λ f. f ≢ failure.Run fault.Write → Keeps (W.contents out.old) (W.contents out.new)) }
 {
     if options.explain() {
         write_explanation(alloc, plan, options.files(), out)
     } else if options.progress() {
-        run_with_progress(rt, alloc, plan, options, files, out)
+        files.show_progress();
+        let answer = run_plan(rt, alloc, plan, options, files, out, learned);
+        files.clear_progress();
+        answer
     } else {
-        run_plan(rt, alloc, plan, options, files, out)
+        run_plan(rt, alloc, plan, options, files, out, learned)
     }
-}
-
-// `run_plan`, with readers that show how far they are.
-fn run_with_progress<T: Threads + Wait + Sync, O: Opener, W: Write>(
-    rt: &T,
-    alloc: Global,
-    plan: &Checked,
-    options: &Options<'_>,
-    files: &mut O,
-    out: &mut W,
-) -> Result<(), Failure>
-    ensures unwritten { IfErr result (λ f. f ≢ failure.Run fault.Write → Keeps (W.contents out.old) (W.contents out.new)) }
-{
-    files.show_progress();
-    let answer = run_plan(rt, alloc, plan, options, files, out);
-    files.clear_progress();
-    answer
 }
 
 // Writes what the steps of the plan leave. If there are names of files, their number has to be the plan's.
@@ -150,6 +163,7 @@ fn run_plan<T: Threads + Wait + Sync, O: Opener, W: Write>(
     options: &Options<'_>,
     files: &mut O,
     out: &mut W,
+    learned: &mut Learned,
 ) -> Result<(), Failure>
     ensures unwritten { IfErr result (λ f. f ≢ failure.Run fault.Write → Keeps (W.contents out.old) (W.contents out.new)) }
 {
@@ -158,12 +172,10 @@ fn run_plan<T: Threads + Wait + Sync, O: Opener, W: Write>(
     let inputs = open_all(alloc, files, names)?;
     match options.output() {
         None => run_to(rt, alloc, plan, options, inputs, out),
-        Some(name) => {
-            let output = files
-                .output_of(alloc, name)
-                .map_err(|fault| failure_of(fault, Failure::Run(Fault::Write)))?;
-            run_to_file(rt, alloc, plan, options, inputs, output)
-        }
+        Some(name) => match files.output_of(alloc, name) {
+            Ok(output) => run_to_file(rt, alloc, plan, options, inputs, output, learned),
+            Err(fault) => Err(learned.failure_of_write(fault)),
+        },
     }
 }
 
@@ -208,15 +220,20 @@ fn run_to_file<T: Threads + Wait + Sync, R: Read + Drop + Send, O: Output>(
     plan: &Checked,
     options: &Options<'_>,
     inputs: Vec<R>,
-    mut output: O,
+    output: O,
+    learned: &mut Learned,
 ) -> Result<(), Failure> {
-    match run_to(rt, alloc, plan, options, inputs, &mut output) {
-        Ok(()) => output.keep().map_err(|_| Failure::Run(Fault::Write)),
-        Err(failure) => {
-            output.discard();
-            Err(failure)
-        }
+    let mut output = Noted::new(output);
+    let answer = run_to(rt, alloc, plan, options, inputs, &mut output);
+    let Noted { writer, error } = output;
+    if answer.is_err() {
+        learned.write = error;
+        writer.discard();
+        return answer;
     }
+    writer
+        .keep()
+        .map_err(|error| learned.failure_of_write(OpenFault::of(error)))
 }
 
 // Readers of the files of these names, in order.
@@ -237,15 +254,8 @@ fn open_all<O: Opener>(
 
 // A reader of the file of this name, or this failure if it cannot be opened.
 fn open<O: Opener>(files: &mut O, name: &str, failure: Failure) -> Result<O::Reader, Failure> {
-    files
-        .reader_of(name)
-        .map_err(|fault| failure_of(fault, failure))
-}
-
-// The failure of a file that is not opened: this one, unless an allocation failed.
-fn failure_of(fault: OpenFault, failure: Failure) -> Failure {
-    match fault {
-        OpenFault::Failed => failure,
+    files.reader_of(name).map_err(|fault| match fault {
+        OpenFault::Failed(_) => failure,
         OpenFault::Memory => Failure::MEMORY,
-    }
+    })
 }

@@ -2,9 +2,10 @@
 use crate::outputs::{Output, SystemOutput};
 use crate::progress::{Line, Watched};
 use std::alloc::Global;
+use std::fmt::{Display, Formatter, InlineText};
 use std::fs::{File, Files, OpenFile};
-use std::io;
 use std::io::{ErrorKind, Read, Write};
+use std::{fmt, io};
 
 /// The name of standard input among the names of files.
 pub const STANDARD_INPUT: &str = "-";
@@ -16,12 +17,70 @@ pub const STANDARD_OUTPUT: &str = "-";
 pub const CLEAR_LINE: &[u8] = b"\r\x1b[K";
 
 /// Why a file is not opened.
-#[derive(Clone, Copy, Debug, PartialEq, Eq)]
+#[derive(Clone, Copy, Debug)]
 pub enum OpenFault {
     /// There is no such file, or it cannot be opened.
-    Failed,
+    Failed(io::Error),
     /// An allocation failed.
     Memory,
+}
+
+impl OpenFault {
+    /// Why a file that a system did not open, or put in its place, is not there.
+    pub fn of(error: io::Error) -> OpenFault {
+        match error.kind() {
+            ErrorKind::OutOfMemory => OpenFault::Memory,
+            _ => OpenFault::Failed(error),
+        }
+    }
+}
+
+/// Why a file is not read again.
+#[derive(Clone, Copy, Debug)]
+pub enum Unread {
+    /// It is standard input, a pipe or a device, which gives its bytes once.
+    Once,
+    /// The system refuses.
+    System(io::Error),
+    /// An allocation failed.
+    Memory,
+}
+
+impl Display for Unread {
+    fn fmt<W: fmt::Write>(&self, f: &mut Formatter<W>) -> fmt::Result {
+        match self {
+            Unread::Once => f.write_str("it cannot be read again"),
+            Unread::Memory => f.write_str("out of memory"),
+            Unread::System(error) => {
+                // (Rust adds the error's number to the system's text)
+                let text: InlineText<128> = InlineText::of(*error);
+                f.write_str(
+                    text.as_str()
+                        .split(" (os error ")
+                        .next()
+                        .unwrap_or_default(),
+                )
+            }
+        }
+    }
+}
+
+impl From<io::Error> for Unread {
+    fn from(error: io::Error) -> Unread {
+        match error.kind() {
+            ErrorKind::OutOfMemory => Unread::Memory,
+            _ => Unread::System(error),
+        }
+    }
+}
+
+impl From<csv::Error> for Unread {
+    fn from(error: csv::Error) -> Unread {
+        match error.into_kind() {
+            csv::ErrorKind::Io(error) => Unread::from(error),
+            _ => Unread::Memory,
+        }
+    }
 }
 
 /// What opens files by name.
@@ -37,6 +96,11 @@ pub trait Opener {
 
     /// What takes the place of the file of this name, once it is kept.
     fn output_of(&mut self, alloc: Global, name: &str) -> Result<Self::Output, OpenFault>;
+
+    /// A reader of the file of this name, from its start, after a run. An opener may have none.
+    fn reader_again(&mut self, _name: &str) -> Result<Self::Reader, Unread> {
+        Err(Unread::Once)
+    }
 
     /// From here on, the readers of the files that are opened show how far they are. An opener may have nowhere to show it.
     fn show_progress(&mut self) {}
@@ -73,18 +137,14 @@ impl<'a, F: Files, I: Read, L: Write> SystemFiles<'a, F, I, L> {
 impl<F: Files, I: Read, L: Write> SystemFiles<'_, F, I, L> {
     fn open(&mut self, name: &str) -> Result<SystemReader<F::File, I>, OpenFault> {
         if name == STANDARD_INPUT {
-            return Ok(SystemReader::Input(self.input.take().ok_or(OpenFault::Failed)?));
+            return Ok(SystemReader::Input(
+                self.input
+                    .take()
+                    .ok_or(OpenFault::Failed(io::Error::from(ErrorKind::NotFound)))?,
+            ));
         }
-        let file = File::open(self.files, name).map_err(open_fault)?;
+        let file = File::open(self.files, name).map_err(OpenFault::of)?;
         Ok(SystemReader::File(file))
-    }
-}
-
-// Why a file that a system did not open is not opened.
-fn open_fault(error: io::Error) -> OpenFault {
-    match error.kind() {
-        ErrorKind::OutOfMemory => OpenFault::Memory,
-        _ => OpenFault::Failed,
     }
 }
 
@@ -110,7 +170,19 @@ where
     }
 
     fn output_of(&mut self, alloc: Global, name: &str) -> Result<SystemOutput<'a, F>, OpenFault> {
-        SystemOutput::create(alloc, self.files, name).map_err(open_fault)
+        SystemOutput::create(alloc, self.files, name).map_err(OpenFault::of)
+    }
+
+    fn reader_again(&mut self, name: &str) -> Result<Self::Reader, Unread> {
+        if name == STANDARD_INPUT {
+            return Err(Unread::Once);
+        }
+        let there = self.files.metadata(name)?;
+        if !there.is_file() && !there.is_dir() {
+            return Err(Unread::Once);
+        }
+        let file = File::open(self.files, name)?;
+        Ok(Watched::new(SystemReader::File(file), None))
     }
 
     fn show_progress(&mut self) {

@@ -2,11 +2,13 @@
 //!
 //! [`one_input`] is the program without arguments: the first line of its input is the plan, in JSON, and the bytes after it are
 //! the one CSV file. [`with_words`] is the program with arguments, a plan file over data files that an [`Opener`] opens. Each
-//! answers the exit status, which is a [`Status`]; if there is no frame, a [`Failure`] says why in one line.
+//! answers the exit status, which is a [`Status`]; if there is no frame, a [`Failure`] says why in one line, and `--details` says more.
 #![tactic(auto)]
 
 mod command_line;
+mod details;
 mod failures;
+mod file_details;
 mod files;
 mod inputs;
 mod options;
@@ -17,7 +19,7 @@ mod status;
 
 pub use command_line::with_words;
 pub use failures::{Failure, report};
-pub use files::{OpenFault, Opener, SystemFiles};
-pub use outputs::{Output, SystemOutput};
+pub use files::{OpenFault, Opener, SystemFiles, Unread};
+pub use outputs::{Noted, Output, SystemOutput};
 pub use program::one_input;
 pub use status::Status;

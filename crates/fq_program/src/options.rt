@@ -51,6 +51,11 @@ impl<'a> Options<'a> {
         self.0.get_flag("explain")
     }
 
+    /// Whether to say more about a fault than its line.
+    pub fn details(&self) -> bool {
+        self.0.get_flag("details")
+    }
+
     /// Whether to show how far the files are read.
     pub fn progress(&self) -> bool {
         self.0.get_flag("progress")
@@ -76,6 +81,7 @@ fn command<'a>(alloc: Global) -> Result<Command<'a>, AllocError> {
         .arg(workers(alloc)?)?
         .arg(output(alloc)?)?
         .arg(explain(alloc))?
+        .arg(details(alloc))?
         .arg(progress(alloc))?
         .arg(file(alloc)?)
 }
@@ -128,6 +134,13 @@ fn explain<'a>(alloc: Global) -> Arg<'a> {
         .long("explain")
         .action(ArgAction::SetTrue)
         .help("Print what each step of the plan leaves and where it runs; no data is read")
+}
+
+fn details<'a>(alloc: Global) -> Arg<'a> {
+    Arg::new(alloc, "details")
+        .long("details")
+        .action(ArgAction::SetTrue)
+        .help("Say more about a fault, in lines after its own: where it is, and what stands there")
 }
 
 fn progress<'a>(alloc: Global) -> Arg<'a> {

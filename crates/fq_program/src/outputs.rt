@@ -1,4 +1,6 @@
 //! The file that takes the frame: it is written whole, or stays as it was.
+ghost use Rattle.std.specs.Prelude.{◌≡◌};
+
 use std::alloc::Global;
 use std::fs::{File, Files, OpenFile, Permissions};
 use std::io;
@@ -7,6 +9,48 @@ use std::path::{Path, PathBuf};
 
 /// How many names are tried for a new file.
 const MAX_TRIES: u32 = 1_000;
+
+/// A writer, and why its last failed write failed.
+#[derive(Drop)]
+pub struct Noted<W: Write> {
+    pub writer: W,
+    pub error: Option<io::Error>,
+}
+
+impl<W: Write> Noted<W> {
+    /// This writer, of which no write failed.
+    pub fn new(writer: W) -> Noted<W>
+        ensures { result.writer ≡ writer }
+    {
+        let error = None;
+        Noted { writer, error }
+    }
+
+    // What a write answers, once its error is noted.
+    fn note<T>(&mut self, answer: io::Result<T>) -> io::Result<T>
+        ensures same { result ≡ answer }
+        ensures writer { self.new.writer ≡ self.old.writer }
+    {
+        if let Err(error) = &answer {
+            self.error = Some(*error);
+        }
+        answer
+    }
+}
+
+impl<W: Write> Write for Noted<W> {
+    ghost contents = { λ n. W.contents n.writer };
+
+    fn write(&mut self, buffer: &[u8]) -> io::Result<usize> {
+        let answer = self.writer.write(buffer);
+        self.note(answer)
+    }
+
+    fn flush(&mut self) -> io::Result<()> {
+        let answer = self.writer.flush();
+        self.note(answer)
+    }
+}
 
 /// What is written in the place of a file.
 pub trait Output: Write + Drop {
@@ -17,8 +61,8 @@ pub trait Output: Write + Drop {
     fn discard(self);
 }
 
-/// A new file of a system beside the one whose place it is to take. What is there and is no regular file, as a pipe or a device, is
-/// written as it is.
+/// A new file of a system beside the one whose place it is to take. A place that is not a regular file, such as a pipe or a
+/// device, is written as it is.
 #[derive(Drop)]
 pub struct SystemOutput<'a, F: Files> {
     files: &'a F,

@@ -1,5 +1,5 @@
 //! Runs of the program over inputs in memory, with the answers that are wanted.
-use fq_program::{OpenFault, Opener, Output, one_input, with_words};
+use fq_program::{Noted, OpenFault, Opener, Output, Unread, one_input, with_words};
 use std::alloc::Global;
 use std::io;
 use std::io::{ErrorKind, Write};
@@ -25,11 +25,20 @@ impl<'a> Opener for Inputs<'a> {
     type Output = Nowhere;
 
     fn reader_of(&mut self, name: &str) -> Result<&'a [u8], OpenFault> {
-        self.text(name).map(str::as_bytes).ok_or(OpenFault::Failed)
+        let text = self.text(name).map(str::as_bytes);
+        text.ok_or(OpenFault::Failed(io::Error::from(ErrorKind::NotFound)))
+    }
+
+    fn reader_again(&mut self, name: &str) -> Result<&'a [u8], Unread> {
+        if name == "-" {
+            return Err(Unread::Once);
+        }
+        let text = self.text(name).map(str::as_bytes);
+        text.ok_or(Unread::System(io::Error::from(ErrorKind::NotFound)))
     }
 
     fn output_of(&mut self, _alloc: Global, _name: &str) -> Result<Nowhere, OpenFault> {
-        Err(OpenFault::Failed)
+        Err(OpenFault::Failed(io::Error::from(ErrorKind::NotFound)))
     }
 }
 
@@ -153,7 +162,7 @@ pub fn prints_by<'a, R: Abort + Threads + Wait + Sync>(
     answers_by(rt, alloc, line, inputs, &Answer::of_frame(alloc, text)?)
 }
 
-/// Arguments, given in one line, end in a status and a line on standard error, where standard input holds a text.
+/// Arguments, given in one line, end in a status and a fault on standard error, where standard input holds a text.
 pub fn fails_by<'a, R: Abort + Threads + Wait + Sync>(
     rt: &R,
     alloc: Global,
@@ -222,9 +231,13 @@ fn answers_by<R: Abort + Threads + Wait + Sync>(
     for word in line.split(' ') {
         words.push(String::from_str(alloc, word)?)?;
     }
-    let (mut out, mut err) = (Vec::new(alloc), Vec::new(alloc));
+    let (mut out, mut err) = (Noted::new(Vec::new(alloc)), Vec::new(alloc));
     let status = with_words(rt, alloc, words, &mut inputs, &mut out, &mut err);
-    assert_eq!(rt; &Answer::of_bytes(status, out, err)?, wanted, "by {line}");
+    assert_eq!(rt;
+        &Answer::of_bytes(status, out.writer, err)?,
+        wanted,
+        "by {line}"
+    );
     Ok(())
 }
 

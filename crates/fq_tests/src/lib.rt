@@ -1,4 +1,4 @@
-//! Tests of plans over files: what the program answers to each, with the answer that is wanted beside it.
+//! Tests of plans over files: what the program answers to each, beside the answer that is wanted.
 //!
 //! A plan is run at several batch sizes and numbers of workers, which all have to give the same answer, and, if it has one file and its
 //! text is one line, from standard input alone.
@@ -8,6 +8,8 @@
 mod arguments;
 #[cfg(test)]
 mod cases;
+#[cfg(test)]
+mod details;
 #[cfg(test)]
 mod expressions;
 #[cfg(test)]

@@ -6,14 +6,14 @@
 //! it meets the system.
 #![tactic(auto)]
 
-use fq_program::{Failure, SystemFiles, one_input, report, with_words};
+use fq_program::{Failure, Noted, SystemFiles, one_input, report, with_words};
 use std::env;
 use std::io::{ErrorKind, IsTerminal};
 use std::process::ExitCode;
 
 fn main(rt: HostRuntime) -> ExitCode {
     let alloc = rt.alloc();
-    let (mut out, mut err) = (rt.stdout(), rt.stderr());
+    let (mut out, mut err) = (Noted::new(rt.stdout()), rt.stderr());
     ExitCode::from(match words_of(&rt) {
         Err(failure) => report(Err(failure), &mut err),
         Ok(words) if words.is_empty() && !rt.stdin().is_terminal() => {
