@@ -214,18 +214,19 @@ class IntoFile:
 
 
 class Detailed:
-    """A run with --details, in a folder of its own. Of its answer, the lines after that of the fault are cut off."""
+    """A run with --details, in a folder of its own. Of its answer, what follows the line of the fault, or a part of that, is cut off."""
 
-    def __init__(self, program, folder, own_plan, rows):
+    def __init__(self, program, folder, own_plan, rows, details):
         os.mkdir(folder)
         self.program, self.plan, self.file = program, write(f"{folder}/plan.json", own_plan), write(f"{folder}/rows.csv", rows)
+        self.details = details.replace("P", self.plan).replace("F", self.file)
 
     def whole(self, **how):
         return self.program.run(["--details", "--plan", self.plan, self.file], **how)
 
     def __call__(self, **how):
         answer = self.whole(**how)
-        line, end, more = answer.err.partition("\n")
+        line, end, more = answer.err.removesuffix(self.details).partition("\n")
         return answer._replace(err=line + end) if all(it.startswith("  ") for it in more.splitlines()) else answer
 
 
@@ -233,10 +234,9 @@ def try_details(count, pool, program, library, room):
     """What --details says, and that a call that is refused changes nothing of the answer but that."""
     runs = []
     for name, own_plan, rows, status, line, details in DETAILS:
-        run, own = Detailed(program, f"{room}/details-{name.replace(' ', '-')}", own_plan, rows), fault(status, line)
+        run, own = Detailed(program, f"{room}/details-{name.replace(' ', '-')}", own_plan, rows, details), fault(status, line)
         answer = run.whole()
-        answer = answer._replace(err=answer.err.replace(run.plan, "P").replace(run.file, "F"))
-        count.add("program, details", f"status {status}", None if answer == own._replace(err=own.err + details) else f"{name}: {answer}")
+        count.add("program, details", f"status {status}", None if answer == own._replace(err=own.err + run.details) else f"{name}: {answer}")
         runs.append((f"{name}, with details", run, own))
     together(((try_sort, count, *it, library, sort) for it in runs for sort in SORTS), pool)
 
