@@ -1,6 +1,7 @@
 """The built program when the operating system refuses something."""
 import os
 import pty
+import select
 import shutil
 import subprocess
 import tempfile
@@ -185,6 +186,14 @@ def outputs(count, program, room):
         check(count, "output file", "killed midway", Answer(ran.returncode, opened.read(), ""), lambda it: it.out == other)
 
 
+def read_terminal(controller):
+    """What was written to a terminal, which may come in pieces."""
+    text = b""
+    while select.select([controller], [], [], 1)[0]:
+        text += os.read(controller, 4096)
+    return text.decode()
+
+
 def terminal(count, program, room):
     """A terminal as standard input, without arguments, and as standard error, which shows how much is read."""
     text = "v\n" + "1234567\n" * 300_000
@@ -194,7 +203,7 @@ def terminal(count, program, room):
     answer = program.run([], stdin=terminal)
     check(count, "terminal", "no argument", answer, lambda it: it.status == 2 and not it.out and "Usage: frameq" in it.err)
     check(count, "terminal", "--progress without one", program.run(watched), lambda it: it == frame(text))
-    answer = program.run(watched, stderr=terminal)._replace(err=os.read(controller, 4096).decode())
+    answer = program.run(watched, stderr=terminal)._replace(err=read_terminal(controller))
     check(count, "terminal", "--progress", answer, lambda it: it == Answer(0, text, shown))
     os.close(controller)
     os.close(terminal)
