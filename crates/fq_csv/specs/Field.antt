@@ -46,3 +46,8 @@ is_one_of texts field = list_any (λ text. bytes_eq text field) texts
 -- the same, in a file where these texts are read as null, whatever the kind of their column
 abbrev pub cell_under : List (List ℕ) → Kind → List ℕ → Option Cell
 cell_under nulls k field = if is_one_of nulls field then Some Null else cell_of k field
+
+-- whether a field is null in a column of any kind
+abbrev pub is_null : List (List ℕ) → List ℕ → Bool
+is_null nulls [] = true
+is_null nulls (c ∷ cs) = is_one_of nulls (c ∷ cs)

@@ -1,20 +1,24 @@
--- What the `csv` crate's readers of a text have left.
-use Rattle.std.specs.Prelude.{◌≡◌, ◌+◌, ℕ, List, length, Some}
+-- What a reader of records has left.
+use Rattle.std.specs.Prelude.{◌≡◌, ◌+◌, ℕ, List, Option, length, Some}
 use Rattle.std.specs.Borrow.{Bor}
 use Rattle.csv.specs.Reading.{Ready, default_config, reader_config, reader_state, reader_trim, records_from, source_of}
 use Rattle.csv.specs.declared.parser.State.{State}
-use Rattle.csv.specs.declared.reader.Reader.{Reader}
 use Rattle.csv.specs.declared.reader.Trim.TheVariants as trim
 use Rattle.fq_csv.specs.File.{Record}
+use Rattle.fq_csv.specs.declared.readers.RecordReader.{RecordReader}
 
 -- the records of the bytes that are left, from a state of the parser
 abbrev pub records_left : State → List ℕ → List Record
 records_left s bytes = records_from default_config (length bytes + 1) s bytes
 
 -- a reader with the crate's defaults whose next read is of one record
-abbrev pub IsPlain : Reader (Bor (List ℕ)) → Type 0
-IsPlain r = (reader_trim r ≡ trim.None) × Ready r × (reader_config r ≡ default_config)
+abbrev pub IsPlain : {R : Type 0} → RecordReader R → Type 0
+IsPlain r = (reader_trim r.reader ≡ trim.None) × Ready r.reader × (reader_config r.reader ≡ default_config)
 
--- these are the records that a reader of a text has left
-abbrev pub HasLeft : Reader (Bor (List ℕ)) → List Record → Type 0
-HasLeft r rs = (bytes : List ℕ) × (source_of (λ (s : Bor (List ℕ)). Some s.now) r ≡ Some bytes) × (rs ≡ records_left (reader_state r) bytes)
+-- these are the records that a reader has left, by what its source has left
+abbrev pub HasLeft : {R : Type 0} → (R → Option (List ℕ)) → RecordReader R → List Record → Type 0
+HasLeft remaining r rs = (bytes : List ℕ) × (source_of remaining r.reader ≡ Some bytes) × (rs ≡ records_left (reader_state r.reader) bytes)
+
+-- the same, of a reader of a text
+abbrev pub TextHasLeft : RecordReader (Bor (List ℕ)) → List Record → Type 0
+TextHasLeft = HasLeft (λ (s : Bor (List ℕ)). Some s.now)

@@ -1,9 +1,9 @@
 //! The cells that fields are.
-ghost use Rattle.std.specs.Prelude.{◌≡◌, ◌≤◌, ◌++◌, ◌∷◌, [], Some, None, IfOk, MatchBool, length, option_map, true};
+ghost use Rattle.std.specs.Prelude.{◌≡◌, ◌≤◌, ◌++◌, ◌∷◌, [], Some, None, IfOk, MatchBool, is_some, length, option_map, true};
 ghost use Rattle.std.specs.Option.{SomeIff};
 ghost use Rattle.std.specs.Str.Parse.{digits_value, starts_with_minus, without_leading_sign};
 ghost use Rattle.fq_column.specs.declared.cells.Cell.{Cell};
-ghost use Rattle.fq_csv.specs.Field.{cell_under, is_numeral, text_of, truth_of, whole_of};
+ghost use Rattle.fq_csv.specs.Field.{cell_under, is_null, is_numeral, text_of, truth_of, whole_of};
 ghost use Rattle.fq_csv.specs.Rows.{with_cell};
 
 use crate::layouts::NullValues;
@@ -16,8 +16,8 @@ const LONG_FIELD: usize = 64;
 /// As many digits as write a number within 64 bits, whichever they are.
 const FEW_DIGITS: usize = 18;
 
-/// The whole number that a field spells, if it spells one within 64 bits.
-fn whole(field: &[u8]) -> Option<i64>
+/// The whole number that a field spells, if it spells one within 64 bits: an optional sign and digits.
+pub fn whole(field: &[u8]) -> Option<i64>
     ensures { result ≡ whole_of field.now }
 {
     let (is_negative, digits) = split_sign(field);
@@ -69,7 +69,7 @@ fn long_whole(field: &[u8]) -> Option<i64>
 }
 
 /// The truth value that a field names, in any letter case.
-fn truth(field: &[u8]) -> Option<bool>
+pub fn truth(field: &[u8]) -> Option<bool>
     ensures { result ≡ truth_of field.now }
 {
     if field.eq_ignore_ascii_case(b"true") {
@@ -92,6 +92,39 @@ fn text(field: &[u8]) -> Option<&str>
     }
 }
 
+/// The word for a kind of column, as plans and messages have it.
+pub fn kind_word(kind: Kind) -> &'static str {
+    match kind {
+        Kind::Whole => "int",
+        Kind::Text => "text",
+        Kind::Truth => "bool",
+    }
+}
+
+/// Whether a field is null in a column of any kind: it is empty, or one of these texts.
+pub fn is_null(field: &[u8], nulls: &NullValues) -> bool
+    ensures { result ≡ is_null nulls.now field.now }
+{
+    field.is_empty() || nulls.has(field)
+}
+
+/// Whether a field is a cell of a column of this kind, where these texts are null.
+///
+/// An empty field is null in each column. A whole number is an optional sign and digits, within 64 bits; a truth value is `true` or
+/// `false` in any letter case; a text is valid UTF-8.
+pub fn is_cell(field: &[u8], kind: Kind, nulls: &NullValues) -> bool
+    ensures { result ≡ is_some (cell_under nulls.now kind field.now) }
+{
+    if is_null(field, nulls) {
+        return true;
+    }
+    match kind {
+        Kind::Whole => whole(field).is_some(),
+        Kind::Text => text(field).is_some(),
+        Kind::Truth => truth(field).is_some(),
+    }
+}
+
 /// Appends the cell that a field is to a column, with these texts as null, and says whether it is one.
 ///
 /// Allocates for a text, and if the column grows.
@@ -104,7 +137,7 @@ pub(crate) fn push_field(
         ((cell : Cell) × (cell_under nulls.now column.old.kind field.now ≡ Some cell) × (column.new ≡ with_cell column.old cell))
         ((cell_under nulls.now column.old.kind field.now ≡ None) × (column.new ≡ column.old))) }
 {
-    if field.is_empty() || nulls.has(field) {
+    if is_null(field, nulls) {
         column.push_null()?;
         return Ok(true);
     }

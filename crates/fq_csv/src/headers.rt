@@ -10,7 +10,7 @@ ghost use Rattle.fq_csv.specs.Records.{StopsBy};
 
 use crate::faults::ScanFault;
 use crate::file_stages::Stage;
-use crate::readers::{next_record, reader_of};
+use crate::readers::{RecordReader, next_record};
 use crate::records::Records;
 use csv::ByteRecord;
 use fq_column::{Memory, Schema};
@@ -59,7 +59,7 @@ fn is_header(alloc: Global, schema: &Schema, text: &[u8]) -> Result<bool, Memory
     requires one { length (records_of default_config text.now) ≡ 1 }
     ensures { IfOk result (λ is. (r : Record) → records_of default_config text.now ≡ r ∷ [] → is ≡ pointwise same_name (names_of schema.now) r) }
 {
-    let mut reader = reader_of(alloc, text);
+    let mut reader = RecordReader::new(alloc, text);
     let mut row = ByteRecord::new(alloc);
     if !next_record(&mut reader, &mut row)? {
         unreachable!()

@@ -30,6 +30,13 @@ impl NullValues {
         NullValues { texts }
     }
 
+    /// The texts.
+    pub fn texts(&self) -> &[String]
+        ensures { map string_bytes result.now ≡ self.now }
+    {
+        self.texts.as_slice()
+    }
+
     /// The same texts in memory of their own.
     pub fn copy(&self, alloc: Global) -> Result<NullValues, Memory>
         ensures { IfOk result (λ n. n ≡ self.now) }

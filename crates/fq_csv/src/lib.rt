@@ -1,4 +1,4 @@
-//! CSV files as streams of batches, and batches as CSV text.
+//! CSV files as streams of batches, and batches as CSV text; records one after another, and whether a field is a cell.
 #![tactic(auto)]
 
 mod blocks;
@@ -24,9 +24,11 @@ mod taking;
 mod text_rows;
 
 pub use faults::ScanFault;
+pub use field_cells::{is_cell, is_null, kind_word, truth, whole};
 pub use laws::scan_laws;
 pub use layouts::{Layout, NullValues};
 pub use printing::{print_frame, print_names, print_rows};
+pub use readers::RecordReader;
 pub use record_runs::RecordRun;
 pub use record_scanners::RecordScanner;
 pub use scanners::{MAX_BATCH_SIZE, MAX_ROWS, Scanner};

@@ -1,37 +1,61 @@
-//! The `csv` crate's readers of a text.
-ghost use Rattle.std.specs.Prelude.{◌≡◌, IfOk, List, MatchBool, OnOk, [], ◌∷◌};
+//! The records of a file, one after another.
+ghost use Rattle.std.specs.Prelude.{◌≡◌, IfOk, List, MatchBool, OnOk, Some, [], ◌∷◌, ℕ};
 ghost use Rattle.csv.specs.Reading.{default_config, records, strip_bom};
 ghost use Rattle.csv.specs.Records.{fields_of};
 ghost use Rattle.fq_csv.specs.File.{Record};
-ghost use Rattle.fq_csv.specs.Readers.{HasLeft, IsPlain};
+ghost use Rattle.fq_csv.specs.Readers.{HasLeft, IsPlain, TextHasLeft};
 
-use csv::{ByteRecord, Reader, ReaderBuilder};
+use csv::{ByteRecord, Error, Reader, ReaderBuilder};
 use fq_column::Memory;
 use std::alloc::Global;
+use std::io::Read;
 
-/// A reader of the records of a text that no byte order mark begins, each with as many fields as it has.
-///
-/// It costs some 100,000 instructions for its tables, and each run has its own: a worker shares its work with the others by reference, so
-/// it cannot keep one, and a reader cannot be given another text.
-pub(crate) fn reader_of(alloc: Global, text: &[u8]) -> Reader<&[u8]>
-    requires { strip_bom text.now ≡ text.now }
-    ensures plain { IsPlain result }
-    ensures left { HasLeft result (records default_config text.now) }
-{
-    ReaderBuilder::new()
-        .has_headers(false)
-        .flexible(true)
-        .from_reader(alloc, text)
+/// A reader of the records of a file, each with as many fields as it has. The header is the first of them.
+#[derive(Drop)]
+pub struct RecordReader<R> {
+    reader: Reader<R>,
 }
 
-/// Reads the next record, and says whether there was one. `Memory` if an allocation failed.
-pub(crate) fn next_record(reader: &mut Reader<&[u8]>, row: &mut ByteRecord) -> Result<bool, Memory>
+impl<R: Read> RecordReader<R> {
+    /// A reader of the records of these bytes, without a byte order mark.
+    ///
+    /// It costs some 100,000 instructions for its tables, and each run of a scan has its own: a worker shares its work with the others by
+    /// reference, so it cannot keep one, and a reader cannot be given another text.
+    pub fn new(alloc: Global, bytes: R) -> RecordReader<R>
+        ensures plain { IsPlain result }
+        ensures left { (all : List ℕ) → R.remaining bytes ≡ Some all → HasLeft R.remaining result (records default_config (strip_bom all)) }
+    {
+        let reader = ReaderBuilder::new()
+            .has_headers(false)
+            .flexible(true)
+            .from_reader(alloc, bytes);
+        RecordReader { reader }
+    }
+
+    /// Reads the next record, and says whether there was one. Fails as `csv` does: if a read fails (`Io`), or an allocation does
+    /// (`OutOfMemory`); it is not to be read from after that.
+    pub fn read(&mut self, row: &mut ByteRecord) -> Result<bool, Error>
+        requires { IsPlain self.old }
+        ensures plain { OnOk result (IsPlain self.new) }
+        ensures reads { IfOk result (λ found. (rs : List Record) → HasLeft R.remaining self.old rs →
+            MatchBool found ((rest : List Record) × (rs ≡ fields_of row.new ∷ rest) × HasLeft R.remaining self.new rest) (rs ≡ [])) }
+    {
+        let found = self.reader.read_byte_record(row)?;
+        Ok(found)
+    }
+}
+
+/// Reads the next record of a text, and says whether there was one. `Memory` if an allocation failed; no read of a text fails otherwise.
+pub(crate) fn next_record(
+    reader: &mut RecordReader<&[u8]>,
+    row: &mut ByteRecord,
+) -> Result<bool, Memory>
     requires { IsPlain reader.old }
     ensures plain { OnOk result (IsPlain reader.new) }
-    ensures reads { IfOk result (λ found. (rs : List Record) → HasLeft reader.old rs →
-        MatchBool found ((rest : List Record) × (rs ≡ fields_of row.new ∷ rest) × HasLeft reader.new rest) (rs ≡ [])) }
+    ensures reads { IfOk result (λ found. (rs : List Record) → TextHasLeft reader.old rs →
+        MatchBool found ((rest : List Record) × (rs ≡ fields_of row.new ∷ rest) × TextHasLeft reader.new rest) (rs ≡ [])) }
 {
-    match reader.read_byte_record(row) {
+    match reader.read(row) {
         Ok(found) => Ok(found),
         Err(_) => Err(Memory),
     }

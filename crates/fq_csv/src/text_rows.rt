@@ -10,7 +10,7 @@ ghost use Rattle.fq_csv.specs.TextRows.{HoldsRowsOf, IsNoRow};
 
 use crate::field_cells::push_field;
 use crate::layouts::NullValues;
-use crate::readers::{next_record, reader_of};
+use crate::readers::{RecordReader, next_record};
 use csv::ByteRecord;
 use fq_column::{Column, MAX_COLUMNS, Memory, cut_columns};
 use std::alloc::Global;
@@ -72,7 +72,7 @@ pub(crate) fn push_records(
     requires count { length (records default_config text.now) ≡ count }
     ensures { IfOk result (λ bad. HoldsRowsOf nulls.now (kinds_in columns.old) (records default_config text.now) columns.new bad) }
 {
-    let mut reader = reader_of(alloc, text);
+    let mut reader = RecordReader::new(alloc, text);
     let mut fields = ByteRecord::new(alloc);
     for row in 0..count {
         if !next_record(&mut reader, &mut fields)? {

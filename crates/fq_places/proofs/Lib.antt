@@ -1,3 +1,4 @@
 pub mod LineCountLemmas
 pub mod LineLemmas
+pub mod MarkLemmas
 pub mod RecordLemmas

@@ -1,5 +1,5 @@
 -- There are as many lines on which records begin as there are records.
-use Rattle.std.proofs.Common.{◌≡◌, ◌∙◌, ◌+◌, ◌==◌, ℕ, Bool, true, false, List, [], ◌∷◌, Option, Some, None, ap, arith, suc, inl, inr, length, not, refl, sym}
+use Rattle.std.proofs.Common.{◌≡◌, ◌∙◌, ◌+◌, ◌==◌, ℕ, Bool, true, false, List, [], ◌∷◌, Option, Some, None, ap, arith, if◌then◌else◌, suc, inl, inr, length, not, refl, sym}
 use Rattle.std.specs.Prelude.{MatchBool}
 use Rattle.std.proofs.lemmas.Bool.{cases_Bool}
 use Rattle.csv.specs.Machine.{Read, field_after, fields_after, is_end, next_record, step}
@@ -8,7 +8,11 @@ use Rattle.csv.specs.declared.parser.State.{State}
 use Rattle.csv.specs.declared.parser.State.TheVariants as st
 use Rattle.fq_csv.specs.Readers.{records_left}
 use Rattle.fq_csv.proofs.RecordLemmas.{left-none, left-some, option-case}
-use Rattle.fq_places.specs.Lines.{begins, is_between, line_after, lines_from, record_lines}
+use Rattle.fq_places.specs.Lines.{begins, is_between, line_after}
+use Rattle.fq_places.specs.Marks.{marks_from}
+use Rattle.fq_places.specs.Places.{opens}
+use Rattle.fq_places.specs.Records.{lines_of, record_lines}
+use Rattle.fq_places.proofs.MarkLemmas.{lines-at-end, lines-step}
 
 abbrev one : Bool → ℕ
 one true = 1
@@ -92,33 +96,36 @@ ends-counted st.AfterQuote fields field n = ap (λ rs. suc (length rs)) (left-no
 ends-counted st.InEscape fields field n = ap (λ rs. suc (length rs)) (left-none st.StartRecord [] refl)
 ends-counted st.InComment fields field n = absurd (n refl)
 
-lines-step : (s : State) (line c : ℕ) (cs : List ℕ) → length (lines_from s line (c ∷ cs)) ≡ one (begins s c) + length (lines_from (step default_config s c).0 (line_after line c) cs)
-unfolding lines_from
-lines-step s line c cs = elim (cases_Bool (begins s c)) [ inl e ↦ rw e (omega arith) | inr e ↦ rw e (omega arith) ]
+lines-counted : (s : State) (line quote c : ℕ) (cs : List ℕ) → length (lines_of (marks_from s line quote (c ∷ cs)))
+    ≡ one (begins s c) + length (lines_of (marks_from (step default_config s c).0 (line_after line c) (if opens s c then line else quote) cs))
+lines-counted s line quote c cs =
+    let step = ap length (lines-step s line quote c cs) in
+    elim (cases_Bool (begins s c)) [ inl e ↦ rw e (omega (arith, rw e at step)) | inr e ↦ rw e (omega (arith, rw e at step)) ]
 
-all-counted : (xs : List ℕ) (s : State) (fields : List (List ℕ)) (field : List ℕ) (line : ℕ) → (s ≡ st.InComment → ⊥)
-    → counted (next_record default_config s fields field xs) ≡ length (lines_from s line xs) + one (not (is_between s))
-unfolding next_record lines_from
-all-counted [] s fields field line n = let end = ends-counted s fields field n in omega (arith, end)
-all-counted (c ∷ cs) s fields field line n =
+all-counted : (xs : List ℕ) (s : State) (fields : List (List ℕ)) (field : List ℕ) (line quote : ℕ) → (s ≡ st.InComment → ⊥)
+    → counted (next_record default_config s fields field xs) ≡ length (lines_of (marks_from s line quote xs)) + one (not (is_between s))
+unfolding next_record
+all-counted [] s fields field line quote n = let end = ends-counted s fields field n in let none = ap length (lines-at-end s line quote) in omega (arith, end, none)
+all-counted (c ∷ cs) s fields field line quote n =
     let f = fact c s n in
     let next = (step default_config s c).0 in
-    let lines = lines-step s line c cs in
+    let opened = if opens s c then line else quote in
+    let lines = lines-counted s line quote c cs in
     elim (cases_Bool (is_end (step default_config s c).1)) [
       | inl e ↦
           let ends : (is_between s ≡ false) × (is_between next ≡ true) = rw e at f.1 in
-          let after = left-counted next cs ∙ all-counted cs next [] [] (line_after line c) f.0 in
+          let after = left-counted next cs ∙ all-counted cs next [] [] (line_after line c) opened f.0 in
           let none : one (begins s c) ≡ 0 = rw ends.0 refl in
           let in_one : one (not (is_between s)) ≡ 1 = rw ends.0 refl in
           let in_none : one (not (is_between next)) ≡ 0 = rw ends.1 refl in
           rw e (omega (arith, lines, after, none, in_one, in_none))
       | inr e ↦
           let goes : one (begins s c) + one (not (is_between s)) ≡ one (not (is_between next)) = rw e at f.1 in
-          let after = all-counted cs next (fields_after (step default_config s c).1 fields field) (field_after (step default_config s c).1 c field) (line_after line c) f.0 in
+          let after = all-counted cs next (fields_after (step default_config s c).1 fields field) (field_after (step default_config s c).1 c field) (line_after line c) opened f.0 in
           rw e (omega (arith, lines, after, goes))
     ]
 
 pub as-many-lines : (bytes : List ℕ) → length (record_lines bytes) ≡ length (records default_config (strip_bom bytes))
 as-many-lines bytes =
-    let all = left-counted st.StartRecord (strip_bom bytes) ∙ all-counted (strip_bom bytes) st.StartRecord [] [] 1 (λ x. cc x) in
+    let all = left-counted st.StartRecord (strip_bom bytes) ∙ all-counted (strip_bom bytes) st.StartRecord [] [] 1 1 (λ x. cc x) in
     omega (arith, all)

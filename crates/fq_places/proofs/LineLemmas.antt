@@ -1,41 +1,17 @@
--- The lines on which records begin, one byte after another.
-use Rattle.std.proofs.Common.{◌≡◌, ◌++◌, ◌∷◌, [], ◌==◌, ◌-◌, ◌<◌, ◌∙◌, ap, sym, ℕ, suc, zero, List, Option, Some, None, true, false, refl, arith, inl, inr}
+-- The lines of a file, as a reader with a buffer gives them.
+use Rattle.std.proofs.Common.{◌≡◌, ◌++◌, ◌∷◌, [], ◌==◌, ◌-◌, ◌∙◌, ap, sym, ℕ, List, Option, Some, true, false, refl, arith, inl, inr, take, drop, length}
+use Rattle.std.proofs.Math.Seq.{take_all}
+use Rattle.std.proofs.lemmas.List.{length-drop}
 use Rattle.std.specs.Io.BufRead.{take_through, drop_through}
-use Rattle.std.specs.Prelude.{◌⊎◌, slice_get}
+use Rattle.std.specs.Prelude.{◌⊎◌}
 use Rattle.std.specs.Io.Buffered.{reader_buffer, reader_capacity, reader_inner, reader_remaining}
 use Rattle.std.specs.declared.io.buffered.BufReader.{BufReader}
 use Rattle.std.proofs.lemmas.Bool.{cases_Bool}
 use Rattle.std.proofs.lemmas.Bool.Decides.{nat_tests}
-use Rattle.csv.specs.Machine.{step}
-use Rattle.csv.specs.Reading.{default_config, is_bom, strip_bom}
-use Rattle.csv.specs.declared.parser.State.{State}
-use Rattle.fq_places.specs.Lines.{begins, lines_from, line_after}
-use Rattle.fq_places.specs.Places.{after_all}
-
-module _ (s : State) (line c : ℕ) (cs : List ℕ) where
-  -- the first record begins here
-  pub line-here : (n : ℕ) → begins s c ≡ true → n ≡ 0 → slice_get (lines_from s line (c ∷ cs)) n ≡ Some line
-  unfolding lines_from
-  line-here n e z = rw (e, z) refl
-
-  -- another record begins here
-  pub line-later : (n : ℕ) → begins s c ≡ true → 0 < n → slice_get (lines_from s line (c ∷ cs)) n ≡ slice_get (lines_from (step default_config s c).0 (line_after line c) cs) (n - 1)
-  unfolding lines_from
-  line-later zero e b = absurd (omega (arith, b))
-  line-later (suc n) e b = rw e (ap (λ m. slice_get (lines_from (step default_config s c).0 (line_after line c) cs) m) (let p : n ≡ suc n - 1 = omega arith in p))
-
-  -- none does
-  pub line-on : (n : ℕ) → begins s c ≡ false → slice_get (lines_from s line (c ∷ cs)) n ≡ slice_get (lines_from (step default_config s c).0 (line_after line c) cs) n
-  unfolding lines_from
-  line-on n e = rw e refl
-
--- no record begins in no bytes
-pub no-lines : (s : State) (line n : ℕ) → slice_get (lines_from s line []) n ≡ None
-unfolding lines_from
-no-lines s line n = refl
+use Rattle.csv.specs.Reading.{is_bom, strip_bom}
 
 -- the bytes of a line, and those after it
-line-and-rest : (bytes : List ℕ) → take_through 10 bytes ++ drop_through 10 bytes ≡ bytes
+pub line-and-rest : (bytes : List ℕ) → take_through 10 bytes ++ drop_through 10 bytes ≡ bytes
 line-and-rest [] = refl
 line-and-rest (c ∷ cs) = elim (cases_Bool (c == 10)) [ inl e ↦ rw e refl | inr e ↦ rw e (ap (λ xs. c ∷ xs) (line-and-rest cs)) ]
 
@@ -76,14 +52,6 @@ pub fresh : {R A : Type 0} (remaining : R → Option (List ℕ)) (inner : R) (r 
     → remaining inner ≡ Some bytes → reader_remaining remaining r ≡ Some bytes
 fresh remaining inner r bytes same empty room known = rw (room, empty, same, known) refl
 
--- ---- where a reader stands
-
-pub after-both : (s : State) (xs ys : List ℕ) → after_all s (xs ++ ys) ≡ after_all (after_all s xs) ys
-after-both s [] ys = refl
-after-both s (x ∷ xs) ys = after-both (step default_config s x).0 xs ys
-
-pub after-first-line : (s : State) (bytes : List ℕ) → after_all s (strip_bom bytes) ≡ after_all (after_all s (strip_bom (take_through 10 bytes))) (drop_through 10 bytes)
-after-first-line s bytes = ap (after_all s) (mark-in-line bytes) ∙ after-both s (strip_bom (take_through 10 bytes)) (drop_through 10 bytes)
-
-pub after-line : (s : State) (bytes : List ℕ) → after_all s bytes ≡ after_all (after_all s (take_through 10 bytes)) (drop_through 10 bytes)
-after-line s bytes = ap (after_all s) (sym (line-and-rest bytes)) ∙ after-both s (take_through 10 bytes) (drop_through 10 bytes)
+-- what is left of the bytes of a line
+pub line-left : (xs ys : List ℕ) (n : ℕ) → xs ≡ ys → take (length xs - n) (drop n xs) ≡ drop n ys
+line-left xs ys n e = take_all (length xs - n) (drop n xs) (omega (arith, length-drop n xs)) ∙ ap (drop n) e

@@ -1,3 +1,4 @@
 pub mod Lines
+pub mod Marks
 pub mod Places
-pub mod Readers
+pub mod Records

@@ -1,78 +1,15 @@
-//! The lines on which the records of a file begin.
-ghost use Rattle.std.specs.Prelude.{◌≡◌, ◌++◌, ◌∷◌, ℕ, List, Some, IfOk, MatchBool, slice_get};
-ghost use Rattle.fq_places.specs.Lines.{line_after, lines_from, record_lines};
-ghost use Rattle.fq_places.specs.Places.{state_of};
+//! The line of a record, and whether a file ends in quotes.
+ghost use Rattle.std.specs.Prelude.{◌≡◌, ℕ, List, Some, IfOk, slice_get};
+ghost use Rattle.fq_places.specs.Records.{ends_in_quotes, is_open_quote, record_lines};
 
-use crate::places::{Place, without_mark};
+use crate::marks::{Flaw, Marks};
 use std::alloc::Global;
 use std::io;
-use std::io::{BufRead, BufReader, ErrorKind, Read};
-
-// A search for the line of a record, before a byte of a text.
-#[derive(Clone, Copy)]
-struct Search {
-    // Where the reader stands.
-    place: Place,
-    // The line of the byte.
-    line: u64,
-    // How many records begin before the one that is looked for.
-    left: u64,
-}
-
-impl Search {
-    // Goes on over a byte. Whether the record begins with it; then the search is at its line.
-    fn pass(&mut self, byte: u8) -> io::Result<bool>
-        ensures { IfOk result (λ found. (more : List ℕ) → MatchBool found
-            (slice_get (lines_from (state_of self.old.place) self.old.line (byte ∷ more)) self.old.left ≡ Some self.new.line)
-            (slice_get (lines_from (state_of self.old.place) self.old.line (byte ∷ more)) self.old.left ≡ slice_get (lines_from (state_of self.new.place) self.new.line more) self.new.left)) }
-    {
-        if self.place.begins(byte) {
-            if self.left == 0 {
-                return Ok(true);
-            }
-            self.left -= 1;
-        }
-        self.line = line_after(self.line, byte)?;
-        self.place = self.place.after(byte);
-        Ok(false)
-    }
-
-    // `pass` over bytes, up to the one with which the record begins.
-    fn pass_all(&mut self, bytes: &[u8]) -> io::Result<bool>
-        ensures { IfOk result (λ found. (more : List ℕ) → MatchBool found
-            (slice_get (lines_from (state_of self.old.place) self.old.line (bytes.now ++ more)) self.old.left ≡ Some self.new.line)
-            (slice_get (lines_from (state_of self.old.place) self.old.line (bytes.now ++ more)) self.old.left ≡ slice_get (lines_from (state_of self.new.place) self.new.line more) self.new.left)) }
-    {
-        for byte in bytes {
-            if self.pass(*byte)? {
-                return Ok(true);
-            }
-        }
-        Ok(false)
-    }
-
-    // The line of the record, if it begins in what a reader has left. Each line is read into `bytes`.
-    fn find<R: BufRead>(&mut self, reader: &mut R, bytes: &mut Vec<u8>) -> io::Result<Option<u64>>
-        ensures { IfOk result (λ line. (rest : List ℕ) → R.Read.remaining reader.old ≡ Some rest → line ≡ slice_get (lines_from (state_of self.old.place) self.old.line rest) self.old.left) }
-    {
-        for _ in 0..u64::MAX {
-            bytes.clear();
-            if reader.read_until(b'\n', bytes)? == 0 {
-                return Ok(None);
-            }
-            if self.pass_all(bytes.as_slice())? {
-                return Ok(Some(self.line));
-            }
-        }
-        Err(io::Error::from(ErrorKind::FileTooLarge))
-    }
-}
+use std::io::{ErrorKind, Read};
 
 /// The line, from 1, on which the record of this number begins, from 0; or `None` if the file has no such record.
 ///
-/// The header is record 0, so a row's number is that of its record. A byte order mark is passed over, as `csv` does. Fails if a read
-/// fails, if an allocation fails (`OutOfMemory`), or if the file has more than 18,446,744,073,709,551,614 lines (`FileTooLarge`). It holds
-/// one line of the file at a time.
+/// The header is record 0, so a row's number is that of its record. Fails as [`Marks`] does.
 pub fn line_of_record<R: Read + Drop>(
     alloc: Global,
     reader: R,
@@ -80,27 +17,41 @@ pub fn line_of_record<R: Read + Drop>(
 ) -> io::Result<Option<u64>>
     ensures { IfOk result (λ line. (bytes : List ℕ) → R.remaining reader ≡ Some bytes → line ≡ slice_get (record_lines bytes) number) }
 {
-    let mut reader = BufReader::new(alloc, reader)?;
-    let mut bytes = Vec::new(alloc);
-    reader.read_until(b'\n', &mut bytes)?;
-    let mut search = Search {
-        place: Place::Start,
-        line: 1,
-        left: number,
-    };
-    if search.pass_all(without_mark(bytes.as_slice()))? {
-        return Ok(Some(search.line));
+    let mut marks = Marks::new(alloc, reader)?;
+    let mut left = number;
+    for _ in 0..u64::MAX {
+        let Some(mark) = marks.next()? else {
+            return Ok(None);
+        };
+        if mark.begins {
+            if left == 0 {
+                return Ok(Some(mark.line));
+            }
+            left -= 1;
+        }
     }
-    let line = search.find(&mut reader, &mut bytes)?;
-    Ok(line)
+    Err(io::Error::from(ErrorKind::FileTooLarge))
 }
 
-// The line of the byte after this one of a line.
-fn line_after(line: u64, byte: u8) -> io::Result<u64>
-    ensures { IfOk result (λ after. after ≡ line_after line byte) }
+/// Whether a file ends in quotes that are not closed. Fails as [`Marks`] does.
+pub fn ends_in_quotes<R: Read + Drop>(alloc: Global, reader: R) -> io::Result<bool>
+    ensures { IfOk result (λ quoted. (bytes : List ℕ) → R.remaining reader ≡ Some bytes → quoted ≡ ends_in_quotes bytes) }
 {
-    if byte != b'\n' {
-        return Ok(line);
+    let mut marks = Marks::new(alloc, reader)?;
+    for _ in 0..u64::MAX {
+        let Some(mark) = marks.next()? else {
+            return Ok(false);
+        };
+        if is_open_quote(mark.flaw) {
+            return Ok(true);
+        }
     }
-    Ok(line.checked_add(1).ok_or(ErrorKind::FileTooLarge)?)
+    Err(io::Error::from(ErrorKind::FileTooLarge))
+}
+
+// Whether a flaw is a quote that is not closed.
+fn is_open_quote(flaw: Option<Flaw>) -> bool
+    ensures { result ≡ is_open_quote flaw }
+{
+    matches!(flaw, Some(Flaw::OpenQuote))
 }

@@ -1,9 +1,12 @@
 //! Where a reader of CSV stands in a text.
-ghost use Rattle.std.specs.Prelude.{◌≡◌};
+ghost use Rattle.std.specs.Prelude.{◌≡◌, ◌≤◌, drop, length};
 ghost use Rattle.csv.specs.Machine.{step};
 ghost use Rattle.csv.specs.Reading.{default_config, strip_bom};
 ghost use Rattle.fq_places.specs.Lines.{begins};
-ghost use Rattle.fq_places.specs.Places.{after_all, is_in_quotes, state_of};
+ghost use Rattle.fq_places.specs.Marks.{flaw_at};
+ghost use Rattle.fq_places.specs.Places.{opens, state_of};
+
+use crate::marks::Flaw;
 
 // The byte order mark, U+FEFF in UTF-8.
 const MARK: [u8; 3] = [0xEF, 0xBB, 0xBF];
@@ -51,32 +54,37 @@ impl Place {
         }
     }
 
-    /// Where the reader stands after these bytes.
-    pub fn after_all(self, bytes: &[u8]) -> Place
-        ensures { state_of result ≡ after_all (state_of self) bytes.now }
+    /// Whether this byte opens quotes.
+    pub fn opens(self, byte: u8) -> bool
+        ensures { result ≡ opens (state_of self) byte }
     {
-        let mut place = self;
-        for byte in bytes {
-            place = place.after(*byte);
+        match self {
+            Place::Start | Place::AfterReturn | Place::Field => byte == b'"',
+            _ => false,
         }
-        place
     }
 
-    /// Whether it is in quotes.
-    pub fn is_in_quotes(self) -> bool
-        ensures { result ≡ is_in_quotes (state_of self) }
+    /// What shows at this byte.
+    pub fn flaw_at(self, byte: u8) -> Option<Flaw>
+        ensures { result ≡ flaw_at (state_of self) byte }
     {
-        matches!(self, Place::InQuotes)
+        match (self, byte) {
+            (Place::AfterQuote, b'"' | b',' | b'\r' | b'\n') | (Place::AfterReturn, b'\n') => None,
+            (Place::AfterQuote, _) => Some(Flaw::TextAfterQuote),
+            (Place::AfterReturn, _) => Some(Flaw::LoneReturn),
+            _ => None,
+        }
     }
 }
 
-/// The bytes without a byte order mark.
-pub fn without_mark(bytes: &[u8]) -> &[u8]
-    ensures { result.now ≡ strip_bom bytes.now }
+/// How many bytes a byte order mark takes at the start of these.
+pub fn mark_len(bytes: &[u8]) -> usize
+    ensures fits { result ≤ length bytes.now }
+    ensures rest { drop result bytes.now ≡ strip_bom bytes.now }
 {
     if bytes.starts_with(&MARK) {
-        &bytes[MARK.len()..]
+        MARK.len()
     } else {
-        bytes
+        0
     }
 }

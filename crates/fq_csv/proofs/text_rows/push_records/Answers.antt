@@ -1,13 +1,24 @@
-use Rattle.std.proofs.Common.{◌≡◌, ◌+◌, ◌∙◌, ◌++◌, ◌∷◌, List, [], Some, ap, append_assoc, arith, length, length-append, subst, sym}
+use Rattle.std.proofs.Common.{◌≡◌, ◌+◌, ◌∙◌, ◌++◌, ◌∷◌, List, [], Some, ap, append_assoc, arith, length, length-append, refl, subst, sym}
 use Rattle.csv.specs.Reading.{default_config, records}
 use Rattle.csv.specs.Records.{fields_of}
 use Rattle.fq_column.specs.Column.{Cells}
 use Rattle.fq_csv.specs.File.{Record}
 use Rattle.fq_csv.specs.Rows.{kinds_in}
-use Rattle.fq_csv.specs.Readers.{HasLeft}
+use Rattle.fq_csv.specs.Readers.{TextHasLeft}
 use Rattle.fq_csv.specs.TextRows.{HoldsRowsOf}
 use Rattle.fq_csv.proofs.TextRowLemmas.{HasRows, HasRows-all, HasRows-bad, HasRows-more}
 use Rattle.fq_csv.proofs.text_rows.push_records.Goals as goal
+
+pub loop-row-init : goal.loop-row-init
+loop-row-init c = record {
+  plain = c.new-reader.ensures.plain;
+  before = [];
+  rest = records default_config c.args.text.now;
+  left = rw c.requires.unmarked at (c.new-reader.ensures.left c.args.text.now refl);
+  split = refl;
+  number = refl;
+  rows = record { rows = []; number = refl; held = c.requires.empty; stream = λ file before limit layout nulls kinds room. refl };
+}
 
 pub unreachable-requires : goal.unreachable-requires
 unreachable-requires c =
@@ -20,7 +31,7 @@ pub returns-in-Some : goal.returns-in-Some
 returns-in-Some c =
     let inv = c.loop-row.invariant in
     let fs = fields_of c.next_record.new.row in
-    let step : (rest : List Record) × (inv.rest ≡ fs ∷ rest) × HasLeft c.next_record.new.reader rest = rw c.if-not-branch.false at (c.in_ok-next_record.ensures.reads inv.rest inv.left) in
+    let step : (rest : List Record) × (inv.rest ≡ fs ∷ rest) × TextHasLeft c.next_record.new.reader rest = rw c.if-not-branch.false at (c.in_ok-next_record.ensures.reads inv.rest inv.left) in
     let bad = rw c.in-Some.is at c.in_ok-why.ensures.none in
     let kinds = kinds_in c.args.columns.now in
     subst (λ (cs : List Cells). HoldsRowsOf c.args.nulls.now kinds (records default_config c.args.text.now) cs (Some (c.loop-row.row, c.in-Some.why))) (sym bad.1)
@@ -31,7 +42,7 @@ pub loop-row-preserved : goal.loop-row-preserved
 loop-row-preserved c =
     let inv = c.loop-row.invariant in
     let fs = fields_of c.next_record.new.row in
-    let step : (rest : List Record) × (inv.rest ≡ fs ∷ rest) × HasLeft c.next_record.new.reader rest = rw c.if-not-branch.false at (c.in_ok-next_record.ensures.reads inv.rest inv.left) in
+    let step : (rest : List Record) × (inv.rest ≡ fs ∷ rest) × TextHasLeft c.next_record.new.reader rest = rw c.if-not-branch.false at (c.in_ok-next_record.ensures.reads inv.rest inv.left) in
     let row = rw c.in_default.is at c.in_ok-why.ensures.row in
     let kinds = kinds_in c.args.columns.now in
     record {

@@ -2,7 +2,7 @@ use Rattle.std.specs.Prelude.{◌≡◌, ◌++◌, List, length}
 use Rattle.csv.specs.Reading.{default_config, records}
 use Rattle.fq_csv.specs.File.{Record}
 use Rattle.fq_csv.specs.Rows.{kinds_in}
-use Rattle.fq_csv.specs.Readers.{HasLeft, IsPlain}
+use Rattle.fq_csv.specs.Readers.{TextHasLeft, IsPlain}
 use Rattle.fq_csv.proofs.TextRowLemmas.{HasRows}
 use Rattle.fq_csv.proofs.text_rows.push_records.Given as goal
 
@@ -11,7 +11,7 @@ invariant-loop-row l = record {
   plain : IsPlain l.reader;
   before : List Record;
   rest : List Record;
-  left : HasLeft l.reader rest;
+  left : TextHasLeft l.reader rest;
   split : records default_config l.text ≡ before ++ rest;
   number : length before ≡ l.row;
   rows : HasRows l.nulls (kinds_in l.fn.columns) before l.columns;

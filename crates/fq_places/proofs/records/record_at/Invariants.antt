@@ -2,7 +2,7 @@ use Rattle.std.proofs.Common.{◌≡◌, ◌-◌, ℕ, List, Some}
 use Rattle.std.specs.Prelude.{slice_get}
 use Rattle.csv.specs.Reading.{default_config, records, strip_bom}
 use Rattle.fq_csv.specs.File.{Record}
-use Rattle.fq_places.specs.Readers.{HasLeft, IsPlain}
+use Rattle.fq_csv.specs.Readers.{HasLeft, IsPlain}
 use Rattle.fq_places.proofs.records.record_at.Given as goal
 
 abbrev pub invariant-loop : goal.invariant-loop
