@@ -86,6 +86,19 @@ DETAILS = [
 ]
 
 
+# Files that are reviewed: the options, of the plan P and the file F, the plan, the file, the answer, and what is said of the file before a line.
+X_INT = plan([source(1, "x int")], "")
+DRAFTED = '{\n  "version": 2,\n  "sources": [\n    {\n      "files": 1,\n      "columns": [\n        ["x", "text"]\n      ]\n    }\n  ],\n  "steps": []\n}\n'
+REVIEWS = [
+    ("a check", ("--plan", "P", "--check", "F"), X_INT, 'x\n\n1\nz\n2,3\n"4"5\nz\n', fault(4, "the files have problems"),
+        'F:4: column "x": "z" is not an int\nF:5: 2 fields, the header has 1\nF:6: text follows a closing quote\nF:7: column "x": "z" is not an int\n'
+        '2 bad fields. "x": "z" 2\n1 row of another width\n1 flaw of quotes or line ends\n'),
+    ("a check that finds nothing", ("--plan", "P", "--check", "F"), X_INT, "x\n1\n\n2\n", frame(""), ""),
+    ("a draft", ("--draft", "F"), X_INT, "x\n" + "1\n" * 20 + "a longer text than others\n2,3\n", frame(DRAFTED),
+        '"x" is text: 20 ints, 1 other (first "a longer text than others", line 22)\nF:23: a row of another width is left out\n'),
+]
+
+
 class Program:
     """The built program, and a folder with the plans and files of its rows."""
 
@@ -228,6 +241,41 @@ class Detailed:
         answer = self.whole(**how)
         line, end, more = answer.err.removesuffix(self.details).partition("\n")
         return answer._replace(err=line + end) if all(it.startswith("  ") for it in more.splitlines()) else answer
+
+
+def is_part(part, whole):
+    """Whether a text is another without some of its characters."""
+    rest = iter(whole)
+    return all(it in rest for it in part)
+
+
+class Reviewed:
+    """A run with --check or --draft, in a folder of its own. Of its answer, what is said of the file, or a part of that, is cut off."""
+
+    def __init__(self, program, folder, options, own_plan, rows, own, said):
+        os.mkdir(folder)
+        paths = {"P": write(f"{folder}/plan.json", own_plan), "F": write(f"{folder}/rows.csv", rows)}
+        self.program, self.arguments, self.own = program, [paths.get(it, it) for it in options], own
+        self.said = said.replace("F:", f"{paths['F']}:")
+
+    def whole(self, **how):
+        return self.program.run(self.arguments, **how)
+
+    def __call__(self, **how):
+        answer = self.whole(**how)
+        said, line = re.fullmatch(r"(.*?)(frameq: [^\n]*\n)?", answer.err, re.DOTALL).groups()
+        return answer._replace(err=line or "") if is_part(said, self.said + self.own.err) else answer
+
+
+def try_reviews(count, pool, program, library, room):
+    """What --check and --draft say, and that a call that is refused ends them with its own line."""
+    runs = []
+    for name, options, own_plan, rows, own, said in REVIEWS:
+        run = Reviewed(program, f"{room}/{name.replace(' ', '-')}", options, own_plan, rows, own, said)
+        answer = run.whole()
+        count.add("program, reviews", f"status {own.status}", None if answer == own._replace(err=run.said + own.err) else f"{name}: {answer}")
+        runs.append((name, run, own))
+    together(((try_sort, count, *it, library, sort) for it in runs for sort in SORTS), pool)
 
 
 def try_details(count, pool, program, library, room):

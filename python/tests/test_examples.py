@@ -261,7 +261,13 @@ FRAMES = {
 }
 
 # Examples whose plan the package does not write: a filter by a text, which it refuses at once, no run, and faults by another option.
-OTHERS = {"export_cleaning/3_condition", "guide/explain", *(f"details/{name}" for name in os.listdir(os.path.join(EXAMPLES, "details")))}
+OTHERS = {
+    "export_cleaning/3_condition",
+    "export_cleaning/check",
+    "export_cleaning/draft",
+    "guide/explain",
+    *(f"details/{name}" for name in os.listdir(os.path.join(EXAMPLES, "details"))),
+}
 
 
 def read(*path):

@@ -12,3 +12,4 @@ pub mod operators;
 pub mod places;
 pub mod plans;
 pub mod program;
+pub mod reviews;

@@ -1,7 +1,8 @@
-//! The lines of records, and where files end.
-ghost use Rattle.std.specs.Prelude.{◌≡◌, ◌∷◌, ◌++◌, [], true, false, codes};
-ghost use Rattle.fq_places.specs.Lines.{record_lines};
-ghost use Rattle.fq_places.specs.Places.{ends_in_quotes};
+//! The lines of records, and where files are written otherwise than RFC 4180 says.
+ghost use Rattle.std.specs.Prelude.{◌≡◌, ◌∷◌, ◌++◌, [], Some, true, false, codes};
+ghost use Rattle.fq_places.specs.Marks.{marks_of};
+ghost use Rattle.fq_places.specs.Records.{ends_in_quotes, flaws_of, record_lines};
+ghost use Rattle.fq_places.specs.declared.marks.Flaw.TheVariants as flaw;
 
 /// The lines on which records begin.
 pub fn worked_lines()
@@ -17,4 +18,13 @@ pub fn worked_ends()
     ensures closed { ends_in_quotes (codes "a\n1,\"b\"\n") ≡ false }
     ensures doubled { ends_in_quotes (codes "\"b\"\"") ≡ true }
     ensures within { ends_in_quotes (codes "b\"\n") ≡ false }
+{}
+
+/// The flaws of files, on their lines.
+pub fn worked_flaws()
+    ensures returns { flaws_of (marks_of (codes "a\rb\r\nc\r\r")) ≡ record { line = 1; begins = true; flaw = Some flaw.LoneReturn }
+        ∷ record { line = 2; begins = false; flaw = Some flaw.LoneReturn } ∷ [] }
+    ensures quotes { flaws_of (marks_of (codes "a\n\"b\"c,\"d\"\"\"\n")) ≡ record { line = 2; begins = false; flaw = Some flaw.TextAfterQuote } ∷ [] }
+    ensures opened { flaws_of (marks_of (codes "a\nb,\"c\nd")) ≡ record { line = 2; begins = false; flaw = Some flaw.OpenQuote } ∷ [] }
+    ensures none { flaws_of (marks_of (codes "a\r\n\r\nb,\"c\rd\"\r\n")) ≡ [] }
 {}

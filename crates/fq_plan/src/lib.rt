@@ -5,6 +5,7 @@
 #![tactic(auto)]
 
 mod checks;
+mod constants;
 mod faults;
 mod laws;
 mod misfits;
@@ -17,6 +18,7 @@ mod step_words;
 mod words;
 
 pub use checks::Checked;
+pub use constants::ConstantComparison;
 pub use faults::{CheckFault, Place, PlanFault};
 pub use fq_csv::{MAX_BATCH_SIZE, ScanFault};
 pub use fq_expr::{MAX_STEPS, Piece, RowFault};

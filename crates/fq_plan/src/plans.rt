@@ -112,6 +112,13 @@ impl Source {
     {
         self.columns.as_slice()
     }
+
+    /// The texts that are read as null in each column.
+    pub fn nulls(&self) -> &NullValues
+        ensures { result.now ≡ (source_data self.now).nulls }
+    {
+        &self.nulls
+    }
 }
 
 /// The plan that a JSON text spells.

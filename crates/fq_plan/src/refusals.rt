@@ -1,6 +1,6 @@
 //! What a refusal of the check is about, for people.
 use crate::plans::{Plan, Source};
-use crate::reasons::{Fit, Reason, Segment, Unfit};
+use crate::reasons::{Fit, Reason, Unfit};
 use fq_column::{Memory, Schema};
 use std::alloc::Global;
 use std::fmt;
@@ -29,16 +29,6 @@ impl Plan {
             Ok(()) => Ok(None),
             Err(Unfit::Because(reason)) => Ok(Some(Refusal { reason })),
             Err(Unfit::Memory) => Err(Memory),
-        }
-    }
-}
-
-impl Refusal {
-    /// The number of the output or aggregate of the step that is refused, if it is one of them.
-    pub fn item(&self) -> Option<u16> {
-        match self.reason.path.first() {
-            Some(Segment::Item(number)) => u16::try_from(*number).ok(),
-            _ => None,
         }
     }
 }

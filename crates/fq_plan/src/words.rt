@@ -1,6 +1,5 @@
 //! Words of the plan language, as they are written in messages.
 use crate::plans::Version;
-use fq_column::Kind;
 use fq_expr::{Binary, Unary};
 use fq_ops::What;
 use std::fmt;
@@ -65,15 +64,6 @@ impl Display for Words {
             write!(f, "{comma}{mark}{word}{mark}")?;
         }
         Ok(())
-    }
-}
-
-/// The word of a kind.
-pub fn kind_word(kind: Kind) -> &'static str {
-    match kind {
-        Kind::Whole => "int",
-        Kind::Text => "text",
-        Kind::Truth => "bool",
     }
 }
 

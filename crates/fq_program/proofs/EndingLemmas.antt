@@ -11,7 +11,8 @@ use Rattle.fq_plan.specs.declared.faults.PlanFault.TheVariants as plan
 use Rattle.fq_program.specs.Ending.{status_of_fault, status_of, number_of, done, bad_device, no_memory, code_of, IsOutside}
 use Rattle.fq_program.specs.declared.failures.Failure.{Failure}
 use Rattle.fq_program.specs.declared.status.Status.TheVariants.{BadPlan, NoMemory}
-use Rattle.fq_program.specs.declared.failures.Failure.TheVariants.{Words, InputTwice, PlanFile, Plan, Check, Run}
+use Rattle.fq_program.specs.declared.failures.Failure.TheVariants.{Words, InputTwice, PlanFile, Plan, Check, Run, Problems, Draft, DraftTooLarge}
+use Rattle.fq_review.specs.declared.drafts.DraftFault.TheVariants as draft
 
 -- a run's fault: it did not start, or the fault is the plan's meaning, or it came from outside
 pub kind-of-fault : (f : Fault) → IsStartFault f ⊎ (IsOfMeaning f ⊎ IsOutside (Run f))
@@ -66,6 +67,14 @@ fails (Plan plan.Shape) = omega arith
 fails (Plan plan.Memory) = omega arith
 fails (Check e) = refusal-fails e.code
 fails (Run f) = fault-fails f
+fails Problems = omega arith
+fails (Draft (draft.NoHeader file)) = omega arith
+fails (Draft (draft.TooMany file)) = omega arith
+fails (Draft (draft.DoubleName file)) = omega arith
+fails (Draft (draft.BadName file)) = omega arith
+fails (Draft (draft.Read file)) = omega arith
+fails (Draft draft.Memory) = omega arith
+fails DraftTooLarge = omega arith
 
 -- what holds of an ending that is answered as one with a frame
 pub ended-well : {X : Type 0} {P : Type 0} (r : Result X Failure) → code_of r ≡ done → OnOk r P → P

@@ -6,7 +6,9 @@ use Rattle.fq_run.specs.declared.faults.Fault.{Fault}
 use Rattle.fq_run.specs.declared.faults.Fault.TheVariants.{Inputs, Setting, Memory, Read, Write}
 use Rattle.fq_plan.specs.declared.faults.PlanFault.TheVariants as plan
 use Rattle.fq_program.specs.declared.failures.Failure.{Failure}
-use Rattle.fq_program.specs.declared.failures.Failure.TheVariants.{Words, InputTwice, PlanFile, Plan, Check, Run}
+use Rattle.fq_review.specs.declared.drafts.DraftFault.{DraftFault}
+use Rattle.fq_review.specs.declared.drafts.DraftFault.TheVariants as draft
+use Rattle.fq_program.specs.declared.failures.Failure.TheVariants.{Words, InputTwice, PlanFile, Plan, Check, Run, Problems, Draft, DraftTooLarge}
 use Rattle.fq_program.specs.declared.status.Status.{Status}
 use Rattle.fq_program.specs.declared.status.Status.TheVariants.{Done, BadWords, BadPlan, BadFile, BadDevice, NoMemory}
 
@@ -32,10 +34,21 @@ status_of (Plan plan.Memory) = NoMemory
 status_of (Plan fault) = BadPlan
 status_of (Check refusal) = status_of_refusal refusal
 status_of (Run fault) = status_of_fault fault
+status_of Problems = BadFile
+status_of (Draft draft.Memory) = NoMemory
+status_of (Draft (draft.Read file)) = BadDevice
+status_of (Draft fault) = BadFile
+status_of DraftTooLarge = BadWords
 
 -- a refusal of the check as a failure of the program: a failed allocation has one name, wherever it was
 abbrev pub refused : CheckFault → Failure
 refused refusal = elim refusal.code [ code.Memory ↦ Run Memory | _ ↦ Check refusal ]
+
+-- a fault of a draft as a failure of the program: a file that cannot be read, and a failed allocation, have one name, wherever they are
+abbrev pub undrafted : DraftFault → Failure
+undrafted draft.Memory = Run Memory
+undrafted (draft.Read file) = Run (Read file)
+undrafted fault = Draft fault
 
 -- the failures that no input explains: of a device, or an allocation that failed
 abbrev pub IsOutside : Failure → Type 0

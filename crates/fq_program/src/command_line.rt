@@ -8,13 +8,14 @@ ghost use Rattle.fq_program.specs.declared.failures.Failure.TheVariants as failu
 use crate::details::{Learned, write_details};
 use crate::failures::{Failure, report};
 use crate::files::{OpenFault, Opener};
-use crate::inputs::read_whole;
+use crate::inputs::{open, read_whole};
 use crate::options::Options;
 use crate::outputs::{Noted, Output};
 use crate::program::checked_plan;
+use crate::reviews::{check_files, draft_plan};
 use crate::status::Status;
 use clap::error::ErrorKind;
-use fq_plan::{Checked, Fault};
+use fq_plan::{Checked, Fault, read_plan};
 use std::alloc::Global;
 use std::io::{Read, Write};
 use std::sync::Wait;
@@ -28,6 +29,9 @@ use std::thread::Threads;
 /// and with `--details` in lines after it, and nothing is written to `out`, except that at 5, if the write itself failed, an unknown part
 /// may be. A failed write to `err` changes no status. The arguments are judged first, then the plan file, the plan, and the number of
 /// files; then the files are opened in order, and read as the run goes on.
+///
+/// `--plan PLAN --check [--limit N] FILE...` writes on `err` what is wrong in the files, and runs no step; `--draft [--null-values TEXTS]
+/// FILE...` writes a plan without steps to `out`, whose sources are the files.
 pub fn with_words<T: Threads + Wait + Sync, O: Opener, W: Write, E: Write>(
     rt: &T,
     alloc: Global,
@@ -73,7 +77,7 @@ fn run_and_report<T: Threads + Wait + Sync, O: Opener, W: Write, E: Write>(
     ensures unwritten { result ≢ done → result ≢ bad_device → Keeps (W.contents out.old.writer) (W.contents out.new.writer) }
 {
     let mut learned = Learned::new(alloc);
-    let ending = run_options(rt, alloc, options, files, out, &mut learned);
+    let ending = run_options(rt, alloc, options, files, out, err, &mut learned);
     learned.write = learned.write.or(out.error);
     let status = report(ending, err);
     if let Err(failure) = ending
@@ -84,18 +88,30 @@ fn run_and_report<T: Threads + Wait + Sync, O: Opener, W: Write, E: Write>(
     status
 }
 
-// Explains the plan of the plan file, or runs it over the data files.
-fn run_options<T: Threads + Wait + Sync, O: Opener, W: Write>(
+// Drafts a plan, checks the data files, explains the plan of the plan file, or runs it over the data files.
+fn run_options<T: Threads + Wait + Sync, O: Opener, W: Write, E: Write>(
     rt: &T,
     alloc: Global,
     options: &Options<'_>,
     files: &mut O,
     out: &mut W,
+    err: &mut E,
     learned: &mut Learned,
 ) -> Result<(), Failure>
     ensures unwritten { IfErr result (λ f. f ≢ failure.Run fault.Write → Keeps (W.contents out.old) (W.contents out.new)) }
 {
+    if options.reads_input_twice() {
+        return Err(Failure::InputTwice);
+    }
+    if options.draft() {
+        return draft_plan(alloc, options, files, out, err);
+    }
     let plan = read_plan_file(alloc, options, files, learned)?;
+    if options.check() {
+        count_files(&plan, options.files())?;
+        let plan = read_plan(alloc, learned.plan.as_slice())?;
+        return check_files(alloc, &plan, options, files, err);
+    }
     explain_or_run(rt, alloc, &plan, options, files, out, learned)
 }
 
@@ -106,9 +122,6 @@ fn read_plan_file<O: Opener>(
     files: &mut O,
     learned: &mut Learned,
 ) -> Result<Checked, Failure> {
-    if options.reads_input_twice() {
-        return Err(Failure::InputTwice);
-    }
     let name = options.plan().ok_or(Failure::PlanFile)?;
     let reader = open(files, name, Failure::PlanFile)?;
     learned.plan = read_whole(alloc, reader, Failure::PlanFile)?;
@@ -250,12 +263,4 @@ fn open_all<O: Opener>(
         readers.push(open(files, name, failure)?)?;
     }
     Ok(readers)
-}
-
-// A reader of the file of this name, or this failure if it cannot be opened.
-fn open<O: Opener>(files: &mut O, name: &str, failure: Failure) -> Result<O::Reader, Failure> {
-    files.reader_of(name).map_err(|fault| match fault {
-        OpenFault::Failed(_) => failure,
-        OpenFault::Memory => Failure::MEMORY,
-    })
 }

@@ -1,10 +1,10 @@
 //! What more can be said of a failure than its one line says.
 use crate::failures::Failure;
 use crate::file_details::FileDetails;
-use crate::files::{OpenFault, Opener, STANDARD_INPUT, Unread};
+use crate::files::{OpenFault, Opener, STANDARD_INPUT};
 use crate::options::Options;
 use fq_column::Kind;
-use fq_places::Quoted;
+use fq_places::{Quoted, Unread};
 use fq_plan::{Fault, Plan, misfit_of, read_plan};
 use std::alloc::Global;
 use std::fmt::{Display, Formatter};
@@ -54,7 +54,7 @@ pub fn write_details<O: Opener, E: Write>(
 ) {
     let text = learned.plan.as_slice();
     let _ = match failure {
-        Failure::Words => None,
+        Failure::Words | Failure::Problems | Failure::DraftTooLarge | Failure::Draft(_) => None,
         Failure::InputTwice => write_inputs(options, err),
         Failure::PlanFile => write_cause(files, options.plan().unwrap_or_default(), err),
         Failure::Plan(_) => write_misfit(alloc, options.plan().unwrap_or_default(), text, err),

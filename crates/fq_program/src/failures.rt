@@ -6,7 +6,8 @@ ghost use Rattle.fq_run.specs.declared.faults.Fault.TheVariants as fault;
 
 use crate::status::Status;
 use fq_column::{Memory, StepFault};
-use fq_plan::{CheckFault, Fault, PlanFault};
+use fq_plan::{CheckFault, Fault, MAX_FILES, MAX_NULL_VALUES, MAX_SOURCES, PlanFault};
+use fq_review::DraftFault;
 use std::alloc::{AllocError, AllocFailed};
 use std::io::Write;
 use thiserror::Error;
@@ -32,6 +33,15 @@ pub enum Failure {
     /// The run gives no frame, or does not start.
     #[error(transparent)]
     Run(Fault),
+    /// A check of the files found problems.
+    #[error("the files have problems")]
+    Problems,
+    /// The files draft no plan.
+    #[error(transparent)]
+    Draft(DraftFault),
+    /// There are more files, sources or texts that are null than a plan may have.
+    #[error("a plan has at most {MAX_FILES} files, {MAX_SOURCES} sources and {MAX_NULL_VALUES} null values")]
+    DraftTooLarge,
 }
 
 impl Failure {
@@ -43,7 +53,7 @@ impl Failure {
         ensures { result ≡ status_of self }
     {
         match self {
-            Failure::Words | Failure::InputTwice => Status::BadWords,
+            Failure::Words | Failure::InputTwice | Failure::DraftTooLarge => Status::BadWords,
             Failure::PlanFile => Status::BadDevice,
             Failure::Plan(PlanFault::Memory) => Status::NoMemory,
             Failure::Plan(_) => Status::BadPlan,
@@ -52,6 +62,10 @@ impl Failure {
                 _ => Status::BadPlan,
             },
             Failure::Run(fault) => status_of_run(fault),
+            Failure::Problems => Status::BadFile,
+            Failure::Draft(DraftFault::Memory) => Status::NoMemory,
+            Failure::Draft(DraftFault::Read { .. }) => Status::BadDevice,
+            Failure::Draft(_) => Status::BadFile,
         }
     }
 }
@@ -98,6 +112,20 @@ impl From<CheckFault> for Failure {
         match refusal.code {
             StepFault::Memory => Failure::MEMORY,
             _ => Failure::Check(refusal),
+        }
+    }
+}
+
+impl From<DraftFault> for Failure {
+    ghost use Rattle.fq_program.specs.Ending.{undrafted};
+
+    ghost from_gives = { λ f e. e ≡ undrafted f };
+
+    fn from(fault: DraftFault) -> Failure {
+        match fault {
+            DraftFault::Memory => Failure::MEMORY,
+            DraftFault::Read { file } => Failure::Run(Fault::Read { file }),
+            _ => Failure::Draft(fault),
         }
     }
 }

@@ -1,10 +1,11 @@
 //! What more can be said of a fault of a file: the line, and what stands there.
-use crate::files::{Opener, Unread};
+use crate::files::Opener;
 use csv::ByteRecord;
 use fq_column::Kind;
 use fq_csv::MAX_ROWS;
-use fq_places::{Quoted, ends_in_quotes, line_of_record, record_at};
+use fq_places::{Quoted, Unread, ends_in_quotes, line_of_record, record_at};
 use fq_plan::Plan;
+use fq_review::{BadField, Header, Width, wanted};
 use std::alloc::Global;
 use std::fmt;
 use std::fmt::{Display, Formatter};
@@ -43,7 +44,7 @@ impl<'a> FileDetails<'a> {
         match Found::of(alloc, files, name, 0) {
             Ok(Some(found)) => {
                 let header = &found.record;
-                let differs = Differs { header, columns };
+                let differs = Header { header, columns };
                 writeln!(err, "  {name}:{}: {differs}", found.line).ok()
             }
             Ok(None) => writeln!(err, "  {name}: it has no header").ok(),
@@ -62,14 +63,12 @@ impl<'a> FileDetails<'a> {
         let (name, width) = (self.name, self.columns.len());
         match Found::of(alloc, files, name, row) {
             Ok(Some(found)) => {
-                let (fields, note) = (found.record.len(), found.note());
-                let word = if fields == 1 { "field" } else { "fields" };
-                writeln!(
-                    err,
-                    "  {name}:{}: {fields} {word}, the header has {width}{note}",
-                    found.line
-                )
-                .ok()
+                let (line, note) = (found.line, found.note());
+                let width = Width {
+                    fields: found.record.len(),
+                    columns: width,
+                };
+                writeln!(err, "  {name}:{line}: {width}{note}").ok()
             }
             Ok(None) => writeln!(err, "  {name}: it has no such row now").ok(),
             Err(cause) => writeln!(err, "  {name}: the header has {width}; {cause}").ok(),
@@ -87,40 +86,29 @@ impl<'a> FileDetails<'a> {
     ) -> Option<()> {
         let name = self.name;
         let (title, kind) = self.columns.get(usize::from(column))?;
-        let title = Quoted(title.as_bytes());
+        let (title, kind) = (title.as_str(), *kind);
         match Found::of(alloc, files, name, row) {
             Ok(Some(found)) => {
-                let field = Quoted(found.record.get(usize::from(column))?);
-                let (wanted, note) = (wanted(*kind), found.note());
-                writeln!(
-                    err,
-                    "  {name}:{}: column {title}: {field} is not {wanted}{note}",
-                    found.line
-                )
-                .ok()
+                let (line, note) = (found.line, found.note());
+                let field = found.record.get(usize::from(column))?;
+                let bad = BadField {
+                    column: title,
+                    kind,
+                    field,
+                };
+                writeln!(err, "  {name}:{line}: {bad}{note}").ok()
             }
             Ok(None) => writeln!(err, "  {name}: it has no such row now").ok(),
-            Err(cause) => writeln!(
-                err,
-                "  {name}: column {title} is {}; {cause}",
-                wanted(*kind)
-            )
-            .ok(),
+            Err(cause) => {
+                let (title, wanted) = (Quoted(title.as_bytes()), wanted(kind));
+                writeln!(err, "  {name}: column {title} is {wanted}; {cause}").ok()
+            }
         }
     }
 
     /// Writes how many rows a file may have.
     pub fn write_length<E: Write>(self, err: &mut E) -> Option<()> {
         writeln!(err, "  {}: over {MAX_ROWS} rows", self.name).ok()
-    }
-}
-
-// What a field has to be, by the kind of its column.
-fn wanted(kind: Kind) -> &'static str {
-    match kind {
-        Kind::Whole => "an int",
-        Kind::Text => "valid UTF-8",
-        Kind::Truth => "a bool",
     }
 }
 
@@ -179,33 +167,5 @@ impl Display for Names<'_> {
             write!(f, "{comma}{}", Quoted(column.0.as_bytes()))?;
         }
         Ok(())
-    }
-}
-
-// Where a header differs from the names of columns.
-#[derive(Clone, Copy)]
-struct Differs<'a> {
-    header: &'a ByteRecord,
-    columns: &'a [(String, Kind)],
-}
-
-impl Display for Differs<'_> {
-    fn fmt<W: fmt::Write>(&self, f: &mut Formatter<W>) -> fmt::Result {
-        for (place, column) in self.columns.iter().enumerate() {
-            let name = Quoted(column.0.as_bytes());
-            match self.header.get(place) {
-                None => return write!(f, "column {place} is missing, the plan has {name}"),
-                Some(field) if field != column.0.as_bytes() => {
-                    return write!(
-                        f,
-                        "column {place} is {}, the plan has {name}",
-                        Quoted(field)
-                    );
-                }
-                Some(_) => {}
-            }
-        }
-        let (fields, columns) = (self.header.len(), self.columns.len());
-        write!(f, "it has {fields} columns, the plan has {columns}")
     }
 }

@@ -1,11 +1,13 @@
 //! What opens files by name.
+ghost use Rattle.std.specs.Io.{ReadsAtMost};
+
 use crate::outputs::{Output, SystemOutput};
 use crate::progress::{Line, Watched};
+use fq_places::Unread;
 use std::alloc::Global;
-use std::fmt::{Display, Formatter, InlineText};
 use std::fs::{File, Files, OpenFile};
+use std::io;
 use std::io::{ErrorKind, Read, Write};
-use std::{fmt, io};
 
 /// The name of standard input among the names of files.
 pub const STANDARD_INPUT: &str = "-";
@@ -31,54 +33,6 @@ impl OpenFault {
         match error.kind() {
             ErrorKind::OutOfMemory => OpenFault::Memory,
             _ => OpenFault::Failed(error),
-        }
-    }
-}
-
-/// Why a file is not read again.
-#[derive(Clone, Copy, Debug)]
-pub enum Unread {
-    /// It is standard input, a pipe or a device, which gives its bytes once.
-    Once,
-    /// The system refuses.
-    System(io::Error),
-    /// An allocation failed.
-    Memory,
-}
-
-impl Display for Unread {
-    fn fmt<W: fmt::Write>(&self, f: &mut Formatter<W>) -> fmt::Result {
-        match self {
-            Unread::Once => f.write_str("it cannot be read again"),
-            Unread::Memory => f.write_str("out of memory"),
-            Unread::System(error) => {
-                // (Rust adds the error's number to the system's text)
-                let text: InlineText<128> = InlineText::of(*error);
-                f.write_str(
-                    text.as_str()
-                        .split(" (os error ")
-                        .next()
-                        .unwrap_or_default(),
-                )
-            }
-        }
-    }
-}
-
-impl From<io::Error> for Unread {
-    fn from(error: io::Error) -> Unread {
-        match error.kind() {
-            ErrorKind::OutOfMemory => Unread::Memory,
-            _ => Unread::System(error),
-        }
-    }
-}
-
-impl From<csv::Error> for Unread {
-    fn from(error: csv::Error) -> Unread {
-        match error.into_kind() {
-            csv::ErrorKind::Io(error) => Unread::from(error),
-            _ => Unread::Memory,
         }
     }
 }
@@ -218,11 +172,27 @@ impl<F: Read + OpenFile, I: Read> SystemReader<F, I> {
     }
 }
 
-impl<F: Read, I: Read> Read for SystemReader<F, I> {
-    fn read(&mut self, buffer: &mut [u8]) -> io::Result<usize> {
+impl<F: Read, I: Read> SystemReader<F, I> {
+    // Reads once.
+    fn read_once(&mut self, buffer: &mut [u8]) -> io::Result<usize>
+        ensures bound { ReadsAtMost result buffer.new }
+    {
         match self {
             SystemReader::File(file) => file.read(buffer),
             SystemReader::Input(input) => input.read(buffer),
         }
+    }
+}
+
+/// A read that a signal interrupts is tried again.
+impl<F: Read, I: Read> Read for SystemReader<F, I> {
+    fn read(&mut self, buffer: &mut [u8]) -> io::Result<usize> {
+        for _ in 0..u64::MAX {
+            match self.read_once(buffer) {
+                Err(error) if error.kind() == ErrorKind::Interrupted => {}
+                answer => return answer,
+            }
+        }
+        Err(io::Error::from(ErrorKind::Other))
     }
 }

@@ -3,12 +3,24 @@ ghost use Rattle.std.specs.Prelude.{◌≡◌, ◌⊎◌, ℕ, List, Some, IfOk,
 ghost use Rattle.fq_program.specs.Program.{plan_line, file_after};
 
 use crate::failures::Failure;
+use crate::files::{OpenFault, Opener};
 use std::alloc::Global;
 use std::io;
 use std::io::{ErrorKind, Read};
 
 /// The most reads of one input.
 const MAX_READS: u64 = 4_294_967_296;
+
+/// A reader of the file of this name. If it cannot be opened, the answer is `failure`.
+pub fn open<O: Opener>(files: &mut O, name: &str, failure: Failure) -> Result<O::Reader, Failure>
+    ensures failed { IfErr result (λ f. (f ≡ failure) ⊎ (f ≡ Failure.MEMORY)) }
+{
+    match files.reader_of(name) {
+        Ok(reader) => Ok(reader),
+        Err(OpenFault::Failed(_)) => Err(failure),
+        Err(OpenFault::Memory) => Err(Failure::MEMORY),
+    }
+}
 
 /// All bytes of a reader. If a read fails, or 4,294,967,296 reads do not reach the end, the answer is `failure`.
 pub fn read_whole<R: Read + Drop>(

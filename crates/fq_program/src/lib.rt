@@ -15,11 +15,13 @@ mod options;
 mod outputs;
 mod program;
 mod progress;
+mod reviews;
 mod status;
 
 pub use command_line::with_words;
 pub use failures::{Failure, report};
-pub use files::{OpenFault, Opener, SystemFiles, Unread};
+pub use files::{OpenFault, Opener, SystemFiles};
+pub use fq_places::Unread;
 pub use outputs::{Noted, Output, SystemOutput};
 pub use program::one_input;
 pub use status::Status;

@@ -8,6 +8,9 @@ use std::alloc::{AllocError, Global};
 /// The version of the program.
 const VERSION: &str = "0.1.0";
 
+/// The most lines that a check writes of problems, if no argument says otherwise.
+const LIMIT: u64 = 100;
+
 /// What the program's arguments ask for.
 #[derive(Drop)]
 pub struct Options<'a>(ArgMatches<'a>);
@@ -19,7 +22,7 @@ impl<'a> Options<'a> {
         Ok(Options(command(alloc)?.try_get_matches_from(words)?))
     }
 
-    /// The name of the plan file. It is always present: `clap` requires it.
+    /// The name of the plan file. It is present unless a plan is to be drafted: `clap` requires it.
     pub fn plan(&self) -> Option<&'a str> {
         self.0.get_str("plan")
     }
@@ -51,6 +54,29 @@ impl<'a> Options<'a> {
         self.0.get_flag("explain")
     }
 
+    /// Whether the files are to be checked, and the plan not run.
+    pub fn check(&self) -> bool {
+        self.0.get_flag("check")
+    }
+
+    /// The most lines that a check writes of problems.
+    pub fn limit(&self) -> u64 {
+        match self.0.get_one("limit").unwrap_or(LIMIT) {
+            0 => u64::MAX,
+            limit => limit,
+        }
+    }
+
+    /// Whether a plan is to be drafted for the files.
+    pub fn draft(&self) -> bool {
+        self.0.get_flag("draft")
+    }
+
+    /// The texts that are null in a draft.
+    pub fn null_values(&self) -> &[&'a str] {
+        self.0.get_strs("null-values").unwrap_or_default()
+    }
+
     /// Whether to say more about a fault than its line.
     pub fn details(&self) -> bool {
         self.0.get_flag("details")
@@ -76,23 +102,28 @@ fn command<'a>(alloc: Global) -> Result<Command<'a>, AllocError> {
         .version(VERSION)
         .about("Runs a plan over CSV files, and prints one CSV frame")
         .after_long_help(AFTER_HELP)
-        .arg(plan(alloc))?
+        .arg(plan(alloc)?)?
         .arg(batch(alloc)?)?
         .arg(workers(alloc)?)?
         .arg(output(alloc)?)?
         .arg(explain(alloc))?
+        .arg(check(alloc)?)?
+        .arg(limit(alloc)?)?
+        .arg(draft(alloc)?)?
+        .arg(null_values(alloc)?)?
         .arg(details(alloc))?
         .arg(progress(alloc))?
         .arg(file(alloc)?)
 }
 
-fn plan<'a>(alloc: Global) -> Arg<'a> {
-    Arg::new(alloc, "plan")
+fn plan<'a>(alloc: Global) -> Result<Arg<'a>, AllocError> {
+    let plan = Arg::new(alloc, "plan")
         .long("plan")
         .value_name("PLAN")
-        .required(true)
+        .required_unless_present("draft")?
         .action(ArgAction::Set)
-        .help("The plan: a file with one JSON object, or - for standard input")
+        .help("The plan: a file with one JSON object, or - for standard input");
+    Ok(plan)
 }
 
 fn batch<'a>(alloc: Global) -> Result<Arg<'a>, AllocError> {
@@ -136,6 +167,52 @@ fn explain<'a>(alloc: Global) -> Arg<'a> {
         .help("Print what each step of the plan leaves and where it runs; no data is read")
 }
 
+fn check<'a>(alloc: Global) -> Result<Arg<'a>, AllocError> {
+    let check = Arg::new(alloc, "check")
+        .long("check")
+        .conflicts_with("explain")?
+        .conflicts_with("output")?
+        .action(ArgAction::SetTrue)
+        .help("Say what is wrong in the files by the columns of the plan; no step is run");
+    Ok(check)
+}
+
+fn limit<'a>(alloc: Global) -> Result<Arg<'a>, AllocError> {
+    let limit = Arg::new(alloc, "limit")
+        .long("limit")
+        .value_name("N")
+        .overrides_with("limit")?
+        .requires_arg("check")?
+        .value_parser(value_parser!(u64))
+        .default_value("100")
+        .help("Lines that --check writes of problems, or 0 for all");
+    Ok(limit)
+}
+
+fn draft<'a>(alloc: Global) -> Result<Arg<'a>, AllocError> {
+    let draft = Arg::new(alloc, "draft")
+        .long("draft")
+        .conflicts_with("plan")?
+        .conflicts_with("explain")?
+        .conflicts_with("check")?
+        .conflicts_with("output")?
+        .action(ArgAction::SetTrue)
+        .help("Print a plan without steps whose sources are the files");
+    Ok(draft)
+}
+
+fn null_values<'a>(alloc: Global) -> Result<Arg<'a>, AllocError> {
+    let texts = Arg::new(alloc, "null-values")
+        .long("null-values")
+        .value_name("TEXTS")
+        .requires_arg("draft")?
+        .allow_hyphen_values(true)
+        .value_delimiter(',')
+        .action(ArgAction::Append)
+        .help("Texts that --draft takes as null, with commas between them");
+    Ok(texts)
+}
+
 fn details<'a>(alloc: Global) -> Arg<'a> {
     Arg::new(alloc, "details")
         .long("details")
@@ -173,7 +250,7 @@ Exit status:
   0  the frame, or the text asked for, is on standard output or in OUT
   2  arguments that are refused, or the wrong number of files
   3  the plan is refused
-  4  a fault of a file's text, or of a step on its rows
+  4  a fault of a file's text, or of a step on its rows; --check found problems
   5  a file cannot be opened or read, or a write failed
   6  out of memory
 Where it is not 0, a line on standard error says why.

@@ -2,7 +2,8 @@
 use crate::operators::row_word;
 use crate::physical_plans::PhysicalPlan;
 use crate::stages::{SourceFiles, Stage};
-use fq_column::{Kind, Memory, Schema};
+use fq_column::{Memory, Schema};
+use fq_csv::kind_word;
 use std::alloc::Global;
 use std::fmt;
 use std::fmt::{Display, Formatter, Write};
@@ -99,12 +100,4 @@ fn write_changes<W: Write>(f: &mut Formatter<W>, before: &Schema, after: &Schema
         write!(f, "{comma}{plus} {name:?} {}", kind_word(kind))?;
     }
     f.write_str("\n")
-}
-
-fn kind_word(kind: Kind) -> &'static str {
-    match kind {
-        Kind::Whole => "int",
-        Kind::Text => "text",
-        Kind::Truth => "bool",
-    }
 }

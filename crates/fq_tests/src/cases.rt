@@ -187,6 +187,31 @@ pub fn fails_by<'a, R: Abort + Threads + Wait + Sync>(
     )
 }
 
+/// Arguments, given in one line, end in a status and write these texts on standard output and standard error, where standard input holds a
+/// text.
+pub fn writes_by<'a, R: Abort + Threads + Wait + Sync>(
+    rt: &R,
+    alloc: Global,
+    line: &str,
+    plan: &'a str,
+    files: &'a [&'a str],
+    standard_input: &'a str,
+    wanted: (u8, &str, &str),
+) -> Result<(), Fail> {
+    let inputs = Inputs {
+        plan,
+        files,
+        standard_input,
+    };
+    let (status, out, err) = wanted;
+    let answer = Answer {
+        status,
+        out: String::from_str(alloc, out)?,
+        err: String::from_str(alloc, err)?,
+    };
+    answers_by(rt, alloc, line, inputs, &answer)
+}
+
 // A plan over files is answered so at each setting, and from standard input, if it can stand there.
 fn answers<'a, R: Abort + Threads + Wait + Sync>(
     rt: &R,

@@ -25,4 +25,6 @@ mod plan_texts;
 #[cfg(test)]
 mod refused_plans;
 #[cfg(test)]
+mod reviews;
+#[cfg(test)]
 mod rolling_sums;

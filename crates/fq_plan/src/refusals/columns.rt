@@ -1,7 +1,7 @@
 //! What refusals of columns are about.
 use crate::reasons::{Fit, Unfit, bail, because};
-use crate::words::kind_word;
 use fq_column::{Kind, MAX_COLUMNS, Schema, StepFault};
+use fq_csv::kind_word;
 use fq_places::Quoted;
 use std::alloc::Global;
 use std::fmt::Write;

@@ -1,8 +1,9 @@
 //! What a refusal of an expression is about.
 use crate::reasons::{Fit, bail};
 use crate::refusals::columns::explain_column;
-use crate::words::{binary_word, kind_word, unary_word};
+use crate::words::{binary_word, unary_word};
 use fq_column::Schema;
+use fq_csv::kind_word;
 use fq_expr::Expr;
 use std::alloc::Global;
 

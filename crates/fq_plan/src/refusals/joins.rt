@@ -1,8 +1,8 @@
 //! What a refusal of a join is about.
 use crate::reasons::{Fit, bail};
 use crate::refusals::columns::{explain_column, explain_columns};
-use crate::words::kind_word;
 use fq_column::{Schema, StepFault, has_double};
+use fq_csv::kind_word;
 use fq_places::Quoted;
 use std::alloc::Global;
 

@@ -1,0 +1,9 @@
+use Rattle.fq_csv.specs.Readers.{IsPlain}
+use Rattle.fq_places.specs.Marks.{IsSound}
+use Rattle.fq_review.proofs.drafts.Draft.read_records.Given as goal
+
+abbrev pub invariant-loop-row : goal.invariant-loop-row
+invariant-loop-row g l = record {
+  plain : IsPlain l.records.records;
+  sound : IsSound l.records.marks;
+}
