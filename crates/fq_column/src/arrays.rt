@@ -1,5 +1,5 @@
 //! Arrays: values of one type, some of which are missing.
-ghost use Rattle.std.specs.Prelude.{◌≡◌, ◌≤◌, ◌<◌, ◌++◌, [], ◌∷◌, Some, None, take, length, map, replicate, vec_len, IfOk, OnOk, OnErr, slice_get, slice_set, slice_index_or, option_copied, option_and_then};
+ghost use Rattle.std.specs.Prelude.{◌≡◌, ◌<◌, ◌++◌, [], ◌∷◌, Some, None, take, length, map, replicate, vec_len, IfOk, OnOk, OnErr, slice_get, slice_set, slice_index_or, option_copied, option_and_then};
 ghost use Rattle.fq_column.specs.Lists.{keep as kept, value_if};
 
 use crate::faults::Memory;

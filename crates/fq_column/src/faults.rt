@@ -2,7 +2,7 @@
 use std::alloc::{AllocError, AllocFailed};
 use thiserror::Error;
 
-/// Why a schema or a step is refused; the numbers are those of the plan language's reference.
+/// Why a schema or a step is refused. The numbers do not change from version to version.
 #[derive(Clone, Copy, Debug, PartialEq, Eq, Error)]
 pub enum StepFault {
     /// A name that is not a column's.

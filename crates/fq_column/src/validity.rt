@@ -1,5 +1,5 @@
 //! Which places of an array have a value.
-ghost use Rattle.std.specs.Prelude.{◌≡◌, ◌<◌, ◌≤◌, ◌/◌, ◌*◌, ◌^◌, ◌+◌, ◌++◌, [], ◌∷◌, ℕ, take, length, if◌then◌else◌, IfOk, OnOk, OnErr, slice_get, slice_set, true, Some};
+ghost use Rattle.std.specs.Prelude.{◌≡◌, ◌<◌, ◌≤◌, ◌/◌, ◌*◌, ◌^◌, ◌+◌, ◌++◌, [], ◌∷◌, ℕ, take, length, if◌then◌else◌, OnOk, OnErr, slice_get, slice_set, true, Some};
 ghost use Rattle.std.specs.Bool.{◌==◌};
 ghost use Rattle.fq_column.specs.Lists.{keep as kept};
 ghost use Rattle.fq_column.specs.Validity.{mark_at, marks};

@@ -1,8 +1,8 @@
 //! One row-wise step on a batch.
-ghost use Rattle.std.specs.Prelude.{◌≡◌, ◌≤◌, ◌<◌, map, take, length, zip, IfOk, IsOk, OnOk};
+ghost use Rattle.std.specs.Prelude.{◌≡◌, ◌≤◌, ◌<◌, map, length, zip, IfOk, IsOk, OnOk};
 ghost use Rattle.std.specs.Vec.Iter.{into_iter_items};
 ghost use Rattle.fq_column.specs.declared.cells.Cell.TheVariants as cell;
-ghost use Rattle.fq_column.specs.Batch.{kind_of_cells, with_cells};
+ghost use Rattle.fq_column.specs.Batch.{kind_of_cells};
 ghost use Rattle.fq_column.specs.Frame.{names_of, put_all};
 ghost use Rattle.fq_column.specs.Lists.{before_missing, keep as kept};
 ghost use Rattle.fq_column.specs.Stream.{one_by_one};

@@ -1,6 +1,5 @@
 //! Comparisons of two values of one kind.
 ghost use Rattle.std.specs.Prelude.{◌≡◌, Option};
-ghost use Rattle.fq_column.specs.declared.cells.Cell.{Cell};
 ghost use Rattle.fq_expr.specs.Comparison.{answer_for, sameness_of, filled};
 ghost use Rattle.fq_expr.specs.Value.{compared};
 

@@ -1,6 +1,5 @@
 //! Expressions over the columns of a row, and their kinds.
 ghost use Rattle.std.specs.Prelude.{◌≡◌, Ok};
-ghost use Rattle.fq_column.specs.Schema.{kind_named};
 ghost use Rattle.fq_expr.specs.Kinds.{kind_of, kind_if, unary_kind, binary_kind};
 ghost use Rattle.fq_expr.specs.ExpressionData.{expression_of};
 

@@ -12,7 +12,7 @@
 //! - [`steps_of_joined_streams`]: the law that the steps of a stream cut anywhere are those of its parts, joined.
 //!
 //! Modules, from the bottom: operands (a borrowed column, an owned one, or a scalar); operations (one loop over rows);
-//! arithmetic, comparison and logic (the operations themselves); operators (which operation an operator is); expressions
+//! arithmetic, comparison and logic (the operations themselves); kernels (each operator's operation, for operands of any kind); expressions
 //! and their evaluation; steps and their application to a batch; fronts; laws.
 #![tactic(auto)]
 

@@ -1,6 +1,5 @@
 //! Kleene's strong three-valued logic, in which null is a truth that is not known.
-ghost use Rattle.std.specs.Prelude.{◌≡◌, Option, Some};
-ghost use Rattle.fq_column.specs.declared.cells.Cell.{Cell};
+ghost use Rattle.std.specs.Prelude.{Option, Some};
 ghost use Rattle.fq_expr.specs.Kleene.{and_table, or_table};
 ghost use Rattle.fq_expr.specs.Value.{truth_of, truth_cell};
 

@@ -12,7 +12,7 @@ use Rattle.fq_lanes.specs.Hub.{HandedOn, HasStopped}
 use Rattle.fq_lanes.specs.Refusals.{refusal, refusal_now, Accepted}
 use Rattle.fq_lanes.specs.Sink.{file_count}
 use Rattle.fq_lanes.specs.HubView.{FeedView, WorkerView, Grows, WorkerGrows, told_in, Tells}
-use Rattle.fq_lanes.specs.Turns.{Hears, BlamesTold, OutstandingNear, Known, InTurn, Halt, Settled}
+use Rattle.fq_lanes.specs.Turns.{Polls, BlamesTold, OutstandingNear, Known, InTurn, Halt, Settled}
 use Rattle.fq_lanes.specs.FileWindow.{IsNear, AreNear}
 use Rattle.fq_lanes.proofs.LaneLemmas.{tells_grows, get_map, get_of_map, told_in_grows, tolds_same, workers_set}
 use Rattle.fq_lanes.proofs.BesideLemmas.{nothing_in, get_last, get_within, get_set_same, set_same}
@@ -26,7 +26,7 @@ use Rattle.fq_lanes.specs.declared.faults.FeedFault.TheVariants as feed_fault
 use Rattle.fq_lanes.specs.declared.faults.RunFault.{RunFault}
 use Rattle.fq_lanes.specs.declared.faults.RunFault.TheVariants as run_fault
 use Rattle.fq_lanes.specs.declared.feed_lane.FeedLane.{FeedLane}
-use Rattle.fq_lanes.specs.declared.feed_lane.Heard.TheVariants as heard
+use Rattle.fq_lanes.specs.declared.feed_lane.Polled.TheVariants as polled
 use Rattle.fq_lanes.specs.declared.hub.Hub.{Hub}
 use Rattle.fq_lanes.specs.declared.job.Job.{Job}
 use Rattle.fq_lanes.specs.declared.messages.FromFeed.{FromFeed}
@@ -41,15 +41,15 @@ module _ {X : Type 0} where
   feed_at ns f n at = get_map feed_view ns f n at
 
   -- a feed's fault names it
-  pub fault_told : (vs : List (FeedView X)) (f : ℕ) (v v' : FeedView X) (e : FeedFault) → slice_get vs f ≡ Some v → Hears v (heard.Fault e) v' → BlamesTold (told_in (set vs f v')) (fault_at e f)
+  pub fault_told : (vs : List (FeedView X)) (f : ℕ) (v v' : FeedView X) (e : FeedFault) → slice_get vs f ≡ Some v → Polls v (polled.Fault e) v' → BlamesTold (told_in (set vs f v')) (fault_at e f)
   fault_told vs f v v' feed_fault.Read at told =
       (v'.told, get_map (λ (u : FeedView X). u.told) (set vs f v') f v' (get_set_same vs f v' (get_within vs f v at)), (length v.told, ap (λ l. slice_get l (length v.told)) told ∙ get_last v.told (End (Some feed_fault.Read))))
   fault_told vs f v v' feed_fault.Memory at told = tt
 
   -- a feed's fault
-  pub step_blames : (ns : List (FeedLane X)) (f : ℕ) (n n' : FeedLane X) (e : FeedFault) → slice_get ns f ≡ Some n → Hears (feed_view n) (heard.Fault e) (feed_view n')
+  pub step_blames : (ns : List (FeedLane X)) (f : ℕ) (n n' : FeedLane X) (e : FeedFault) → slice_get ns f ≡ Some n → Polls (feed_view n) (polled.Fault e) (feed_view n')
       → BlamesTold (told_in (feed_views (set ns f n'))) (fault_at e f)
-  step_blames ns f n n' e at heard = subst (λ l. BlamesTold (told_in l) (fault_at e f)) (sym (feed_views_set ns f n')) (fault_told (feed_views ns) f (feed_view n) (feed_view n') e (feed_at ns f n at) heard)
+  step_blames ns f n n' e at polled = subst (λ l. BlamesTold (told_in l) (fault_at e f)) (sym (feed_views_set ns f n')) (fault_told (feed_views ns) f (feed_view n) (feed_view n') e (feed_at ns f n at) polled)
 
 module _ {X O : Type 0} where
   workers_put : (ds : List (WorkerLanes X O)) (w : ℕ) (d : WorkerLanes X O) → worker_views (set ds w d) ≡ set (worker_views ds) w (worker_view d)
@@ -69,21 +69,21 @@ module _ {X O : Type 0} where
       ∙ ap {B = WorkerView X O} (λ l. record { jobs = d.jobs; answers = d.answers; outstanding = l }) os
 
 module _ {X S O : Type 0} where
-  -- nothing was heard of a feed
+  -- a feed had nothing
   pub step_nothing : (takes : S → ℕ → ℕ → O → S → Type 0) (first : S) (ns : List (FeedLane X)) (ds : List (WorkerView X O)) (hub : Hub S O) (events : List (Event O)) (f : ℕ) (n n' : FeedLane X)
-      → InTurn takes first (feed_views ns) ds hub events → slice_get ns f ≡ Some n → Hears (feed_view n) heard.Nothing (feed_view n') → InTurn takes first (feed_views (set ns f n')) ds hub events
+      → InTurn takes first (feed_views ns) ds hub events → slice_get ns f ≡ Some n → Polls (feed_view n) polled.Nothing (feed_view n') → InTurn takes first (feed_views (set ns f n')) ds hub events
   step_nothing takes first ns ds hub events f n n' t at same =
       let is : feed_views (set ns f n') ≡ feed_views ns = feed_views_set ns f n' ∙ ap (λ v. set (feed_views ns) f v) same ∙ set_same (feed_views ns) f (feed_view n) (feed_at ns f n at) in
       subst (λ l. InTurn takes first l ds hub events) (sym is) t
 
   -- an item went from a feed to a worker
   pub step_item : (takes : S → ℕ → ℕ → O → S → Type 0) (first : S) (ns : List (FeedLane X)) (ds : List (WorkerLanes X O)) (hub : Hub S O) (events : List (Event O)) (f s w : ℕ) (x : X) (n n' : FeedLane X) (d d' : WorkerLanes X O) (job : Job X)
-      → InTurn takes first (feed_views ns) (worker_views ds) hub events → slice_get ns f ≡ Some n → Hears (feed_view n) (heard.Item s x) (feed_view n') → slice_get ds w ≡ Some d
+      → InTurn takes first (feed_views ns) (worker_views ds) hub events → slice_get ns f ≡ Some n → Polls (feed_view n) (polled.Item s x) (feed_view n') → slice_get ds w ≡ Some d
       → job.file ≡ f → job.serial ≡ s → job.item ≡ x
       → (worker_view d').jobs ≡ (worker_view d).jobs ++ Do job ∷ [] → (worker_view d').answers ≡ (worker_view d).answers → (worker_view d').outstanding ≡ (worker_view d).outstanding ++ (job.file, job.serial) ∷ []
       → IsNear events (file_count hub.sink) f s → InTurn takes first (feed_views (set ns f n')) (worker_views (set ds w d')) hub events
-  step_item takes first ns ds hub events f s w x n n' d d' job t at heard atw ef es ex js rs os near =
-      let known = known_item (feed_views ns) (worker_views ds) events f s w x (feed_view n) (feed_view n') (worker_view d) (worker_view d') job t.known (feed_at ns f n at) heard (worker_at ds w d atw) ef es ex js rs os in
+  step_item takes first ns ds hub events f s w x n n' d d' job t at polled atw ef es ex js rs os near =
+      let known = known_item (feed_views ns) (worker_views ds) events f s w x (feed_view n) (feed_view n') (worker_view d) (worker_view d') job t.known (feed_at ns f n at) polled (worker_at ds w d atw) ef es ex js rs os in
       let size : length (feed_views (set ns f n')) ≡ length (feed_views ns) = ap length (feed_views_set ns f n') ∙ length-set (feed_views ns) f (feed_view n') in
       let own : IsNear events (length (feed_views ns)) job.file job.serial =
       subst (λ k. IsNear events k job.file job.serial) t.files (subst (λ k. IsNear events (file_count hub.sink) k job.serial) (sym ef) (subst (λ k. IsNear events (file_count hub.sink) f k) (sym es) near)) in
@@ -111,11 +111,11 @@ module _ {X S O : Type 0} where
 
   -- a feed ended, so its file may be closed
   pub step_close : (takes : S → ℕ → ℕ → O → S → Type 0) (first : S) (ns : List (FeedLane X)) (ds : List (WorkerView X O)) (hub : Hub S O) (events : List (Event O)) (f k : ℕ) (n n' : FeedLane X)
-      → InTurn takes first (feed_views ns) ds hub events → slice_get ns f ≡ Some n → Hears (feed_view n) (heard.End k) (feed_view n')
+      → InTurn takes first (feed_views ns) ds hub events → slice_get ns f ≡ Some n → Polls (feed_view n) (polled.End k) (feed_view n')
       → (refusal (file_count hub.sink) events (Close f k) ≡ None) × Known (feed_views (set ns f n')) ds (events ++ Close f k ∷ []) × (file_count hub.sink ≡ length (feed_views (set ns f n')))
       × OutstandingNear events (length (feed_views (set ns f n'))) ds
-  step_close takes first ns ds hub events f k n n' t at heard =
-      let both = known_close (feed_views ns) ds events f k (feed_view n) (feed_view n') t.known (feed_at ns f n at) heard in (
+  step_close takes first ns ds hub events f k n n' t at polled =
+      let both = known_close (feed_views ns) ds events f k (feed_view n) (feed_view n') t.known (feed_at ns f n at) polled in (
         ap (λ m. refusal m events (Close f k)) t.files ∙ both.0,
         subst (λ l. Known l ds (events ++ Close f k ∷ [])) (sym (feed_views_set ns f n')) both.1,
         t.files ∙ sym (ap length (feed_views_set ns f n') ∙ length-set (feed_views ns) f (feed_view n')),
@@ -139,7 +139,7 @@ module _ {X S O : Type 0} where
   step_stops takes refuses first vs ds hub tail events known stopped size =
       known_halts takes refuses first vs ds tail events known (subst (λ n. HasStopped takes refuses first events n tail) size stopped)
 
-  -- nothing was heard of a worker
+  -- a worker had nothing
   pub step_idle : (takes : S → ℕ → ℕ → O → S → Type 0) (first : S) (vs : List (FeedView X)) (ds : List (WorkerLanes X O)) (hub : Hub S O) (events : List (Event O)) (w : ℕ) (d d' : WorkerLanes X O)
       → InTurn takes first vs (worker_views ds) hub events → slice_get ds w ≡ Some d → (worker_view d').jobs ≡ (worker_view d).jobs → (worker_view d').answers ≡ (worker_view d).answers → (worker_view d').outstanding ≡ (worker_view d).outstanding
       → InTurn takes first vs (worker_views (set ds w d')) hub events

@@ -10,7 +10,7 @@ use Rattle.fq_lanes.specs.Ledger.{times, one_if, Books}
 use Rattle.fq_lanes.specs.Numbering.{item_at}
 use Rattle.fq_lanes.specs.Refusals.{refusal, Accepted}
 use Rattle.fq_lanes.specs.HubView.{items_of, end_told, FeedView, WorkerView, Grows, WorkerGrows, told_in, items_in}
-use Rattle.fq_lanes.specs.Turns.{Hears, JobsAreItems, waiting, FeedFits, WorkerFits, Sourced, OffersSourced, OutstandingNear, Known, InTurn, Halt, Settled}
+use Rattle.fq_lanes.specs.Turns.{Polls, JobsAreItems, waiting, FeedFits, WorkerFits, Sourced, OffersSourced, OutstandingNear, Known, InTurn, Halt, Settled}
 use Rattle.fq_lanes.specs.FileWindow.{AreNear}
 use Rattle.fq_lanes.specs.WorkerThread.{Waits, Has}
 use Rattle.fq_lanes.proofs.EventLemmas.{or_else, or_else_none, close_at_append, offer_at_append}
@@ -23,7 +23,7 @@ use Rattle.fq_lanes.proofs.WorkerThreadLemmas.{waits_more, waits_less}
 use Rattle.fq_lanes.specs.declared.events.Event.{Event}
 use Rattle.fq_lanes.specs.declared.events.Event.TheVariants.{Offer, Close}
 use Rattle.fq_lanes.specs.declared.faults.Memory.{Memory}
-use Rattle.fq_lanes.specs.declared.feed_lane.Heard.TheVariants as heard
+use Rattle.fq_lanes.specs.declared.feed_lane.Polled.TheVariants as polled
 use Rattle.fq_lanes.specs.declared.hub.Hub.{Hub}
 use Rattle.fq_lanes.specs.declared.job.Job.{Job}
 use Rattle.fq_lanes.specs.declared.messages.FromFeed.{FromFeed}
@@ -118,7 +118,7 @@ module _ {X O : Type 0} where
 
   -- a feed gave an item, and a worker the job
   pub known_item : (vs : List (FeedView X)) (ds : List (WorkerView X O)) (events : List (Event O)) (f s w : ℕ) (x : X) (v v' : FeedView X) (d d' : WorkerView X O) (job : Job X)
-      → Known vs ds events → slice_get vs f ≡ Some v → Hears v (heard.Item s x) v' → slice_get ds w ≡ Some d
+      → Known vs ds events → slice_get vs f ≡ Some v → Polls v (polled.Item s x) v' → slice_get ds w ≡ Some d
       → job.file ≡ f → job.serial ≡ s → job.item ≡ x
       → d'.jobs ≡ d.jobs ++ Do job ∷ [] → d'.answers ≡ d.answers → d'.outstanding ≡ d.outstanding ++ (job.file, job.serial) ∷ []
       → Known (set vs f v') (set ds w d') events
@@ -167,7 +167,7 @@ module _ {X O : Type 0} where
 
   -- a feed has ended, and its file may be closed
   pub known_close : (vs : List (FeedView X)) (ds : List (WorkerView X O)) (events : List (Event O)) (f n : ℕ) (v v' : FeedView X)
-      → Known vs ds events → slice_get vs f ≡ Some v → Hears v (heard.End n) v'
+      → Known vs ds events → slice_get vs f ≡ Some v → Polls v (polled.End n) v'
       → (refusal (length vs) events (Close f n) ≡ None) × Known (set vs f v') ds (events ++ Close f n ∷ [])
   known_close vs ds events f n v v' r at (going, told, number, count, ended) =
       let fit = r.lanes f v at in

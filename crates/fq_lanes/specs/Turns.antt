@@ -14,8 +14,8 @@ use Rattle.fq_lanes.specs.declared.events.Event.{Event}
 use Rattle.fq_lanes.specs.declared.faults.FeedFault.TheVariants as feed_fault
 use Rattle.fq_lanes.specs.declared.faults.RunFault.{RunFault}
 use Rattle.fq_lanes.specs.declared.faults.RunFault.TheVariants.{Memory, Read}
-use Rattle.fq_lanes.specs.declared.feed_lane.Heard.{Heard}
-use Rattle.fq_lanes.specs.declared.feed_lane.Heard.TheVariants as heard
+use Rattle.fq_lanes.specs.declared.feed_lane.Polled.{Polled}
+use Rattle.fq_lanes.specs.declared.feed_lane.Polled.TheVariants as polled
 use Rattle.fq_lanes.specs.declared.hub.Hub.{Hub}
 use Rattle.fq_lanes.specs.declared.job.Job.{Job}
 use Rattle.fq_lanes.specs.declared.messages.FromFeed.{FromFeed}
@@ -25,12 +25,12 @@ use Rattle.fq_lanes.specs.declared.messages.ToWorker.TheVariants.{Do, Stop}
 
 module _ {X : Type 0} where
   -- what the hub hears of a feed, by its lane before and after
-  abbrev pub Hears : FeedView X → Heard X → FeedView X → Type 0
-  Hears old heard.Nothing new = new ≡ old
-  Hears old (heard.Item s x) new = (old.ended ≡ false) × (new.told ≡ old.told ++ Item x ∷ []) × (s ≡ old.items) × (new.items ≡ old.items + 1) × (new.ended ≡ false)
-  Hears old (heard.End n) new = (old.ended ≡ false) × (new.told ≡ old.told ++ End None ∷ []) × (n ≡ old.items) × (new.items ≡ old.items) × (new.ended ≡ true)
-  Hears old heard.TooMany new = IsPrefix old.told new.told
-  Hears old (heard.Fault e) new = new.told ≡ old.told ++ End (Some e) ∷ []
+  abbrev pub Polls : FeedView X → Polled X → FeedView X → Type 0
+  Polls old polled.Nothing new = new ≡ old
+  Polls old (polled.Item s x) new = (old.ended ≡ false) × (new.told ≡ old.told ++ Item x ∷ []) × (s ≡ old.items) × (new.items ≡ old.items + 1) × (new.ended ≡ false)
+  Polls old (polled.End n) new = (old.ended ≡ false) × (new.told ≡ old.told ++ End None ∷ []) × (n ≡ old.items) × (new.items ≡ old.items) × (new.ended ≡ true)
+  Polls old polled.TooMany new = IsPrefix old.told new.told
+  Polls old (polled.Fault e) new = new.told ≡ old.told ++ End (Some e) ∷ []
 
   -- each job is an item under its numbers
   abbrev pub JobsAreItems : List (List X) → List (ToWorker X) → Type 0

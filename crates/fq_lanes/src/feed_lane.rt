@@ -1,5 +1,5 @@
 //! The hub's end of a feed's lane.
-ghost use Rattle.std.specs.Prelude.{◌≡◌, [], ◌∷◌, ◌++◌, false, IfSome, Some};
+ghost use Rattle.std.specs.Prelude.{◌≡◌, false, IfSome, Some};
 ghost use mathlib.Core.List.{IsPrefix};
 ghost use Rattle.fq_lanes.specs.Lane.{taken_items, take_name};
 ghost use Rattle.fq_lanes.specs.HubView.{Tells};
@@ -23,9 +23,9 @@ pub(crate) struct FeedLane<'s, X> {
     pub(crate) ended: bool,
 }
 
-/// What the hub hears of a feed.
+/// What a poll of a feed finds.
 #[derive(Drop)]
-pub(crate) enum Heard<X> {
+pub(crate) enum Polled<X> {
     /// Nothing is there, or the feed has ended.
     Nothing,
     /// Its next item, with its serial.
@@ -40,7 +40,7 @@ pub(crate) enum Heard<X> {
 
 impl<'s, X> FeedLane<'s, X> {
     ghost use Rattle.fq_lanes.specs.FeedLane.{feed_view};
-    ghost use Rattle.fq_lanes.specs.Turns.{Hears};
+    ghost use Rattle.fq_lanes.specs.Turns.{Polls};
 
     /// The lane of a feed of which nothing was taken.
     pub(crate) fn new(waiter: Waiter<'s>, take: Take<FromFeed<X>>) -> Self
@@ -54,37 +54,37 @@ impl<'s, X> FeedLane<'s, X> {
         }
     }
 
-    /// Takes what the feed's thread told next, if something is there.
-    pub(crate) fn next(&mut self) -> Heard<X>
+    /// Polls the feed's thread.
+    pub(crate) fn next(&mut self) -> Polled<X>
     where
         X: Drop,
         ensures name { take_name self.new.take ≡ take_name self.old.take }
-        ensures heard { Hears (feed_view self.old) result (feed_view self.new) }
+        ensures polled { Polls (feed_view self.old) result (feed_view self.new) }
     {
         if self.ended {
-            return Heard::Nothing;
+            return Polled::Nothing;
         }
         let told = self.take.take();
         if told.is_some() {
             self.waiter.wake();
         }
         match told {
-            None => Heard::Nothing,
+            None => Polled::Nothing,
             Some(FromFeed::Item(item)) => {
                 let serial = self.items;
                 if serial >= MOST {
-                    return Heard::TooMany;
+                    return Polled::TooMany;
                 }
                 self.items = serial + 1;
-                Heard::Item(serial, item)
+                Polled::Item(serial, item)
             }
             Some(FromFeed::End(None)) => {
                 self.ended = true;
-                Heard::End(self.items)
+                Polled::End(self.items)
             }
             Some(FromFeed::End(Some(fault))) => {
                 self.ended = true;
-                Heard::Fault(fault)
+                Polled::Fault(fault)
             }
         }
     }

@@ -33,7 +33,7 @@ pub trait Feed {
         ensures fault { IfErr result (λ e. e ≡ Read → may_fail self.old) };
 
     /// Something is still to come, if only the end.
-    ghost some_list: { (s : Self) → (xs : List Self.Item) × gives s xs };
+    ghost satisfiable: { (s : Self) → (xs : List Self.Item) × gives s xs };
 
     /// A feed gives at most 2,147,483,648 items.
     ghost few: { (s : Self) → is_open s → most s ≤ 2147483648 };

@@ -1,5 +1,5 @@
 //! One file's items: those that wait, and counts.
-ghost use Rattle.std.specs.Prelude.{◌≡◌, ◌≤◌, ◌<◌, ◌+◌, ℕ, suc, List, [], ◌∷◌, ◌++◌, length, MatchResult, MatchOption, IfOk, Some, None, nat_le};
+ghost use Rattle.std.specs.Prelude.{◌≡◌, ◌≤◌, ◌<◌, ◌+◌, ℕ, List, [], ◌∷◌, ◌++◌, length, MatchResult, MatchOption, IfOk, Some, None, nat_le};
 ghost use Rattle.std.specs.Option.{IfSome};
 ghost use Rattle.fq_lanes.specs.declared.file_state.TheConstants.{SLOTS};
 

@@ -1,5 +1,5 @@
 //! The hub: a sink, the tail behind it, and the trace of what went through.
-ghost use Rattle.std.specs.Prelude.{◌≡◌, ℕ, List, [], ◌∷◌, ◌++◌, MatchResult, IfOk, None};
+ghost use Rattle.std.specs.Prelude.{◌≡◌, ℕ, List, [], ◌∷◌, ◌++◌, MatchResult, None};
 
 use crate::faults::Memory;
 use crate::sinks::Sink;
@@ -15,7 +15,7 @@ pub(crate) struct Hub<S, O> {
 
 impl<O: Drop, S: Tail<Out = O>> Hub<S, O> {
     ghost use Rattle.fq_lanes.specs.Refusals.{refusal_now};
-    ghost use Rattle.fq_lanes.specs.Sink.{file_count, waiting_in};
+    ghost use Rattle.fq_lanes.specs.Sink.{file_count};
     ghost use Rattle.fq_lanes.specs.Hub.{HandsOn, HandedOn, HasStopped, MayTell};
     ghost use Rattle.fq_lanes.specs.declared.events.Event.{Event};
     ghost use Rattle.fq_lanes.specs.declared.events.Event.TheVariants.{Offer, Close};

@@ -1,5 +1,5 @@
 //! The hub's side of a feed.
-ghost use Rattle.std.specs.Prelude.{◌≡◌, ℕ, ◌+◌, ◌≤◌, List, [], ◌∷◌, ◌++◌, length, MatchOption, MatchResult, IfOk, IfSome, true, false};
+ghost use Rattle.std.specs.Prelude.{◌≡◌, ◌+◌, ◌≤◌, List, [], ◌∷◌, ◌++◌, length, MatchOption, MatchResult, IfOk, IfSome, true, false};
 ghost use Rattle.fq_lanes.specs.declared.faults.FeedFault.TheVariants.{Read};
 
 use crate::faults::FeedFault;

@@ -1,5 +1,5 @@
 //! The engine by rounds of workers.
-ghost use Rattle.std.specs.Prelude.{◌≡◌, ◌≤◌, ◌<◌, ◌+◌, ℕ, List, [], map, length, All, IfOk, IfErr, OnOk, OnErr, MatchResult, true, false};
+ghost use Rattle.std.specs.Prelude.{◌≡◌, ◌≤◌, ◌<◌, ◌+◌, List, [], map, length, All, IfOk, IfErr, OnErr, MatchResult, false};
 ghost use Rattle.fq_lanes.specs.Engine.{Finishes, StopsEarly, BlamesFeed};
 ghost use Rattle.fq_lanes.specs.Inlet.{opened, DrainsOne};
 ghost use Rattle.fq_lanes.specs.Ledger.{OffersWorked};

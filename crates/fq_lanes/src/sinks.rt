@@ -1,5 +1,5 @@
 //! The reorder sink.
-ghost use Rattle.std.specs.Prelude.{◌≡◌, ◌≤◌, ◌<◌, ◌+◌, ℕ, suc, List, [], ◌∷◌, ◌++◌, length, MatchResult, MatchOption, IfOk, OnErr, IsTrue, ◌↔◌, Some, None, vec_len, false, nat_le};
+ghost use Rattle.std.specs.Prelude.{◌≡◌, ◌≤◌, ◌<◌, ◌+◌, ℕ, List, [], ◌∷◌, ◌++◌, length, MatchResult, MatchOption, IfOk, OnErr, Some, None, vec_len, false, nat_le};
 ghost use Rattle.std.specs.List.{slice_get, list_all};
 ghost use Rattle.std.specs.Option.{IfSome};
 

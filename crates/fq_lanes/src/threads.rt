@@ -1,7 +1,6 @@
 //! The threads of the feeds, and then those of the workers.
 ghost use Rattle.std.specs.Prelude.{◌≡◌, ◌≤◌, ◌+◌, ℕ, List, [], ◌∷◌, ◌++◌, IfOk, OnOk, OnErr, All, Result, length};
-ghost use Rattle.std.specs.Vec.Iter.{into_iter_items, into_iter_len};
-ghost use Rattle.std.specs.Thread.{IsSync};
+ghost use Rattle.std.specs.Vec.Iter.{into_iter_items};
 ghost use Rattle.fq_lanes.specs.WorkerLanes.{worker_name, worker_names, worker_view, worker_views, idle_worker, AreNewWorkers};
 ghost use Rattle.fq_lanes.specs.FeedLane.{feed_names, feed_view, new_feed, told_of, tolds_of, AreNewFeeds};
 ghost use Rattle.fq_lanes.specs.Lane.{Name, put_items, put_name, take_name, taken_items, IsLane, SamePut, SameTake};

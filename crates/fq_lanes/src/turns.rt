@@ -1,5 +1,5 @@
 //! The steps of the hub: it hears of a feed, or of a worker.
-ghost use Rattle.std.specs.Prelude.{◌≡◌, ◌≤◌, ◌<◌, ◌==◌, ℕ, List, length, IfSome};
+ghost use Rattle.std.specs.Prelude.{◌≡◌, ◌≤◌, ◌<◌, ◌==◌, List, length, IfSome};
 ghost use Rattle.fq_lanes.specs.WorkerLanes.{worker_names, worker_views};
 ghost use Rattle.std.specs.List.{list_all};
 ghost use Rattle.fq_lanes.specs.FeedLane.{feed_names, feed_views};
@@ -8,7 +8,7 @@ ghost use Rattle.fq_lanes.specs.Turns.{InTurn, Turns, RunDone};
 ghost use Rattle.fq_lanes.specs.declared.events.Event.{Event};
 
 use crate::faults::{RunFault, feed_fault};
-use crate::feed_lane::{FeedLane, Heard};
+use crate::feed_lane::{FeedLane, Polled};
 use crate::feeds::MAX_FEEDS;
 use crate::hub::Hub;
 use crate::job::Job;
@@ -18,9 +18,9 @@ use crate::worker_lanes::{MOST_OUTSTANDING, WorkerLanes};
 use std::sync::Wait;
 use std::thread::Parker;
 
-/// Takes what a feed told next, if something is there: a worker gets its item, or its file is closed. A feed is passed over
+/// Polls a feed: a worker gets its next item, if there is one, or its file is closed. A feed is passed over
 /// if the sink has no slot for its next item yet.
-fn hear_feed<R: Wait, X: Drop, S: Tail>(
+fn poll_feed<R: Wait, X: Drop, S: Tail>(
     rt: &R,
     lanes: &mut Vec<FeedLane<'_, X>>,
     workers: &mut Vec<WorkerLanes<'_, X, S::Out>>,
@@ -44,22 +44,22 @@ where
         return Ok(false);
     }
     match lane.next() {
-        Heard::Nothing => Ok(false),
-        Heard::Item(serial, item) => match workers[worker].give(rt, Job { file, serial, item }) {
+        Polled::Nothing => Ok(false),
+        Polled::Item(serial, item) => match workers[worker].give(rt, Job { file, serial, item }) {
             Ok(()) => Ok(true),
             Err(_) => Err(RunFault::Memory),
         },
-        Heard::End(items) => match hub.close(file, items) {
+        Polled::End(items) => match hub.close(file, items) {
             Ok(()) => Ok(true),
             Err(_) => Err(RunFault::Memory),
         },
-        Heard::TooMany => Err(RunFault::Memory),
-        Heard::Fault(fault) => Err(feed_fault(fault, file)),
+        Polled::TooMany => Err(RunFault::Memory),
+        Polled::Fault(fault) => Err(feed_fault(fault, file)),
     }
 }
 
 /// Takes a worker's answer, if one is there, and offers it under the numbers of its oldest outstanding job.
-fn hear_worker<X, S: Tail>(
+fn poll_worker<X, S: Tail>(
     workers: &mut Vec<WorkerLanes<'_, X, S::Out>>,
     hub: &mut Hub<S, S::Out>,
     worker: usize,
@@ -99,8 +99,8 @@ fn free_worker<X, O>(workers: &Vec<WorkerLanes<'_, X, O>>) -> Option<usize>
     free
 }
 
-/// Hears of each feed once, in file order, while a worker may have one more job. Answers whether there was something.
-fn hear_feeds<R: Wait, X: Drop, S: Tail>(
+/// Polls each feed once, in file order, while a worker may have one more job. Answers whether there was something.
+fn poll_feeds<R: Wait, X: Drop, S: Tail>(
     rt: &R,
     lanes: &mut Vec<FeedLane<'_, X>>,
     workers: &mut Vec<WorkerLanes<'_, X, S::Out>>,
@@ -116,21 +116,21 @@ where
     ensures turn { (first : S) (events : List (Event S.Out)) → InTurn S.takes first (feed_views lanes.old.items) (worker_views workers.old.items) hub.old events →
         Turns S.takes S.refuses first (feed_views lanes.new.items) (worker_views workers.new.items) hub.new result }
 {
-    let mut heard = false;
+    let mut found = false;
     for file in 0..lanes.len() {
         let Some(worker) = free_worker(workers) else {
-            return Ok(heard);
+            return Ok(found);
         };
-        match hear_feed(rt, lanes, workers, hub, file as u16, worker) {
-            Ok(one) => heard = heard || one,
+        match poll_feed(rt, lanes, workers, hub, file as u16, worker) {
+            Ok(one) => found = found || one,
             Err(fault) => return Err(fault),
         }
     }
-    Ok(heard)
+    Ok(found)
 }
 
-/// Hears of each worker once. Answers whether there was an answer.
-fn hear_workers<X, S: Tail>(
+/// Polls each worker once. Answers whether there was an answer.
+fn poll_workers<X, S: Tail>(
     workers: &mut Vec<WorkerLanes<'_, X, S::Out>>,
     hub: &mut Hub<S, S::Out>,
 ) -> Result<bool, RunFault>
@@ -142,14 +142,14 @@ where
     ensures turn { (first : S) (vs : List (FeedView X)) (events : List (Event S.Out)) → InTurn S.takes first vs (worker_views workers.old.items) hub.old events →
         Turns S.takes S.refuses first vs (worker_views workers.new.items) hub.new result }
 {
-    let mut heard = false;
+    let mut found = false;
     for worker in 0..workers.len() {
-        match hear_worker(workers, hub, worker) {
-            Ok(one) => heard = heard || one,
+        match poll_worker(workers, hub, worker) {
+            Ok(one) => found = found || one,
             Err(fault) => return Err(fault),
         }
     }
-    Ok(heard)
+    Ok(found)
 }
 
 /// Whether every feed has ended.
@@ -166,7 +166,7 @@ fn are_idle<X, O>(workers: &Vec<WorkerLanes<'_, X, O>>) -> bool
     workers.iter().all(|worker| worker.outstanding.is_empty())
 }
 
-/// Turns of the hub until every feed has ended and no job is outstanding, or to the first fault. After a turn in which it heard
+/// Turns of the hub until every feed has ended and no job is outstanding, or to the first fault. After a turn in which it found
 /// nothing the hub sleeps until a thread has put something.
 pub(crate) fn run_turns<R: Wait, X: Drop, S: Tail>(
     rt: &R,
@@ -186,14 +186,8 @@ where
         RunDone S.takes S.refuses first (told_in (feed_views lanes.new.items)) (worker_views workers.new.items) hub.new result }
 {
     for _ in rt.forever() {
-        let of_feeds = match hear_feeds(rt, lanes, workers, hub) {
-            Ok(heard) => heard,
-            Err(fault) => return Err(fault),
-        };
-        let of_workers = match hear_workers(workers, hub) {
-            Ok(heard) => heard,
-            Err(fault) => return Err(fault),
-        };
+        let of_feeds = poll_feeds(rt, lanes, workers, hub)?;
+        let of_workers = poll_workers(workers, hub)?;
         if have_ended(lanes) && are_idle(workers) {
             return Ok(());
         }

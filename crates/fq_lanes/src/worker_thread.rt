@@ -1,5 +1,5 @@
 //! The thread of a worker.
-ghost use Rattle.std.specs.Prelude.{◌≡◌, [], ◌∷◌, ◌++◌};
+ghost use Rattle.std.specs.Prelude.{◌≡◌, []};
 ghost use Rattle.fq_lanes.specs.Lane.{put_items, taken_items, SamePut, SameTake};
 ghost use Rattle.fq_lanes.specs.WorkerThread.{Replied};
 

@@ -34,29 +34,29 @@ past-fault g v f e = ap (λ (o : Option Fault). then_stream (let a : Stream Faul
 settled-all : (ms : List Transform) → AllCausal ms → (u w : Stream Fault) (f : Fault) → (given_all ms u).fault ≡ Some f → whole_all ms (then_stream u w) ≡ given_all ms u
 settled-all ms c u w f e = let p = prefix ms c u w in p.1 ∙ past-fault (given_all ms u) p.0 f e
 
-pub run-can : (rs : List Running) (w : Transforming) (rows out : List Row) (came : Passed) → HasRun rs w rows out → IsUnder w.before came.batch → CanTake rs w.transforms rows w.after came
-run-can rs w rows out came h columns = record { before = w.before; taken = h.taken; chain = h.chain; columns = columns }
+pub run-can : (rs : List Running) (w : Transforming) (rows out : List Row) (input : Passed) → HasRun rs w rows out → IsUnder w.before input.batch → CanTake rs w.transforms rows w.after input
+run-can rs w rows out input h columns = record { before = w.before; taken = h.taken; chain = h.chain; columns = columns }
 
-pub run-pushed : (rs qs : List Running) (came p : Passed) → ((ms : List Transform) (rows : List Row) (after : Fields) → CanTake rs ms rows after came → HavePassed qs ms rows after came p) →
-    (w : Transforming) (rows out : List Row) → HasRun rs w rows out → IsUnder w.before came.batch → HasPushed qs w rows out came p
-run-pushed rs qs came p made w rows out h columns = record {
+pub run-pushed : (rs qs : List Running) (input p : Passed) → ((ms : List Transform) (rows : List Row) (after : Fields) → CanTake rs ms rows after input → HavePassed qs ms rows after input p) →
+    (w : Transforming) (rows out : List Row) → HasRun rs w rows out → IsUnder w.before input.batch → HasPushed qs w rows out input p
+run-pushed rs qs input p made w rows out h columns = record {
   columns = passed.columns;
   goes_on = λ e. (
     passed.unended e,
     record {
       taken = passed.kept e;
       chain = h.chain;
-      given = ap (λ (f : Option Fault). given_all w.transforms (record { rows = rows ++ rows_in came.batch; fault = f })) (sym (passed.unended e)) ∙ now ∙ (λ i. record { rows = out ++ rows_in p.batch; fault = e i });
+      given = ap (λ (f : Option Fault). given_all w.transforms (record { rows = rows ++ rows_in input.batch; fault = f })) (sym (passed.unended e)) ∙ now ∙ (λ i. record { rows = out ++ rows_in p.batch; fault = e i });
     },
   );
   settled = λ f e rest. sym now ∙ sym (settled-all w.transforms (all-causal rs w.transforms rows h.taken) u rest f (ap (λ (a : Stream Fault). a.fault) now ∙ e));
 }
   where
-    passed : HavePassed qs w.transforms rows w.after came p
-    passed = made w.transforms rows w.after (run-can rs w rows out came h columns)
+    passed : HavePassed qs w.transforms rows w.after input p
+    passed = made w.transforms rows w.after (run-can rs w rows out input h columns)
 
     u : Stream Fault
-    u = then_stream (done rows) (passed_stream came)
+    u = then_stream (done rows) (passed_stream input)
 
     -- what has been given by now
     now : given_all w.transforms u ≡ then_stream (done out) (passed_stream p)

@@ -20,15 +20,15 @@ pub record HasRun (operators : List Running) (w : Transforming) (rows out : List
   pub chain : Chain w.before w.transforms w.after
   pub given : given_all w.transforms (done rows) ≡ done out
 
--- one more piece came, and this was passed on: the operators have taken it, or, if a fault was passed on, what was passed
+-- this piece came in, and this was passed on: the operators have taken it, or, if a fault was passed on, what was passed
 -- on is what they make of all streams that begin so
-pub record HasPushed (operators : List Running) (w : Transforming) (rows out : List Row) (came p : Passed) : Type 0 where
+pub record HasPushed (operators : List Running) (w : Transforming) (rows out : List Row) (input p : Passed) : Type 0 where
   pub columns : IsUnder w.after p.batch
-  pub goes_on : p.fault ≡ None → (came.fault ≡ None) × HasRun operators w (rows ++ rows_in came.batch) (out ++ rows_in p.batch)
+  pub goes_on : p.fault ≡ None → (input.fault ≡ None) × HasRun operators w (rows ++ rows_in input.batch) (out ++ rows_in p.batch)
   pub settled : (f : Fault) → p.fault ≡ Some f → (rest : Stream Fault) →
-      then_stream (done out) (passed_stream p) ≡ whole_all w.transforms (then_stream (then_stream (done rows) (passed_stream came)) rest)
+      then_stream (done out) (passed_stream p) ≡ whole_all w.transforms (then_stream (then_stream (done rows) (passed_stream input)) rest)
 
--- no more came, and this was passed on
+-- no more came in, and this was passed on
 pub record HasFinished (w : Transforming) (rows out : List Row) (p : Passed) : Type 0 where
   pub columns : IsUnder w.after p.batch
   pub all : then_stream (done out) (passed_stream p) ≡ whole_all w.transforms (done rows)

@@ -77,17 +77,17 @@ pub record IsNext (m : Transform) (rows : List Row) (batch : Frame) (Kept : Tran
 abbrev pub Takes : (Transform → List Row → Type 0) → (Transform → List Row → Type 0) → Frame → Passed → Type 0
 Takes Kept Keeps batch p = (m : Transform) (rows : List Row) → m.takes ≡ batch.fields → (m.at_once rows).fault ≡ None → Kept m rows → IsNext m rows batch Keeps p
 
--- what an operator makes of what came to it
-pub record HasPassed (r : Running) (m : Transform) (rows : List Row) (came p : Passed) : Type 0 where
+-- what an operator makes of its input
+pub record HasPassed (r : Running) (m : Transform) (rows : List Row) (input p : Passed) : Type 0 where
   pub columns : IsUnder m.gives p.batch
-  pub next : then_stream (given m (done rows)) (passed_stream p) ≡ given m (then_stream (done rows) (passed_stream came))
-  pub kept : p.fault ≡ None → HasTaken r m (rows ++ rows_in came.batch)
-  pub unended : p.fault ≡ None → came.fault ≡ None
+  pub next : then_stream (given m (done rows)) (passed_stream p) ≡ given m (then_stream (done rows) (passed_stream input))
+  pub kept : p.fault ≡ None → HasTaken r m (rows ++ rows_in input.batch)
+  pub unended : p.fault ≡ None → input.fault ≡ None
 
 -- the last that it makes
-pub record HasEnded (m : Transform) (rows : List Row) (came p : Passed) : Type 0 where
+pub record HasEnded (m : Transform) (rows : List Row) (input p : Passed) : Type 0 where
   pub columns : IsUnder m.gives p.batch
-  pub last : then_stream (given m (done rows)) (passed_stream p) ≡ whole m (then_stream (done rows) (passed_stream came))
+  pub last : then_stream (given m (done rows)) (passed_stream p) ≡ whole m (then_stream (done rows) (passed_stream input))
 
 -- ---- operators in a row
 
@@ -97,17 +97,17 @@ HaveTaken [] (m ∷ ms) rows = ⊥
 HaveTaken (r ∷ rs) [] rows = ⊥
 HaveTaken (r ∷ rs) (m ∷ ms) rows = HasTaken r m rows × HaveTaken rs ms (m.at_once rows).rows
 
-pub record CanTake (rs : List Running) (ms : List Transform) (rows : List Row) (after : Fields) (came : Passed) : Type 0 where
+pub record CanTake (rs : List Running) (ms : List Transform) (rows : List Row) (after : Fields) (input : Passed) : Type 0 where
   pub before : Fields
   pub taken : HaveTaken rs ms rows
   pub chain : Chain before ms after
-  pub columns : IsUnder before came.batch
+  pub columns : IsUnder before input.batch
 
-pub record HavePassed (rs : List Running) (ms : List Transform) (rows : List Row) (after : Fields) (came p : Passed) : Type 0 where
+pub record HavePassed (rs : List Running) (ms : List Transform) (rows : List Row) (after : Fields) (input p : Passed) : Type 0 where
   pub columns : IsUnder after p.batch
-  pub next : then_stream (given_all ms (done rows)) (passed_stream p) ≡ given_all ms (then_stream (done rows) (passed_stream came))
-  pub kept : p.fault ≡ None → HaveTaken rs ms (rows ++ rows_in came.batch)
-  pub unended : p.fault ≡ None → came.fault ≡ None
+  pub next : then_stream (given_all ms (done rows)) (passed_stream p) ≡ given_all ms (then_stream (done rows) (passed_stream input))
+  pub kept : p.fault ≡ None → HaveTaken rs ms (rows ++ rows_in input.batch)
+  pub unended : p.fault ≡ None → input.fault ≡ None
 
 pub record HaveEnded (ms : List Transform) (rows : List Row) (after : Fields) (p : Passed) : Type 0 where
   pub columns : IsUnder after p.batch

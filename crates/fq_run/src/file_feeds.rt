@@ -91,7 +91,7 @@ impl<R: Read> Feed for FileFeed<R> {
         }
     }
 
-    ghost some_list = { some_items };
+    ghost satisfiable = { some_items };
 
     ghost few = { λ _ few. few };
 }

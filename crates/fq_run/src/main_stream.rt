@@ -95,7 +95,7 @@ impl<'a> MainStream<'a> {
         Ok(text)
     }
 
-    /// Takes a worked item, and keeps what the operators pass on of it; or answers the fault in which all ends.
+    /// Takes a worked item, and keeps what the operators pass on of it; or answers the final fault.
     pub(crate) fn take(self, alloc: Global, item: Worked) -> Result<MainStream<'a>, Fault>
         ensures goes_on { IfOk result (λ s. (w : Transforming) (taken out : List Row) → HasRun self.entry.operators w taken out → w.before ≡ self.entry.before → HasGoneOn self.entry item w taken out s) }
         ensures ends { IfErr result (λ f. (f ≡ fault.Memory) ⊎ ((w : Transforming) (taken out : List Row) → HasRun self.entry.operators w taken out → w.before ≡ self.entry.before →
@@ -108,8 +108,8 @@ impl<'a> MainStream<'a> {
         } = self;
         let mut pipeline = pipeline;
         let mut text = text;
-        let came = Passed::from_worked(item, &before);
-        let passed = pipeline.push(alloc, came)?;
+        let input = Passed::from_worked(item, &before);
+        let passed = pipeline.push(alloc, input)?;
         add(alloc, &mut text, passed)?;
         Ok(MainStream {
             before,

@@ -101,12 +101,12 @@ impl<'a> Running<'a> {
     }
 
     /// Takes what the operator before it passed on, and passes on what it makes of that at once.
-    pub(crate) fn push(&mut self, alloc: Global, came: Passed) -> Result<Passed, Memory>
-        requires { (m : Transform) × ((rows : List Row) × (HasTaken self.old m rows × IsUnder m.takes came.batch)) }
-        ensures { IfOk result (λ p. (m : Transform) (rows : List Row) → HasTaken self.old m rows → IsUnder m.takes came.batch →
-            HasPassed self.new m rows came p) }
+    pub(crate) fn push(&mut self, alloc: Global, input: Passed) -> Result<Passed, Memory>
+        requires { (m : Transform) × ((rows : List Row) × (HasTaken self.old m rows × IsUnder m.takes input.batch)) }
+        ensures { IfOk result (λ p. (m : Transform) (rows : List Row) → HasTaken self.old m rows → IsUnder m.takes input.batch →
+            HasPassed self.new m rows input p) }
     {
-        let Passed { batch, fault } = came;
+        let Passed { batch, fault } = input;
         let Some(batch) = batch else {
             return Ok(Passed { batch: None, fault });
         };
@@ -121,12 +121,12 @@ impl<'a> Running<'a> {
     }
 
     /// Takes the last that comes, and passes on all that is left. No more can be taken.
-    pub(crate) fn finish(&mut self, alloc: Global, came: Passed) -> Result<Passed, Memory>
-        requires { (m : Transform) × ((rows : List Row) × (HasTaken self.old m rows × IsUnder m.takes came.batch)) }
-        ensures { IfOk result (λ p. (m : Transform) (rows : List Row) → HasTaken self.old m rows → IsUnder m.takes came.batch →
-            HasEnded m rows came p) }
+    pub(crate) fn finish(&mut self, alloc: Global, input: Passed) -> Result<Passed, Memory>
+        requires { (m : Transform) × ((rows : List Row) × (HasTaken self.old m rows × IsUnder m.takes input.batch)) }
+        ensures { IfOk result (λ p. (m : Transform) (rows : List Row) → HasTaken self.old m rows → IsUnder m.takes input.batch →
+            HasEnded m rows input p) }
     {
-        let passed = self.push(alloc, came)?;
+        let passed = self.push(alloc, input)?;
         if passed.fault.is_some() {
             return Ok(passed);
         }

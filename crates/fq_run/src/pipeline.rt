@@ -40,12 +40,12 @@ impl<'a> Pipeline<'a> {
     }
 
     /// Takes one more piece, and passes on what the operators make of it at once.
-    pub(crate) fn push(&mut self, alloc: Global, came: Passed) -> Result<Passed, Memory>
-        requires { (w : Transforming) × ((rows : List Row) × ((out : List Row) × (HasRun self.old.operators.items w rows out × IsUnder w.before came.batch))) }
-        ensures { IfOk result (λ p. (w : Transforming) (rows out : List Row) → HasRun self.old.operators.items w rows out → IsUnder w.before came.batch →
-            HasPushed self.new.operators.items w rows out came p) }
+    pub(crate) fn push(&mut self, alloc: Global, input: Passed) -> Result<Passed, Memory>
+        requires { (w : Transforming) × ((rows : List Row) × ((out : List Row) × (HasRun self.old.operators.items w rows out × IsUnder w.before input.batch))) }
+        ensures { IfOk result (λ p. (w : Transforming) (rows out : List Row) → HasRun self.old.operators.items w rows out → IsUnder w.before input.batch →
+            HasPushed self.new.operators.items w rows out input p) }
     {
-        let mut passed = came;
+        let mut passed = input;
         for running in self.operators.iter_mut() {
             passed = running.push(alloc, passed)?;
         }

@@ -1,5 +1,5 @@
 //! The calls on lanes.
-ghost use Rattle.std.specs.Prelude.{◌≡◌, ℕ, ◌+◌, ◌^◌, ◌<◌, ◌≤◌, [], ◌∷◌, ◌++◌, IfOk, OnOk, IfErr, MatchOption};
+ghost use Rattle.std.specs.Prelude.{◌≡◌, ◌+◌, ◌<◌, ◌≤◌, [], ◌∷◌, ◌++◌, IfOk, OnOk, IfErr, MatchOption};
 ghost use Rattle.fq_lanes.specs.Lane.{put_items, taken_items, left_items, IsLane, SamePut, SameTake};
 
 use super::{Left, MAX_CAPACITY, Put, Take};

@@ -20,5 +20,5 @@ loop-preserved g c =
 pub returns-in-Err-clause-scanned : goal.returns-in-Err-clause-scanned
 returns-in-Err-clause-scanned g c =
     let was = c.loop.invariant in
-    let rest = g.met.F.Feed.some_list c.loop.feed in
+    let rest = g.met.F.Feed.satisfiable c.loop.feed in
     (was.put.0, rest.0, Some c.in-Err.fault, search rules, was.put.2 rest.0 rest.1, search rules, λ e. was.fail (c.in-Err.ensures.fault cc))

@@ -109,7 +109,7 @@ returns-in_default-clause-round g c feeds first items events r =
     j c.index_mut-inlet.result.now c.next.new.self r at c.if-inlet.false told.ended told.gave
     (not_far (due_count events (file_count c.args.hub.now.sink) c.args.file) c.index_mut-inlet.result.now.items (sym (c.is_far.ensures events (length (due events (file_count c.args.hub.now.sink))) r.handed.accepted) ∙ c.if-is_far.false)) in (
       halted g.F.Feed.gives g.F.Feed.is_open g.F.Feed.may_fail g.F.Feed.most g.S.Tail.takes g.S.Tail.refuses feeds first items (λ f s. times f s (job_numbers c.args.jobs.now.items)) events c.args.inlets.now.items
-          (file_count c.args.hub.now.sink) c.args.hub.now.tail g.met.F.Feed.some_list r.gave r.books r.closed r.files (stops_all g.S.Tail.takes g.S.Tail.refuses first events c.args.hub.now r.handed),
+          (file_count c.args.hub.now.sink) c.args.hub.now.tail g.met.F.Feed.satisfiable r.gave r.books r.closed r.files (stops_all g.S.Tail.takes g.S.Tail.refuses first events c.args.hub.now r.handed),
       (gave_drains g.F.Feed.gives g.F.Feed.is_open g.F.Feed.may_fail g.F.Feed.most feeds out.0 (set c.args.inlets.now.items c.args.file c.next.new.self) out.3.gave, tt),
     )
 
@@ -142,7 +142,7 @@ returns-in_default-close-clause-round g c feeds first items events r =
     let stopped = c.in_default-close.ensures.handed first events r.handed free in (
       halted_back g.F.Feed.gives g.S.Tail.takes g.S.Tail.refuses feeds first items items events now c.close.new.self.tail out.3
           (halted g.F.Feed.gives g.F.Feed.is_open g.F.Feed.may_fail g.F.Feed.most g.S.Tail.takes g.S.Tail.refuses feeds first items (λ f s. times f s (job_numbers c.args.jobs.now.items)) now ns'
-          (file_count c.args.hub.now.sink) c.close.new.self.tail g.met.F.Feed.some_list out.0 out.1 out.2 r.files stopped),
+          (file_count c.args.hub.now.sink) c.close.new.self.tail g.met.F.Feed.satisfiable out.0 out.1 out.2 r.files stopped),
       (gave_drains g.F.Feed.gives g.F.Feed.is_open g.F.Feed.may_fail g.F.Feed.most feeds items ns' out.0, tt),
     )
 
@@ -200,7 +200,7 @@ returns-in-Err-clause-round g c feeds first items events r =
     let at = get_or_place c.args.inlets.now.items c.args.file c.index_mut-inlet.result.now (omega (arith, c.requires.file)) c.index_mut-inlet.ensures.value in
     let one = gave_get g.F.Feed.gives g.F.Feed.is_open g.F.Feed.may_fail g.F.Feed.most feeds items c.args.inlets.now.items c.args.file c.index_mut-inlet.result.now r.gave at in (
       halted g.F.Feed.gives g.F.Feed.is_open g.F.Feed.may_fail g.F.Feed.most g.S.Tail.takes g.S.Tail.refuses feeds first items (λ f s. times f s (job_numbers c.args.jobs.now.items)) events c.args.inlets.now.items
-          (file_count c.args.hub.now.sink) c.args.hub.now.tail g.met.F.Feed.some_list r.gave r.books r.closed r.files (stops_all g.S.Tail.takes g.S.Tail.refuses first events c.args.hub.now r.handed),
+          (file_count c.args.hub.now.sink) c.args.hub.now.tail g.met.F.Feed.satisfiable r.gave r.books r.closed r.files (stops_all g.S.Tail.takes g.S.Tail.refuses first events c.args.hub.now r.handed),
       (
         drains_set g.F.Feed.is_open g.F.Feed.may_fail feeds c.args.inlets.now.items c.args.file c.next.new.self
             (gave_drains g.F.Feed.gives g.F.Feed.is_open g.F.Feed.may_fail g.F.Feed.most feeds items c.args.inlets.now.items r.gave) c.in-Err.ensures.ended,

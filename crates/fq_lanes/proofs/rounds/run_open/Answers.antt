@@ -56,7 +56,7 @@ returns-in_default-clause-runs g c feeds first items events r offers =
     let done = c.in_default.ensures.offers first now.0 now.1 now.3.handed now.3.books (offers_on (g.W.Work.gives c.args.work.now) was.0 now.0 was.1 now.1 now.2 was.3) now.3.waits (now.3.files ∙ sym sizes.0) now.3.near in (
       stops_early g.F.Feed.gives (g.W.Work.gives c.args.work.now) g.S.Tail.takes g.S.Tail.refuses feeds first now.0 done.0 c.work_jobs.new.hub.tail
           (halted g.F.Feed.gives g.F.Feed.is_open g.F.Feed.may_fail g.F.Feed.most g.S.Tail.takes g.S.Tail.refuses feeds first now.0 done.1 done.0 c.collect_round.new.inlets.items
-          (file_count c.collect_round.new.hub.sink) c.work_jobs.new.hub.tail g.met.F.Feed.some_list now.3.gave done.2 (λ i n e. done.4 i ∙ now.3.closed i n e) now.3.files done.5)
+          (file_count c.collect_round.new.hub.sink) c.work_jobs.new.hub.tail g.met.F.Feed.satisfiable now.3.gave done.2 (λ i n e. done.4 i ∙ now.3.closed i n e) now.3.files done.5)
           done.3,
       (gave_drains g.F.Feed.gives g.F.Feed.is_open g.F.Feed.may_fail g.F.Feed.most feeds now.0 c.collect_round.new.inlets.items now.3.gave, tt),
     )

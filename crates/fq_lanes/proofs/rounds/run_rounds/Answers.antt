@@ -8,7 +8,7 @@ use Rattle.fq_lanes.proofs.NothingReadLemmas.{begins, drains_open, no_offers, st
 use Rattle.fq_lanes.proofs.rounds.run_rounds.Goals as goal
 
 pub returns-in-Err-clause-stopped : goal.returns-in-Err-clause-stopped
-returns-in-Err-clause-stopped g c = stops_at_once g.F.Feed.gives (g.W.Work.gives c.args.work.now) g.S.Tail.takes g.S.Tail.refuses c.args.feeds.items c.args.tail g.met.F.Feed.some_list
+returns-in-Err-clause-stopped g c = stops_at_once g.F.Feed.gives (g.W.Work.gives c.args.work.now) g.S.Tail.takes g.S.Tail.refuses c.args.feeds.items c.args.tail g.met.F.Feed.satisfiable
 
 pub drain_inlets-requires-clause-open : goal.drain_inlets-requires-clause-open
 drain_inlets-requires-clause-open g c =
@@ -17,7 +17,7 @@ drain_inlets-requires-clause-open g c =
     drains_open g.F.Feed.is_open g.F.Feed.may_fail c.args.feeds.items c.in-Ok.inlets.items (subst (λ l. Each (DrainsOne g.F.Feed.is_open g.F.Feed.may_fail) c.args.feeds.items l) (sym c.in-Ok.ensures) drains)
 
 pub returns-in_default-clause-stopped : goal.returns-in_default-clause-stopped
-returns-in_default-clause-stopped g c = stops_at_once g.F.Feed.gives (g.W.Work.gives c.args.work.now) g.S.Tail.takes g.S.Tail.refuses c.args.feeds.items c.args.tail g.met.F.Feed.some_list
+returns-in_default-clause-stopped g c = stops_at_once g.F.Feed.gives (g.W.Work.gives c.args.work.now) g.S.Tail.takes g.S.Tail.refuses c.args.feeds.items c.args.tail g.met.F.Feed.satisfiable
 
 pub returns-in_default-clause-fault : goal.returns-in_default-clause-fault
 returns-in_default-clause-fault g c =

@@ -14,20 +14,20 @@ use Rattle.fq_run.proofs.main_stream.MainStream.take.Goals.{In_ok-passed}
 
 -- what was passed on of the piece, where these steps had run over those rows
 pushed : (c : In_ok-passed) (w : Transforming) (taken out : List Row) → HasRun c.self.inside.pipeline.operators.items w taken out → w.before ≡ c.self.inside.before →
-    HasPushed c.push.new.self.operators.items w taken out c.from_worked-came.result c.in_ok-passed.passed
+    HasPushed c.push.new.self.operators.items w taken out c.from_worked-input.result c.in_ok-passed.passed
 pushed c w taken out run before =
-    c.in_ok-passed.ensures w taken out run (subst (λ (f : Fields). IsUnder f c.from_worked-came.result.batch) (sym before) c.from_worked-came.ensures.columns)
+    c.in_ok-passed.ensures w taken out run (subst (λ (f : Fields). IsUnder f c.from_worked-input.result.batch) (sym before) c.from_worked-input.ensures.columns)
 
--- what came is what the item adds
-came-is : (c : In_ok-passed) → passed_stream c.from_worked-came.result ≡ added_stream c.args.self.before c.args.item
-came-is c = c.from_worked-came.ensures.stream ∙ ap (λ (s : Streaming). added_stream s.before c.args.item) c.self.view_is
+-- the input is what the item adds
+input-is : (c : In_ok-passed) → passed_stream c.from_worked-input.result ≡ added_stream c.args.self.before c.args.item
+input-is c = c.from_worked-input.ensures.stream ∙ ap (λ (s : Streaming). added_stream s.before c.args.item) c.self.view_is
 
 pub invariant_of-result : goal.invariant_of-result
 invariant_of-result c =
     let d = (goal.at.invariant_of-result c).In_ok-passed in
     let i = c.self.invariant in
     let on = ((pushed d i.0 i.1.0 i.1.1.0 i.1.1.1.0 i.1.1.1.1).goes_on c.in_ok-add.ensures.none).1 in
-    (i.0, (i.1.0 ++ rows_in c.from_worked-came.result.batch, (i.1.1.0 ++ rows_in c.in_ok-passed.passed.batch, (on, i.1.1.1.1))))
+    (i.0, (i.1.0 ++ rows_in c.from_worked-input.result.batch, (i.1.1.0 ++ rows_in c.in_ok-passed.passed.batch, (on, i.1.1.1.1))))
 
 pub returns-clause-goes_on : goal.returns-clause-goes_on
 returns-clause-goes_on c w taken out run before =
@@ -35,11 +35,11 @@ returns-clause-goes_on c w taken out run before =
     let inside = subst (λ (s : Streaming). HasRun s.operators w taken out) (sym c.self.view_is) run in
     let same = before ∙ sym (ap (λ (s : Streaming). s.before) c.self.view_is) in
     let on = (pushed d w taken out inside same).goes_on c.in_ok-add.ensures.none in
-    let came = came-is d in
+    let input = input-is d in
     let more = rows_in c.in_ok-passed.passed.batch in record {
       more = more;
-      faultless = ap (λ (u : Stream Fault). u.fault) (sym came) ∙ on.0;
-      run = subst (λ (u : Stream Fault). HasRun c.push.new.self.operators.items w (taken ++ u.rows) (out ++ more)) came on.1;
+      faultless = ap (λ (u : Stream Fault). u.fault) (sym input) ∙ on.0;
+      run = subst (λ (u : Stream Fault). HasRun c.push.new.self.operators.items w (taken ++ u.rows) (out ++ more)) input on.1;
       text = c.in_ok-add.ensures.text ∙ ap (λ (s : Streaming). s.text ++ printed_rows more) c.self.view_is;
       before = ap (λ (s : Streaming). s.before) c.self.view_is;
     }
@@ -52,7 +52,7 @@ returns-in_err-add-clause-ends c =
       | inl e ↦ inr (λ w taken out run before rest.
           let inside = subst (λ (s : Streaming). HasRun s.operators w taken out) (sym c.self.view_is) run in
           let same = before ∙ sym (ap (λ (s : Streaming). s.before) c.self.view_is) in
-          ap (λ (u : Stream Fault). (whole_all w.transforms (then_stream (then_stream (done taken) u) rest)).fault) (sym (came-is d))
+          ap (λ (u : Stream Fault). (whole_all w.transforms (then_stream (then_stream (done taken) u) rest)).fault) (sym (input-is d))
           ∙ sym (ap (λ (v : Stream Fault). v.fault) ((pushed d w taken out inside same).settled c.in_err-add.field-0.0 e rest)) ∙ e)
       | inr memory ↦ inl memory
     ])

@@ -6,5 +6,5 @@ use Rattle.fq_run.proofs.PipelineLemmas.{PushedSoFar}
 use Rattle.fq_run.proofs.pipeline.Pipeline.push.Given as goal
 
 abbrev pub invariant-loop-running : goal.invariant-loop-running
-invariant-loop-running l = (ms : List Transform) (rows : List Row) (after : Fields) → CanTake l.fn.self.operators.items ms rows after l.fn.came →
-    PushedSoFar (take l.running-index l.running-items) (drop l.running-index l.running-items) ms rows after l.fn.came l.passed
+invariant-loop-running l = (ms : List Transform) (rows : List Row) (after : Fields) → CanTake l.fn.self.operators.items ms rows after l.fn.input →
+    PushedSoFar (take l.running-index l.running-items) (drop l.running-index l.running-items) ms rows after l.fn.input l.passed

@@ -15,7 +15,7 @@ use Rattle.fq_lanes.proofs.LaneLemmas.{prefix_by, prefix_is, workers_same}
 use Rattle.fq_lanes.proofs.BesideLemmas.{get_or_place}
 use Rattle.fq_lanes.proofs.SlotLemmas.{not_far}
 use Rattle.fq_lanes.proofs.HubStepLemmas.{step_nothing, step_item, step_halts, worker_grows, step_blames, step_close, step_on, step_stops}
-use Rattle.fq_lanes.proofs.turns.hear_feed.Goals as goal
+use Rattle.fq_lanes.proofs.turns.poll_feed.Goals as goal
 
 pub close-requires : goal.close-requires
 close-requires g c =
@@ -23,7 +23,7 @@ close-requires g c =
     let n = c.index_mut-lane.result.now in
     let at = get_or_place ns c.args.file n (omega (arith, c.requires.file)) c.index_mut-lane.ensures.value in
     let r = c.requires.turn in
-    let out = step_close g.S.Tail.takes r.0 ns (worker_views c.args.workers.now.items) c.args.hub.now r.1 c.args.file c.in-End.items n c.next.new.self r.2 at c.in-End.ensures.heard in
+    let out = step_close g.S.Tail.takes r.0 ns (worker_views c.args.workers.now.items) c.args.hub.now r.1 c.args.file c.in-End.items n c.next.new.self r.2 at c.in-End.ensures.polled in
     (r.1, _, r.2.handed.accepted, out.0)
 
 pub returns-in-Nothing-clause-lanes : goal.returns-in-Nothing-clause-lanes
@@ -35,7 +35,7 @@ returns-in-Nothing-clause-turn g c first events t =
     let ns = c.args.lanes.now.items in
     let n = c.index_mut-lane.result.now in
     let at = get_or_place ns c.args.file n (omega (arith, c.requires.file)) c.index_mut-lane.ensures.value in
-    (events, step_nothing g.S.Tail.takes first ns (worker_views c.args.workers.now.items) c.args.hub.now events c.args.file n c.next.new.self t at c.in-Nothing.ensures.heard)
+    (events, step_nothing g.S.Tail.takes first ns (worker_views c.args.workers.now.items) c.args.hub.now events c.args.file n c.next.new.self t at c.in-Nothing.ensures.polled)
 
 pub returns-in-Ok-clause-lanes : goal.returns-in-Ok-clause-lanes
 returns-in-Ok-clause-lanes g c =
@@ -55,9 +55,9 @@ returns-in-Ok-clause-turn g c first events t =
     let atw = get_or_place ds c.args.worker d (omega (arith, c.requires.worker)) c.index_mut.ensures.value in
     let job : Job g.row.X.Denot = record { file = c.args.file; serial = c.in-Item.serial; item = c.in-Item.item } in (
       events,
-      step_item g.S.Tail.takes first ns ds c.args.hub.now events c.args.file c.in-Item.serial c.args.worker c.in-Item.item n c.next.new.self d c.give.new.self job t at c.in-Item.ensures.heard atw refl refl refl
+      step_item g.S.Tail.takes first ns ds c.args.hub.now events c.args.file c.in-Item.serial c.args.worker c.in-Item.item n c.next.new.self d c.give.new.self job t at c.in-Item.ensures.polled atw refl refl refl
           c.in-Ok.ensures.ok.0 c.give.ensures.answers c.in-Ok.ensures.ok.1
-          (subst (λ k. IsNear events (file_count c.args.hub.now.sink) c.args.file k) (sym c.in-Item.ensures.heard.2)
+          (subst (λ k. IsNear events (file_count c.args.hub.now.sink) c.args.file k) (sym c.in-Item.ensures.polled.2)
           (not_far (due_count events (file_count c.args.hub.now.sink) c.args.file) n.items (sym (c.is_far.ensures events (length (due events (file_count c.args.hub.now.sink))) t.handed.accepted) ∙ c.if-is_far.false))),
     )
 
@@ -77,7 +77,7 @@ returns-in-Err-clause-turn g c first events t =
     let ds = c.args.workers.now.items in
     let d = c.index_mut.result.now in
     let atw = get_or_place ds c.args.worker d (omega (arith, c.requires.worker)) c.index_mut.ensures.value in
-    let more = prefix_by (feed_view n).told (feed_view c.next.new.self).told (Item c.in-Item.item ∷ []) c.in-Item.ensures.heard.1 in
+    let more = prefix_by (feed_view n).told (feed_view c.next.new.self).told (Item c.in-Item.item ∷ []) c.in-Item.ensures.polled.1 in
     let grow = worker_grows ds c.args.worker d c.give.new.self atw (prefix_is (worker_view d).jobs (worker_view c.give.new.self).jobs c.in-Err.ensures.err, prefix_is (worker_view d).answers (worker_view c.give.new.self).answers c.give.ensures.answers) in
     ((events, step_halts g.S.Tail.takes g.S.Tail.refuses first ns (worker_views ds) (worker_views (set ds c.args.worker c.give.new.self)) c.args.hub.now events c.args.file n c.next.new.self t at more grow), tt)
 
@@ -91,7 +91,7 @@ returns-in-Ok-close-clause-turn g c first events t =
     let n = c.index_mut-lane.result.now in
     let at = get_or_place ns c.args.file n (omega (arith, c.requires.file)) c.index_mut-lane.ensures.value in
     let ds = worker_views c.args.workers.now.items in
-    let out = step_close g.S.Tail.takes first ns ds c.args.hub.now events c.args.file c.in-End.items n c.next.new.self t at c.in-End.ensures.heard in
+    let out = step_close g.S.Tail.takes first ns ds c.args.hub.now events c.args.file c.in-End.items n c.next.new.self t at c.in-End.ensures.polled in
     let now : List (Event g.row.S-Out.Denot) = events ++ Close c.args.file c.in-End.items ∷ [] in
     (now, step_on g.S.Tail.takes first (feed_views (set ns c.args.file c.next.new.self)) ds c.args.hub.now c.close.new.self events (Close c.args.file c.in-End.items) out.1 (c.in-Ok-close.ensures.handed first events t.handed out.0) c.close.ensures.files out.2 out.3)
 
@@ -105,7 +105,7 @@ returns-in-Err-close-clause-turn g c first events t =
     let n = c.index_mut-lane.result.now in
     let at = get_or_place ns c.args.file n (omega (arith, c.requires.file)) c.index_mut-lane.ensures.value in
     let ds = worker_views c.args.workers.now.items in
-    let out = step_close g.S.Tail.takes first ns ds c.args.hub.now events c.args.file c.in-End.items n c.next.new.self t at c.in-End.ensures.heard in
+    let out = step_close g.S.Tail.takes first ns ds c.args.hub.now events c.args.file c.in-End.items n c.next.new.self t at c.in-End.ensures.polled in
     let now : List (Event g.row.S-Out.Denot) = events ++ Close c.args.file c.in-End.items ∷ [] in
     ((now, step_stops g.S.Tail.takes g.S.Tail.refuses first (feed_views (set ns c.args.file c.next.new.self)) ds c.args.hub.now c.close.new.self.tail now out.1 (c.in-Err-close.ensures.handed first events t.handed out.0) out.2), tt)
 
@@ -119,7 +119,7 @@ returns-in-TooMany-clause-turn g c first events t =
     let n = c.index_mut-lane.result.now in
     let at = get_or_place ns c.args.file n (omega (arith, c.requires.file)) c.index_mut-lane.ensures.value in
     let ds = worker_views c.args.workers.now.items in
-    ((events, step_halts g.S.Tail.takes g.S.Tail.refuses first ns ds ds c.args.hub.now events c.args.file n c.next.new.self t at c.in-TooMany.ensures.heard (workers_same ds)), tt)
+    ((events, step_halts g.S.Tail.takes g.S.Tail.refuses first ns ds ds c.args.hub.now events c.args.file n c.next.new.self t at c.in-TooMany.ensures.polled (workers_same ds)), tt)
 
 pub returns-in-Fault-clause-lanes : goal.returns-in-Fault-clause-lanes
 returns-in-Fault-clause-lanes g c =
@@ -131,10 +131,10 @@ returns-in-Fault-clause-turn g c first events t =
     let n = c.index_mut-lane.result.now in
     let at = get_or_place ns c.args.file n (omega (arith, c.requires.file)) c.index_mut-lane.ensures.value in
     let ds = worker_views c.args.workers.now.items in
-    let more = prefix_by (feed_view n).told (feed_view c.next.new.self).told _ c.in-Fault.ensures.heard in (
+    let more = prefix_by (feed_view n).told (feed_view c.next.new.self).told _ c.in-Fault.ensures.polled in (
       (events, step_halts g.S.Tail.takes g.S.Tail.refuses first ns ds ds c.args.hub.now events c.args.file n c.next.new.self t at more (workers_same ds)),
       subst (λ e. BlamesTold (told_in (feed_views (set ns c.args.file c.next.new.self))) e) (sym c.feed_fault.ensures)
-          (step_blames ns c.args.file n c.next.new.self c.in-Fault.fault at c.in-Fault.ensures.heard),
+          (step_blames ns c.args.file n c.next.new.self c.in-Fault.fault at c.in-Fault.ensures.polled),
     )
 
 pub returns-then-is_far-clause-turn : goal.returns-then-is_far-clause-turn

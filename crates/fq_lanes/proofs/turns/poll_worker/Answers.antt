@@ -6,7 +6,7 @@ use Rattle.fq_lanes.specs.declared.events.Event.TheVariants.{Offer}
 use Rattle.fq_lanes.proofs.LaneLemmas.{worker_received}
 use Rattle.fq_lanes.proofs.BesideLemmas.{get_or_place}
 use Rattle.fq_lanes.proofs.HubStepLemmas.{worker_grows, step_on, step_stops, step_idle, step_offer, step_fails}
-use Rattle.fq_lanes.proofs.turns.hear_worker.Goals as goal
+use Rattle.fq_lanes.proofs.turns.poll_worker.Goals as goal
 
 pub offer-requires : goal.offer-requires
 offer-requires g c =

@@ -3,7 +3,7 @@ use Rattle.fq_lanes.specs.WorkerLanes.{worker_names, worker_views}
 use Rattle.fq_lanes.specs.HubView.{FeedView}
 use Rattle.fq_lanes.specs.Turns.{InTurn}
 use Rattle.fq_lanes.specs.declared.events.Event.{Event}
-use Rattle.fq_lanes.proofs.turns.hear_workers.Given as goal
+use Rattle.fq_lanes.proofs.turns.poll_workers.Given as goal
 
 abbrev pub invariant-loop-worker : goal.invariant-loop-worker
 invariant-loop-worker g l = record {

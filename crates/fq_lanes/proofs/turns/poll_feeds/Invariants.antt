@@ -3,7 +3,7 @@ use Rattle.fq_lanes.specs.WorkerLanes.{worker_names, worker_views}
 use Rattle.fq_lanes.specs.FeedLane.{feed_names, feed_views}
 use Rattle.fq_lanes.specs.Turns.{InTurn}
 use Rattle.fq_lanes.specs.declared.events.Event.{Event}
-use Rattle.fq_lanes.proofs.turns.hear_feeds.Given as goal
+use Rattle.fq_lanes.proofs.turns.poll_feeds.Given as goal
 
 abbrev pub invariant-loop-file : goal.invariant-loop-file
 invariant-loop-file g l = record {
