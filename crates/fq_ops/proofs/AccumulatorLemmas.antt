@@ -10,8 +10,8 @@ use Rattle.std.proofs.lemmas.List.{length-set, length-replicate, map-append}
 use Rattle.std.proofs.lemmas.List.Sums.{fold-append}
 use Rattle.fq_column.specs.declared.cells.Cell.{Cell}
 use Rattle.fq_ops.specs.Accumulated.{numbers_along, padded, stepped_along, stepped_at}
-use Rattle.fq_ops.specs.declared.running.Function.{Function}
-use Rattle.fq_ops.specs.declared.running.Function.TheVariants as function
+use Rattle.fq_ops.specs.declared.aggregates.Function.{Function}
+use Rattle.fq_ops.specs.declared.aggregates.Function.TheVariants as function
 use Rattle.fq_ops.specs.Group.{same_key}
 use Rattle.fq_ops.specs.Running.{Running, Sum, Min, Max, Count, Len, First, Last, NUnique, IsBoundedBy, finished, start_of, stepped}
 use Rattle.fq_ops.proofs.GroupLemmas.{length-insert_key, position-within}

@@ -10,17 +10,19 @@ use Rattle.fq_column.specs.declared.cells.Kind.{Kind}
 use Rattle.fq_column.specs.declared.cells.Kind.TheVariants as kind
 use Rattle.fq_column.specs.declared.faults.StepFault.{StepFault}
 use Rattle.fq_column.specs.Cell.{cell_cmp, fits, fitted, has_kind, is_null, same_cell}
-use Rattle.fq_column.specs.Frame.{Fields, Name, Row, column_at, names_of, position_of, row_fits, same_name, value_at, value_named}
+use Rattle.fq_column.specs.Frame.{Fields, Name, Row, column_at, has_name, names_of, position_of, row_fits, same_name, value_at, value_named}
 use Rattle.fq_column.specs.Refusal.{and_then}
 use Rattle.fq_column.specs.Schema.{kind_named}
-use Rattle.fq_ops.specs.Aggregate.{Aggregate, sum_of, min_of, max_of, count_of, len, first_of_all, last_of_all, unique_of, aggregated, count, first_seen, greatest, int_sum, least, values, wholes}
+use Rattle.fq_ops.specs.declared.aggregates.Function.{Function}
+use Rattle.fq_ops.specs.declared.aggregates.Function.TheVariants as function
+use Rattle.fq_ops.specs.Aggregate.{Aggregate, len, over, aggregated, count, first_seen, int_sum, value_of, values, wholes}
 use Rattle.fq_ops.specs.Gathered.{place_named, running_of}
-use Rattle.fq_ops.specs.Group.{aggregate_kind, must_be_whole}
+use Rattle.fq_ops.specs.Group.{aggregate_kind, kind_over, must_be_whole}
 use Rattle.fq_ops.specs.Running.{finished}
 use Rattle.fq_column.proofs.NameLemmas.{position-here, position-past, unnamed}
 use Rattle.fq_ops.proofs.JudgedFieldLemmas.{TellsName, tells-name}
 use Rattle.fq_ops.proofs.ProbeLemmas.{AllIn, AllIn-map}
-use Rattle.fq_ops.proofs.RunningLemmas.{best-all, count-finished, first-finished, last-finished, len-finished, max-finished, min-finished, sum-finished, unique-finished}
+use Rattle.fq_ops.proofs.RunningLemmas.{all-finished, best-all, len-finished}
 
 -- ---- the column of a name
 
@@ -57,27 +59,21 @@ named-fits (f ∷ fields) n k known (c ∷ row) e = by (same_name n f.0) refl (�
 
 -- ---- running values are aggregates
 
-then-known : {X Y : Type 0} (r : Result X StepFault) (next : X → Result Y StepFault) (y : Y) → and_then r next ≡ Ok y → (x : X) × (r ≡ Ok x)
-then-known (Ok x) next y e = (x, refl)
+then-known : {X Y : Type 0} (r : Result X StepFault) (next : X → Result Y StepFault) (y : Y) → and_then r next ≡ Ok y → (x : X) × (r ≡ Ok x) × (next x ≡ Ok y)
+then-known (Ok x) next y e = (x, refl, e)
 then-known (Err f) next y e = absurd (cc)
 
+-- the column of an aggregate that has a kind is there
+pub column-known : (fields : Fields) (f : Function) (n : Name) (k : Kind) → aggregate_kind fields (over f n) ≡ Ok k → has_name (names_of fields) n ≡ true
+column-known fields f n k e =
+    let known = then-known (kind_named fields n) (kind_over f) k e in
+    subst (TellsName fields n) known.1 (tells-name fields n)
+
 pub running-is : (fields : Fields) (a : Aggregate) (k : Kind) → aggregate_kind fields a ≡ Ok k → (rows : List Row) → finished (running_of fields a rows) ≡ aggregated fields a rows
-running-is fields (sum_of n) k e rows =
-    let known = then-known (kind_named fields n) must_be_whole k e in
-    sum-finished (column_at (place_named fields n) rows) ∙ ap (λ cells. fitted (int_sum (wholes cells))) (column-named fields n known.0 known.1 rows)
-running-is fields (min_of n) k e rows = min-finished (column_at (place_named fields n) rows) ∙ ap (λ cells. Some (least cells)) (column-named fields n k e rows)
-running-is fields (max_of n) k e rows = max-finished (column_at (place_named fields n) rows) ∙ ap (λ cells. Some (greatest cells)) (column-named fields n k e rows)
-running-is fields (count_of n) k e rows =
-    let known = then-known (kind_named fields n) _ k e in
-    count-finished (column_at (place_named fields n) rows) ∙ ap (λ cells. Some (count (values cells))) (column-named fields n known.0 known.1 rows)
 running-is fields len k e rows = len-finished (column_at 0 rows) ∙ ap (λ m. Some (Whole (pos m))) (length-map rows (value_at 0))
-running-is fields (first_of_all n) k e rows = first-finished (column_at (place_named fields n) rows) ∙ ap (λ cells. Some (get_or cells 0 Null)) (column-named fields n k e rows)
-running-is fields (last_of_all n) k e rows =
-    last-finished (column_at (place_named fields n) rows) ∙ ap (λ m. Some (get_or (column_at (place_named fields n) rows) (m - 1) Null)) (length-map rows (value_at (place_named fields n)))
-    ∙ ap (λ cells. Some (get_or cells (length rows - 1) Null)) (column-named fields n k e rows)
-running-is fields (unique_of n) k e rows =
-    let known = then-known (kind_named fields n) _ k e in
-    unique-finished (column_at (place_named fields n) rows) ∙ ap (λ cells. Some (count (first_seen same_cell cells))) (column-named fields n known.0 known.1 rows)
+running-is fields (over f n) k e rows =
+    let known = then-known (kind_named fields n) (kind_over f) k e in
+    all-finished f (column_at (place_named fields n) rows) ∙ ap (value_of f) (column-named fields n known.0 known.1 rows)
 
 -- ---- aggregates are of their kinds
 
@@ -116,31 +112,33 @@ whole-only kind.Whole k e = let same : Ok kind.Whole ≡ Ok k = e in cc
 whole-only kind.Text k e = absurd (cc)
 whole-only kind.Truth k e = absurd (cc)
 
-then-whole : (r : Result Kind StepFault) (k : Kind) → and_then r (λ j. Ok kind.Whole) ≡ Ok k → k ≡ kind.Whole
-then-whole (Ok j) k e = let same : Ok kind.Whole ≡ Ok k = e in cc
-then-whole (Err f) k e = absurd (cc)
+same-kind : (j k : Kind) → ◌≡◌ {A = Result Kind StepFault} (Ok j) (Ok k) → j ≡ k
+same-kind j k e = cc
 
-then-must : (r : Result Kind StepFault) (k : Kind) → and_then r must_be_whole ≡ Ok k → k ≡ kind.Whole
-then-must (Ok j) k e = whole-only j k e
-then-must (Err f) k e = absurd (cc)
+whole-fits : (k : Kind) (c : Cell) → k ≡ kind.Whole → has_kind kind.Whole c ≡ true → has_kind k c ≡ true
+whole-fits k c e h = ap (λ l. has_kind l c) e ∙ h
+
+module _ (j k : Kind) (cells : List Cell) (fit : AllIn (Fitting j) cells) where
+  same-fit : ◌≡◌ {A = Result Kind StepFault} (Ok j) (Ok k) → AllIn (Fitting k) cells
+  same-fit e = subst (λ l. AllIn (Fitting l) cells) (same-kind j k e) fit
+
+  -- what a function makes of cells of a kind is of the function's kind over it
+  value-fits : (f : Function) → kind_over f j ≡ Ok k → has_kind k (unwrap_or (value_of f cells) Null) ≡ true
+  value-fits function.Sum e = whole-fits k (unwrap_or (fitted (int_sum (wholes cells))) Null) (whole-only j k e) (fitted-fits (int_sum (wholes cells)))
+  value-fits function.Min e = ap (has_kind k) (sym (best-all (λ a b. is_lt (cell_cmp a b)) cells)) ∙ picked-fits (λ a b. is_lt (cell_cmp a b)) k Null cells refl (same-fit e)
+  value-fits function.Max e = ap (has_kind k) (sym (best-all (λ a b. is_gt (cell_cmp a b)) cells)) ∙ picked-fits (λ a b. is_gt (cell_cmp a b)) k Null cells refl (same-fit e)
+  value-fits function.Count e = whole-fits k (count (values cells)) (sym (same-kind kind.Whole k e)) refl
+  value-fits function.Len e = whole-fits k (count cells) (sym (same-kind kind.Whole k e)) refl
+  value-fits function.First e = fitting-at k cells (same-fit e) 0
+  value-fits function.Last e = fitting-at k cells (same-fit e) (length cells - 1)
+  value-fits function.NUnique e = whole-fits k (count (first_seen same_cell cells)) (sym (same-kind kind.Whole k e)) refl
 
 module _ (fields : Fields) (rows : List Row) (fit : AllIn (λ row. row_fits fields row ≡ true) rows) where
   column-fits : (n : Name) (k : Kind) → kind_named fields n ≡ Ok k → AllIn (Fitting k) (map (value_named fields n) rows)
   column-fits n k e = AllIn-map (Fitting k) (λ row. row_fits fields row ≡ true) (value_named fields n) (λ row h. named-fits fields n k e row h) rows fit
 
-  whole-fits : (k : Kind) (c : Cell) → k ≡ kind.Whole → has_kind kind.Whole c ≡ true → has_kind k c ≡ true
-  whole-fits k c e h = ap (λ l. has_kind l c) e ∙ h
-
   pub aggregated-fits : (a : Aggregate) (k : Kind) → aggregate_kind fields a ≡ Ok k → has_kind k (unwrap_or (aggregated fields a rows) Null) ≡ true
-  aggregated-fits (sum_of n) k e = whole-fits k (unwrap_or (aggregated fields (sum_of n) rows) Null) (then-must (kind_named fields n) k e) (fitted-fits (int_sum (wholes (map (value_named fields n) rows))))
-  aggregated-fits (min_of n) k e =
-      let cells = map (value_named fields n) rows in
-      ap (has_kind k) (sym (best-all (λ a b. is_lt (cell_cmp a b)) cells)) ∙ picked-fits (λ a b. is_lt (cell_cmp a b)) k Null cells refl (column-fits n k e)
-  aggregated-fits (max_of n) k e =
-      let cells = map (value_named fields n) rows in
-      ap (has_kind k) (sym (best-all (λ a b. is_gt (cell_cmp a b)) cells)) ∙ picked-fits (λ a b. is_gt (cell_cmp a b)) k Null cells refl (column-fits n k e)
-  aggregated-fits (count_of n) k e = whole-fits k (unwrap_or (aggregated fields (count_of n) rows) Null) (then-whole (kind_named fields n) k e) refl
-  aggregated-fits len k e = let same : Ok kind.Whole ≡ Ok k = e in let is : k ≡ kind.Whole = cc in whole-fits k (unwrap_or (aggregated fields len rows) Null) is refl
-  aggregated-fits (first_of_all n) k e = fitting-at k (map (value_named fields n) rows) (column-fits n k e) 0
-  aggregated-fits (last_of_all n) k e = fitting-at k (map (value_named fields n) rows) (column-fits n k e) (length rows - 1)
-  aggregated-fits (unique_of n) k e = whole-fits k (unwrap_or (aggregated fields (unique_of n) rows) Null) (then-whole (kind_named fields n) k e) refl
+  aggregated-fits len k e = whole-fits k (count rows) (sym (same-kind kind.Whole k e)) refl
+  aggregated-fits (over f n) k e =
+      let known = then-known (kind_named fields n) (kind_over f) k e in
+      value-fits known.0 k (map (value_named fields n) rows) (column-fits n known.0 known.1) f known.2

@@ -11,7 +11,7 @@ use Rattle.fq_column.specs.declared.cells.Kind.TheVariants.{Whole}
 use Rattle.fq_column.specs.Column.{Cells}
 use Rattle.fq_column.specs.Frame.{value_at}
 use Rattle.fq_column.specs.Lists.{first_missing, numbers}
-use Rattle.fq_ops.specs.declared.running.Function.TheVariants as function
+use Rattle.fq_ops.specs.declared.aggregates.Function.TheVariants as function
 use Rattle.fq_ops.specs.Accumulated.{Accumulated, first_found, group_pick, group_picks, key_pick, value_pick}
 use Rattle.fq_ops.specs.Picks.{Pick, column_of, columns_of}
 use Rattle.fq_ops.specs.Running.{Len, of_kind, outcome}

@@ -9,8 +9,10 @@ use Rattle.fq_column.specs.declared.cells.Cell.TheVariants.{Null, Whole, Text, T
 use Rattle.fq_column.specs.Cell.{is_null, cell_cmp, fitted, same_cell}
 use Rattle.fq_column.specs.Column.{nullable}
 use Rattle.fq_column.specs.Frame.{value_at}
-use Rattle.fq_ops.specs.Aggregate.{wholes, int_sum, values, least, greatest, count, first_seen}
-use Rattle.fq_ops.specs.Running.{Sum, Min, Max, Count, Len, First, Last, NUnique, addend, lesser, greater, stepped, finished}
+use Rattle.fq_ops.specs.declared.aggregates.Function.{Function}
+use Rattle.fq_ops.specs.declared.aggregates.Function.TheVariants as function
+use Rattle.fq_ops.specs.Aggregate.{wholes, int_sum, value_of, values, least, greatest, count, first_seen}
+use Rattle.fq_ops.specs.Running.{Sum, Min, Max, Count, Len, First, Last, NUnique, addend, lesser, greater, start_of, stepped, finished}
 use Rattle.fq_ops.proofs.GroupLemmas.{first_seen-push, same_cell_laws}
 
 -- ---- what a cell that is not a whole number adds
@@ -33,7 +35,7 @@ sum-along total (Whole n ∷ cells) = sum-along (total +ℤ n) cells
 sum-along total (Text t ∷ cells) = ap (λ t. fold stepped (Sum t) cells) (add-none total) ∙ sum-along total cells
 sum-along total (Truth b ∷ cells) = ap (λ t. fold stepped (Sum t) cells) (add-none total) ∙ sum-along total cells
 
-pub sum-finished : (cells : List Cell) → finished (fold stepped (Sum (pos 0)) cells) ≡ fitted (int_sum (wholes cells))
+sum-finished : (cells : List Cell) → finished (fold stepped (Sum (pos 0)) cells) ≡ fitted (int_sum (wholes cells))
 sum-finished cells = ap finished (sum-along (pos 0) cells)
 
 len-along : (n : ℕ) (cells : List Cell) → fold stepped (Len n) cells ≡ Len (n + length cells)
@@ -52,7 +54,7 @@ count-along n (c ∷ cells) = by (is_null c) refl (count-along n cells) (count-a
     by true e same more = ap (λ b. fold stepped (Count (if b then n else n + 1)) cells) e ∙ same ∙ sym (ap (λ b. Count (n + length (cond (not b) (c ∷ values cells) (values cells)))) e)
     by false e same more = ap (λ b. fold stepped (Count (if b then n else n + 1)) cells) e ∙ more ∙ ap Count (let e : n + 1 + length (values cells) ≡ n + suc (length (values cells)) = omega arith in e) ∙ sym (ap (λ b. Count (n + length (cond (not b) (c ∷ values cells) (values cells)))) e)
 
-pub count-finished : (cells : List Cell) → finished (fold stepped (Count 0) cells) ≡ Some (count (values cells))
+count-finished : (cells : List Cell) → finished (fold stepped (Count 0) cells) ≡ Some (count (values cells))
 count-finished cells = ap finished (count-along 0 cells) ∙ ap (λ n. Some (Whole (pos n))) (let e : 0 + length (values cells) ≡ length (values cells) = omega arith in e)
 
 -- ---- the least and the greatest
@@ -99,10 +101,10 @@ max-along : (best : Cell) (cells : List Cell) → fold stepped (Max best) cells 
 max-along best [] = refl
 max-along best (c ∷ cells) = max-along (greater best c) cells
 
-pub min-finished : (cells : List Cell) → finished (fold stepped (Min Null) cells) ≡ Some (least cells)
+min-finished : (cells : List Cell) → finished (fold stepped (Min Null) cells) ≡ Some (least cells)
 min-finished cells = ap finished (min-along Null cells) ∙ ap Some (best-all (λ a b. is_lt (cell_cmp a b)) cells)
 
-pub max-finished : (cells : List Cell) → finished (fold stepped (Max Null) cells) ≡ Some (greatest cells)
+max-finished : (cells : List Cell) → finished (fold stepped (Max Null) cells) ≡ Some (greatest cells)
 max-finished cells = ap finished (max-along Null cells) ∙ ap Some (best-all (λ a b. is_gt (cell_cmp a b)) cells)
 
 -- ---- the first and the last
@@ -111,7 +113,7 @@ first-along : (first : Cell) (cells : List Cell) → fold stepped (First (Some f
 first-along first [] = refl
 first-along first (c ∷ cells) = first-along first cells
 
-pub first-finished : (cells : List Cell) → finished (fold stepped (First None) cells) ≡ Some (slice_index_or cells 0 Null)
+first-finished : (cells : List Cell) → finished (fold stepped (First None) cells) ≡ Some (slice_index_or cells 0 Null)
 first-finished [] = refl
 first-finished (c ∷ cells) = ap finished (first-along c cells)
 
@@ -119,7 +121,7 @@ last-along : (last : Cell) (cells : List Cell) → fold stepped (Last last) cell
 last-along last [] = refl
 last-along last (c ∷ cells) = last-along c cells
 
-pub last-finished : (cells : List Cell) → finished (fold stepped (Last Null) cells) ≡ Some (slice_index_or cells (length cells - 1) Null)
+last-finished : (cells : List Cell) → finished (fold stepped (Last Null) cells) ≡ Some (slice_index_or cells (length cells - 1) Null)
 last-finished [] = refl
 last-finished (c ∷ cells) = ap finished (last-along c cells) ∙ ap (λ i. Some (slice_index_or (c ∷ cells) i Null)) (let e : length cells ≡ suc (length cells) - 1 = omega arith in e)
 
@@ -132,5 +134,17 @@ unique-along before (c ∷ cells) =
     ∙ unique-along (before ++ c ∷ []) cells
     ∙ ap (λ l. NUnique (first_seen same_cell l)) (append_assoc before (c ∷ []) cells)
 
-pub unique-finished : (cells : List Cell) → finished (fold stepped (NUnique []) cells) ≡ Some (count (first_seen same_cell cells))
+unique-finished : (cells : List Cell) → finished (fold stepped (NUnique []) cells) ≡ Some (count (first_seen same_cell cells))
 unique-finished cells = ap finished (unique-along [] cells)
+
+-- ---- each function
+
+pub all-finished : (f : Function) (cells : List Cell) → finished (fold stepped (start_of f) cells) ≡ value_of f cells
+all-finished function.Sum cells = sum-finished cells
+all-finished function.Min cells = min-finished cells
+all-finished function.Max cells = max-finished cells
+all-finished function.Count cells = count-finished cells
+all-finished function.Len cells = len-finished cells
+all-finished function.First cells = first-finished cells
+all-finished function.Last cells = last-finished cells
+all-finished function.NUnique cells = unique-finished cells

@@ -7,8 +7,8 @@ use Rattle.fq_column.specs.declared.cells.Kind.{Kind}
 use Rattle.fq_column.specs.declared.cells.Kind.TheVariants.{Whole}
 use Rattle.fq_column.specs.Frame.{Row, column_at, value_at}
 use Rattle.fq_column.specs.Lists.{first_missing, numbers}
-use Rattle.fq_ops.specs.declared.running.Function.{Function}
-use Rattle.fq_ops.specs.declared.running.Function.TheVariants as function
+use Rattle.fq_ops.specs.declared.aggregates.Function.{Function}
+use Rattle.fq_ops.specs.declared.aggregates.Function.TheVariants as function
 use Rattle.fq_ops.specs.declared.accumulators.States.{States}
 use Rattle.fq_ops.specs.declared.accumulators.States.TheVariants.{Sum as Sums, Min as Leasts, Max as Greatests, Count as Counts, Len as Lens, First as Firsts, Last as Lasts, NUnique as NUniques}
 use Rattle.fq_ops.specs.Group.{same_key}

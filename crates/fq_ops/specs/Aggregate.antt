@@ -6,16 +6,13 @@ use Rattle.fq_column.specs.declared.cells.Cell.{Cell}
 use Rattle.fq_column.specs.declared.cells.Cell.TheVariants.{Null, Whole}
 use Rattle.fq_column.specs.Cell.{fitted, is_null, cell_cmp, same_cell}
 use Rattle.fq_column.specs.Frame.{Fields, Name, Row, value_named}
+use Rattle.fq_ops.specs.declared.aggregates.Function.{Function}
+use Rattle.fq_ops.specs.declared.aggregates.Function.TheVariants as function
 
+-- the number of a group's rows, or a function of their cells in a column
 pub data Aggregate : Type 0 where
-  sum_of : Name → Aggregate
-  min_of : Name → Aggregate
-  max_of : Name → Aggregate
-  count_of : Name → Aggregate
   len : Aggregate
-  first_of_all : Name → Aggregate
-  last_of_all : Name → Aggregate
-  unique_of : Name → Aggregate
+  over : Function → Name → Aggregate
 
 -- an output's name and its aggregate
 abbrev pub Output : Type 0
@@ -50,13 +47,18 @@ greatest cells = unwrap_or (reduce (λ a b. if is_gt (cell_cmp b a) then b else 
 abbrev pub count : {X : Type 0} → List X → Cell
 count xs = Whole (pos (length xs))
 
+-- what a function makes of cells, or none if a sum does not fit 64 bits
+abbrev pub value_of : Function → List Cell → Option Cell
+value_of function.Sum cells = fitted (int_sum (wholes cells))
+value_of function.Min cells = Some (least cells)
+value_of function.Max cells = Some (greatest cells)
+value_of function.Count cells = Some (count (values cells))
+value_of function.Len cells = Some (count cells)
+value_of function.First cells = Some (slice_index_or cells 0 Null)
+value_of function.Last cells = Some (slice_index_or cells (length cells - 1) Null)
+value_of function.NUnique cells = Some (count (first_seen same_cell cells))
+
 -- the aggregate of the rows of a group, or none if a sum does not fit 64 bits
 abbrev pub aggregated : Fields → Aggregate → List Row → Option Cell
-aggregated fields (sum_of n) rows = fitted (int_sum (wholes (map (value_named fields n) rows)))
-aggregated fields (min_of n) rows = Some (least (map (value_named fields n) rows))
-aggregated fields (max_of n) rows = Some (greatest (map (value_named fields n) rows))
-aggregated fields (count_of n) rows = Some (count (values (map (value_named fields n) rows)))
 aggregated fields len rows = Some (count rows)
-aggregated fields (first_of_all n) rows = Some (slice_index_or (map (value_named fields n) rows) 0 Null)
-aggregated fields (last_of_all n) rows = Some (slice_index_or (map (value_named fields n) rows) (length rows - 1) Null)
-aggregated fields (unique_of n) rows = Some (count (first_seen same_cell (map (value_named fields n) rows)))
+aggregated fields (over f n) rows = value_of f (map (value_named fields n) rows)

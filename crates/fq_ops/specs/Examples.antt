@@ -10,9 +10,10 @@ use Rattle.fq_column.specs.Lists.{before_missing, first_missing}
 use Rattle.fq_column.specs.Stream.{Stream, done}
 use Rattle.fq_ops.specs.declared.joins.How.{How}
 use Rattle.fq_ops.specs.declared.joins.How.TheVariants.{Inner, Left, Semi, Anti}
+use Rattle.fq_ops.specs.declared.aggregates.Function.TheVariants as function
 use Rattle.fq_ops.specs.Group.{group_schema, grouped}
 use Rattle.fq_ops.specs.Join.{join_schema, join_rows}
-use Rattle.fq_ops.specs.Aggregate.{sum_of, min_of, max_of, count_of, len, first_of_all, last_of_all, unique_of, Output}
+use Rattle.fq_ops.specs.Aggregate.{len, over, Output}
 use Rattle.fq_ops.specs.Roll.{roll_schema, rolled, roll_rows}
 
 abbrev pub most : Cell
@@ -43,7 +44,7 @@ abbrev pub gv : Fields
 gv = int g ∷ int v ∷ []
 
 abbrev pub sum_item : List Output
-sum_item = (codes "s", sum_of v) ∷ []
+sum_item = (codes "s", over function.Sum v) ∷ []
 
 -- a group's sum is judged as a whole
 abbrev pub file_up : List Row
@@ -68,19 +69,19 @@ GroupExamples = grouped kv (k ∷ []) ((codes "n", len) ∷ sum_item)
     ≡ Ok ((t (codes "b") ∷ n 2 ∷ n 6 ∷ []) ∷ (Null ∷ n 2 ∷ n 12 ∷ []) ∷ (t (codes "a") ∷ n 1 ∷ n 3 ∷ []) ∷ [])
 
 abbrev pub all_items : List Output
-all_items = (codes "s", sum_of v) ∷ (codes "lo", min_of v) ∷ (codes "hi", max_of v) ∷ (codes "c", count_of v) ∷ (codes "n", len) ∷ (codes "f", first_of_all v) ∷ (codes "l", last_of_all v) ∷ (codes "u", unique_of v) ∷ []
+all_items = (codes "s", over function.Sum v) ∷ (codes "lo", over function.Min v) ∷ (codes "hi", over function.Max v) ∷ (codes "c", over function.Count v) ∷ (codes "n", len) ∷ (codes "f", over function.First v) ∷ (codes "l", over function.Last v) ∷ (codes "u", over function.NUnique v) ∷ []
 
 abbrev pub AggregateExamples : Type 0
 AggregateExamples = (grouped gv (g ∷ []) all_items ((n 1 ∷ Null ∷ []) ∷ (n 1 ∷ Null ∷ []) ∷ [])
     ≡ Ok ((n 1 ∷ n 0 ∷ Null ∷ Null ∷ n 0 ∷ n 2 ∷ Null ∷ Null ∷ n 1 ∷ []) ∷ []))
-    × (grouped kv (k ∷ []) ((codes "u", unique_of v) ∷ (codes "hi", max_of v) ∷ [])
+    × (grouped kv (k ∷ []) ((codes "u", over function.NUnique v) ∷ (codes "hi", over function.Max v) ∷ [])
     ((t (codes "a") ∷ n 1 ∷ []) ∷ (t (codes "b") ∷ Null ∷ []) ∷ (t (codes "a") ∷ n 1 ∷ []) ∷ (t (codes "b") ∷ n 4 ∷ []) ∷ [])
     ≡ Ok ((t (codes "a") ∷ n 1 ∷ n 1 ∷ []) ∷ (t (codes "b") ∷ n 2 ∷ n 4 ∷ []) ∷ []))
 
 abbrev pub GroupSchemaExamples : Type 0
 GroupSchemaExamples = (group_schema kv [] sum_item ≡ Err NoColumn)
-    × (group_schema kv (k ∷ []) ((codes "s", sum_of k) ∷ []) ≡ Err WrongKind)
-    × (group_schema kv (k ∷ []) ((k, sum_of v) ∷ []) ≡ Err DoubleName)
+    × (group_schema kv (k ∷ []) ((codes "s", over function.Sum k) ∷ []) ≡ Err WrongKind)
+    × (group_schema kv (k ∷ []) ((k, over function.Sum v) ∷ []) ≡ Err DoubleName)
     × (group_schema kv (k ∷ []) sum_item ≡ Ok (txt k ∷ int (codes "s") ∷ []))
 
 -- joins

@@ -5,10 +5,10 @@ use Rattle.fq_column.specs.declared.cells.Cell.{Cell}
 use Rattle.fq_column.specs.Frame.{Fields, Name, Row, column_at, names_of, position_of, row_fits}
 use Rattle.fq_ops.specs.declared.groups.GroupFault.{GroupFault}
 use Rattle.fq_ops.specs.declared.groups.GroupFault.TheVariants.{SumRange, Memory}
-use Rattle.fq_ops.specs.declared.running.Function.{Function}
-use Rattle.fq_ops.specs.declared.running.Function.TheVariants as function
+use Rattle.fq_ops.specs.declared.aggregates.Function.{Function}
+use Rattle.fq_ops.specs.declared.aggregates.Function.TheVariants as function
 use Rattle.fq_ops.specs.Accumulated.{Accumulated, IsAccumulator}
-use Rattle.fq_ops.specs.Aggregate.{Aggregate, Output, sum_of, min_of, max_of, count_of, len, first_of_all, last_of_all, unique_of}
+use Rattle.fq_ops.specs.Aggregate.{Aggregate, Output, len, over}
 use Rattle.fq_ops.specs.Fields.{AreAt}
 use Rattle.fq_ops.specs.Group.{group_of, group_schema, grouped_fields, keys_of_rows}
 use Rattle.fq_ops.specs.Running.{Running, start_of, stepped}
@@ -26,14 +26,8 @@ pub record Gathered : Type 0 where
 
 -- the function of an aggregate
 abbrev pub function_of : Aggregate → Function
-function_of (sum_of n) = function.Sum
-function_of (min_of n) = function.Min
-function_of (max_of n) = function.Max
-function_of (count_of n) = function.Count
 function_of len = function.Len
-function_of (first_of_all n) = function.First
-function_of (last_of_all n) = function.Last
-function_of (unique_of n) = function.NUnique
+function_of (over f n) = f
 
 -- the place of a name, or 0
 abbrev pub place_named : Fields → Name → ℕ
@@ -41,14 +35,8 @@ place_named fields name = unwrap_or (position_of name (names_of fields)) 0
 
 -- the place of the column of an aggregate, or 0 if it reads none
 abbrev pub place_of : Fields → Aggregate → ℕ
-place_of fields (sum_of n) = place_named fields n
-place_of fields (min_of n) = place_named fields n
-place_of fields (max_of n) = place_named fields n
-place_of fields (count_of n) = place_named fields n
 place_of fields len = 0
-place_of fields (first_of_all n) = place_named fields n
-place_of fields (last_of_all n) = place_named fields n
-place_of fields (unique_of n) = place_named fields n
+place_of fields (over f n) = place_named fields n
 
 -- an aggregate with no group yet
 abbrev pub fresh : Fields → Output → Accumulated

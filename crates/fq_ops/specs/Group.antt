@@ -14,22 +14,29 @@ use Rattle.fq_column.specs.Lists.{is_distinct, all_or_missing}
 use Rattle.fq_column.specs.Refusal.{refuse_if, unless_refused, and_then}
 use Rattle.fq_column.specs.Schema.{kind_named}
 use Rattle.fq_column.specs.Stream.{Stream, whole_on}
+use Rattle.fq_ops.specs.declared.aggregates.Function.{Function}
+use Rattle.fq_ops.specs.declared.aggregates.Function.TheVariants as function
 use Rattle.fq_ops.specs.Fields.{Judged, refusals, settled}
-use Rattle.fq_ops.specs.Aggregate.{Aggregate, sum_of, min_of, max_of, count_of, len, first_of_all, last_of_all, unique_of, Output, aggregated, first_seen}
+use Rattle.fq_ops.specs.Aggregate.{Aggregate, len, over, Output, aggregated, first_seen}
 
 abbrev pub must_be_whole : Kind → Result Kind StepFault
 must_be_whole k = unless_refused (refuse_if (not (same_kind k Whole)) WrongKind ∷ []) Whole
 
+-- the kind of what a function makes of the cells of a column of this kind
+abbrev pub kind_over : Function → Kind → Result Kind StepFault
+kind_over function.Sum k = must_be_whole k
+kind_over function.Min k = Ok k
+kind_over function.Max k = Ok k
+kind_over function.Count k = Ok Whole
+kind_over function.Len k = Ok Whole
+kind_over function.First k = Ok k
+kind_over function.Last k = Ok k
+kind_over function.NUnique k = Ok Whole
+
 -- the kind of an aggregate
 abbrev pub aggregate_kind : Fields → Aggregate → Result Kind StepFault
-aggregate_kind fields (sum_of n) = and_then (kind_named fields n) must_be_whole
-aggregate_kind fields (min_of n) = kind_named fields n
-aggregate_kind fields (max_of n) = kind_named fields n
-aggregate_kind fields (count_of n) = and_then (kind_named fields n) (λ k. Ok Whole)
 aggregate_kind fields len = Ok Whole
-aggregate_kind fields (first_of_all n) = kind_named fields n
-aggregate_kind fields (last_of_all n) = kind_named fields n
-aggregate_kind fields (unique_of n) = and_then (kind_named fields n) (λ k. Ok Whole)
+aggregate_kind fields (over f n) = and_then (kind_named fields n) (kind_over f)
 
 -- the keys' columns, then the aggregates'
 abbrev pub grouped_names : List Name → List Output → List Name

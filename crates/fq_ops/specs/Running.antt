@@ -6,8 +6,8 @@ use Rattle.fq_column.specs.declared.cells.Kind.{Kind}
 use Rattle.fq_column.specs.declared.cells.Cell.{Cell}
 use Rattle.fq_column.specs.declared.cells.Cell.TheVariants.{Null, Whole, Text, Truth}
 use Rattle.fq_column.specs.Cell.{is_null, cell_cmp, fitted, has_kind, same_cell}
-use Rattle.fq_ops.specs.declared.running.Function.{Function}
-use Rattle.fq_ops.specs.declared.running.Function.TheVariants as function
+use Rattle.fq_ops.specs.declared.aggregates.Function.{Function}
+use Rattle.fq_ops.specs.declared.aggregates.Function.TheVariants as function
 use Rattle.fq_ops.specs.Aggregate.{count}
 use Rattle.fq_ops.specs.Sums.{IsWithin}
 

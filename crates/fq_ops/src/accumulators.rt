@@ -5,11 +5,28 @@ ghost use Rattle.fq_ops.specs.Accumulated.{IsAccumulator, accumulated, function_
 ghost use Rattle.fq_ops.specs.Picks.{column_of};
 ghost use Rattle.fq_ops.specs.Running.{IsBoundedBy, start_of};
 
-use crate::running::{Function, State};
+use crate::aggregates::Function;
+use crate::running::State;
 use crate::states::{Count, Distinct, First, Greatest, Last, Least, RowCount, Sum};
 use fq_column::{Batch, Cell, Column, Kind, Memory};
 use std::alloc::Global;
 use std::marker::Model;
+
+// What an expression makes of the running values, whatever their function.
+macro_rules! for_each_function {
+    ($states:expr, $values:ident => $made:expr) => {
+        match $states {
+            States::Sum($values) => $made,
+            States::Min($values) => $made,
+            States::Max($values) => $made,
+            States::Count($values) => $made,
+            States::Len($values) => $made,
+            States::First($values) => $made,
+            States::Last($values) => $made,
+            States::NUnique($values) => $made,
+        }
+    };
+}
 
 /// An aggregate function of a column, and its running value in each group.
 #[derive(Drop)]
@@ -88,16 +105,7 @@ impl Accumulator {
         requires { All (IsBoundedBy (2 ^ 40)) self.now.states }
         ensures { IfOk result (λ column. column ≡ column_of (numbers (length self.now.states)) (value_pick kind self.now)) }
     {
-        match &self.states {
-            States::Sum(states) => gather(alloc, kind, states),
-            States::Min(states) => gather(alloc, kind, states),
-            States::Max(states) => gather(alloc, kind, states),
-            States::Count(states) => gather(alloc, kind, states),
-            States::Len(states) => gather(alloc, kind, states),
-            States::First(states) => gather(alloc, kind, states),
-            States::Last(states) => gather(alloc, kind, states),
-            States::NUnique(states) => gather(alloc, kind, states),
-        }
+        for_each_function!(&self.states, states => gather(alloc, kind, states))
     }
 }
 
@@ -136,16 +144,7 @@ impl States {
         ensures taken { OnOk result (running_in self.new ≡ grown_and_stepped groups numbers.now column.now.cells (function_in self.old) (running_in self.old)) }
         ensures bounded { OnOk result ((n : ℕ) → All (IsBoundedBy n) (running_in self.old) → All (IsBoundedBy (n + length numbers.now)) (running_in self.new)) }
     {
-        match self {
-            States::Sum(states) => take(alloc, states, column, numbers, groups),
-            States::Min(states) => take(alloc, states, column, numbers, groups),
-            States::Max(states) => take(alloc, states, column, numbers, groups),
-            States::Count(states) => take(alloc, states, column, numbers, groups),
-            States::Len(states) => take(alloc, states, column, numbers, groups),
-            States::First(states) => take(alloc, states, column, numbers, groups),
-            States::Last(states) => take(alloc, states, column, numbers, groups),
-            States::NUnique(states) => take(alloc, states, column, numbers, groups),
-        }
+        for_each_function!(self, states => take(alloc, states, column, numbers, groups))
     }
 }
 

@@ -1,24 +1,53 @@
 //! Aggregates of a group.
+ghost use Rattle.std.specs.Prelude.{◌≡◌};
+ghost use Rattle.fq_ops.specs.Group.{kind_over};
 
-/// An aggregate of a named column's cells in a group, or the number of the group's rows.
-#[derive(Debug, Drop)]
-pub enum What {
+use fq_column::{Kind, StepFault};
+
+/// What an aggregate makes of the cells of a column in a group.
+#[derive(Clone, Copy, Debug, PartialEq, Eq)]
+pub enum Function {
     /// The sum of the whole numbers; nulls are skipped, and it is 0 if there is no value.
-    Sum(String),
+    Sum,
     /// The least value; nulls are skipped, and it is null if there is no value.
-    Min(String),
+    Min,
     /// The greatest value; nulls are skipped, and it is null if there is no value.
-    Max(String),
+    Max,
     /// The number of values that are not null.
-    Count(String),
-    /// The number of rows.
+    Count,
+    /// The number of cells, null or not.
     Len,
     /// The first row's cell, null included.
-    First(String),
+    First,
     /// The last row's cell, null included.
-    Last(String),
+    Last,
     /// The number of distinct values, null counted as one.
-    NUnique(String),
+    NUnique,
+}
+
+impl Function {
+    /// The kind of its value over a column of this kind. `WrongKind` for a sum of what is not a whole number.
+    pub fn kind_over(self, kind: Kind) -> Result<Kind, StepFault>
+        ensures { result ≡ kind_over self kind }
+    {
+        match self {
+            Function::Sum => match kind {
+                Kind::Whole => Ok(Kind::Whole),
+                _ => Err(StepFault::WrongKind),
+            },
+            Function::Count | Function::Len | Function::NUnique => Ok(Kind::Whole),
+            Function::Min | Function::Max | Function::First | Function::Last => Ok(kind),
+        }
+    }
+}
+
+/// An aggregate of a group.
+#[derive(Debug, Drop)]
+pub enum What {
+    /// The number of rows.
+    Len,
+    /// What a function makes of the cells of the column with this name.
+    Of(Function, String),
 }
 
 /// An aggregate and the name of its output.

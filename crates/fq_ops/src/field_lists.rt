@@ -1,6 +1,6 @@
 //! The fields of a schema to be.
-ghost use Rattle.std.specs.Prelude.{◌≡◌, ◌<◌, ◌++◌, [], ◌∷◌, Some, All, map, length, string_bytes, IfOk, IfErr, OnOk, slice_get};
-ghost use Rattle.fq_column.specs.Frame.{IsSchema, has_name, names_of};
+ghost use Rattle.std.specs.Prelude.{◌≡◌, ◌<◌, ◌++◌, [], ◌∷◌, Some, All, true, map, length, string_bytes, IfOk, IfErr, OnOk};
+ghost use Rattle.fq_column.specs.Frame.{IsSchema, has_name, names_of, position_of};
 ghost use Rattle.fq_column.specs.Refusal.{unless_refused};
 ghost use Rattle.fq_column.specs.Schema.{schema_checks};
 ghost use Rattle.fq_ops.specs.Fields.{AreAt, with_kind};
@@ -93,6 +93,18 @@ pub fn copy_name(alloc: Global, name: &str) -> Result<String, StepFault>
     String::from_str(alloc, name).map_err(|_| StepFault::Memory)
 }
 
+/// The place of the column with this name.
+pub fn place_of(schema: &Schema, name: &str) -> usize
+    requires { has_name (names_of schema.now) name.now ≡ true }
+    ensures place { Some result ≡ position_of name.now (names_of schema.now) }
+    ensures within { result < length schema.now }
+{
+    match schema.position(name) {
+        Some(place) => place,
+        None => unreachable!(),
+    }
+}
+
 /// The places of named columns.
 pub fn positions(alloc: Global, schema: &Schema, names: &[String]) -> Result<Vec<usize>, Memory>
     requires { AllPass (has_name (names_of schema.now)) (map string_bytes names.now) }
@@ -101,10 +113,7 @@ pub fn positions(alloc: Global, schema: &Schema, names: &[String]) -> Result<Vec
 {
     let mut places = Vec::with_capacity(alloc, names.len())?;
     for name in names {
-        match schema.position(name.as_str()) {
-            Some(place) => places.push(place)?,
-            None => unreachable!(),
-        }
+        places.push(place_of(schema, name.as_str()))?;
     }
     Ok(places)
 }

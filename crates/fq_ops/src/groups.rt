@@ -1,24 +1,25 @@
 //! Groups of rows over batches that come one after another.
 ghost use Rattle.std.specs.Prelude.{◌≡◌, ◌+◌, ◌-◌, ◌<◌, ◌≤◌, ◌^◌, ◌++◌, ℕ, List, [], All, true, false, length, map, string_bytes, Ok, Err, IfOk, IfErr, IfSome, IsOk, OnOk, OnErr};
 ghost use Rattle.indexmap.specs.IndexSet.{insert_all};
+ghost use Rattle.fq_column.specs.declared.cells.Kind.{Kind as KindData};
 ghost use Rattle.fq_column.specs.Frame.{IsFrame, Name, Row, kinds_of};
 ghost use Rattle.fq_column.specs.Lists.{numbers};
 ghost use Rattle.fq_ops.specs.Accumulated.{IsAccumulator, accumulated, first_found, group_picks, key_pick, numbers_along, out_of_range_in};
 ghost use Rattle.fq_ops.specs.Aggregate.{Output};
-ghost use Rattle.fq_ops.specs.Gathered.{HasTakenRows, IsFaultOf, fresh, function_of, place_named, place_of};
-ghost use Rattle.fq_ops.specs.Group.{group_schema as judged_grouping, grouped, grouped_fields, same_key};
+ghost use Rattle.fq_ops.specs.Gathered.{HasTakenRows, IsFaultOf, fresh, function_of, place_of as place_in};
+ghost use Rattle.fq_ops.specs.Group.{aggregate_kind, group_schema as judged_grouping, grouped, grouped_fields, same_key};
 ghost use Rattle.fq_ops.specs.Grouping.{key_at};
 ghost use Rattle.fq_ops.specs.AggregateData.{aggregate_of, outputs_of};
 ghost use Rattle.fq_ops.specs.Picks.{column_of, columns_of};
 ghost use Rattle.fq_ops.specs.Running.{IsBoundedBy};
 
 use crate::accumulators::Accumulator;
-use crate::aggregates::{Agg, What};
-use crate::field_lists::positions;
+use crate::aggregates::{Agg, Function, What};
+use crate::field_lists::{place_of, positions};
 use crate::index::number_of;
 use crate::keys::Key;
 use crate::output_schemas::group_schema;
-use crate::running::{Function, push_cell};
+use crate::running::push_cell;
 use fq_column::{Batch, Column, Kind, Memory, Schema};
 use indexmap::IndexSet;
 use std::alloc::Global;
@@ -188,7 +189,8 @@ impl Grouper {
 
 // An accumulator with no group for each aggregate.
 fn accumulators_of(alloc: Global, schema: &Schema, aggs: &[Agg]) -> Result<Vec<Accumulator>, Memory>
-    requires { 1 ≤ length schema.now }
+    requires some { 1 ≤ length schema.now }
+    requires known { All (λ o. (k : KindData) × (aggregate_kind schema.now o.1 ≡ Ok k)) (outputs_of aggs.now) }
     ensures made { IfOk result (λ all. all.items ≡ map (fresh schema.now) (outputs_of aggs.now)) }
     ensures columns { IfOk result (λ all. All (λ a. a.column < length schema.now) all.items) }
 {
@@ -202,30 +204,16 @@ fn accumulators_of(alloc: Global, schema: &Schema, aggs: &[Agg]) -> Result<Vec<A
 
 // The function of an aggregate and the place of its column, or 0 if it reads none.
 fn resolve(schema: &Schema, what: &What) -> (Function, usize)
-    requires { 1 ≤ length schema.now }
+    requires some { 1 ≤ length schema.now }
+    requires known { (k : KindData) × (aggregate_kind schema.now (aggregate_of what.now) ≡ Ok k) }
     ensures function { result.0 ≡ function_of (aggregate_of what.now) }
-    ensures column { result.1 ≡ place_of schema.now (aggregate_of what.now) }
+    ensures column { result.1 ≡ place_in schema.now (aggregate_of what.now) }
     ensures within { result.1 < length schema.now }
 {
     match what {
-        What::Sum(name) => (Function::Sum, place_of_name(schema, name.as_str())),
-        What::Min(name) => (Function::Min, place_of_name(schema, name.as_str())),
-        What::Max(name) => (Function::Max, place_of_name(schema, name.as_str())),
-        What::Count(name) => (Function::Count, place_of_name(schema, name.as_str())),
         What::Len => (Function::Len, 0),
-        What::First(name) => (Function::First, place_of_name(schema, name.as_str())),
-        What::Last(name) => (Function::Last, place_of_name(schema, name.as_str())),
-        What::NUnique(name) => (Function::NUnique, place_of_name(schema, name.as_str())),
+        What::Of(function, name) => (*function, place_of(schema, name.as_str())),
     }
-}
-
-// The place of a named column, or 0.
-fn place_of_name(schema: &Schema, name: &str) -> usize
-    requires { 1 ≤ length schema.now }
-    ensures place { result ≡ place_named schema.now name.now }
-    ensures within { result < length schema.now }
-{
-    schema.position(name).unwrap_or(0)
 }
 
 // The numbers of the groups of rows, in the order of first appearance; copies each new key.

@@ -19,7 +19,7 @@ mod running;
 mod states;
 mod sums;
 
-pub use aggregates::{Agg, What};
+pub use aggregates::{Agg, Function, What};
 pub use groups::{GroupFault, Grouper};
 pub use joins::{How, JoinTable, Probed, join_laws};
 pub use output_schemas::{group_schema, join_schema, roll_schema};

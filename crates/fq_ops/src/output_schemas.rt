@@ -1,5 +1,5 @@
 //! Schemas after joins, groupings and rolling sums.
-ghost use Rattle.std.specs.Prelude.{◌≡◌, ◌⊎◌, ◌++◌, None, Some, map, not, string_bytes, IfOk, IfErr, OnOk};
+ghost use Rattle.std.specs.Prelude.{◌≡◌, ◌⊎◌, ◌++◌, None, Some, map, string_bytes, IfOk, IfErr, OnOk};
 ghost use Rattle.fq_column.specs.Frame.{has_name};
 ghost use Rattle.fq_column.specs.Refusal.{first_refusal, IsJudgement};
 ghost use Rattle.fq_column.specs.Schema.{kind_named};
@@ -106,18 +106,8 @@ fn kind_of_aggregate(schema: &Schema, what: &What) -> Result<Kind, StepFault>
     ensures { result ≡ aggregate_kind schema.now (aggregate_of what.now) }
 {
     match what {
-        What::Sum(name) => match schema.kind_of(name.as_str())? {
-            Kind::Whole => Ok(Kind::Whole),
-            _ => Err(StepFault::WrongKind),
-        },
-        What::Count(name) | What::NUnique(name) => {
-            schema.kind_of(name.as_str())?;
-            Ok(Kind::Whole)
-        }
         What::Len => Ok(Kind::Whole),
-        What::Min(name) | What::Max(name) | What::First(name) | What::Last(name) => {
-            schema.kind_of(name.as_str())
-        }
+        What::Of(function, name) => function.kind_over(schema.kind_of(name.as_str())?),
     }
 }
 

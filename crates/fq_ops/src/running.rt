@@ -2,23 +2,10 @@
 ghost use Rattle.std.specs.Prelude.{◌≡◌, ◌+◌, ◌<◌, ◌^◌, ℕ, [], ◌∷◌, ◌++◌, length, OnOk};
 ghost use Rattle.fq_column.specs.Frame.{value_at};
 ghost use Rattle.fq_ops.specs.Running.{Running, IsBoundedBy, of_kind, outcome, start_of, stepped};
-ghost use Rattle.fq_ops.specs.declared.running.Function.{Function};
+ghost use Rattle.fq_ops.specs.declared.aggregates.Function.{Function};
 
 use fq_column::{Cell, Column, Kind, Memory};
 use std::alloc::Global;
-
-/// What an aggregate makes of the cells of a group.
-#[derive(Clone, Copy)]
-pub enum Function {
-    Sum,
-    Min,
-    Max,
-    Count,
-    Len,
-    First,
-    Last,
-    NUnique,
-}
 
 /// The value of an aggregate over the rows of a group so far.
 pub trait State: Drop {

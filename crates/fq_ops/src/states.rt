@@ -1,5 +1,5 @@
 //! Running values of aggregates.
-ghost use Rattle.std.specs.Prelude.{◌≡◌, ◌<◌, length, not, ◌&&◌, ◌||◌, is_some, IfOk, OnOk};
+ghost use Rattle.std.specs.Prelude.{◌≡◌, ◌<◌, length, not, ◌&&◌, ◌||◌, is_some, OnOk};
 ghost use Rattle.std.specs.Ordering.{is_lt, is_gt};
 ghost use Rattle.indexmap.specs.IndexSet.{insert_key};
 ghost use Rattle.fq_column.specs.Cell.{cell_cmp, is_null, same_cell};
@@ -7,7 +7,7 @@ ghost use Rattle.fq_column.specs.Frame.{value_at};
 ghost use Rattle.fq_column.specs.declared.cells.Cell.{Cell as Value};
 ghost use Rattle.fq_ops.specs.Running as state;
 ghost use Rattle.fq_ops.specs.Running.{addend, finished};
-ghost use Rattle.fq_ops.specs.declared.running.Function.{Function};
+ghost use Rattle.fq_ops.specs.declared.aggregates.Function.{Function};
 
 use crate::running::{State, push_cell};
 use fq_column::{Cell, Column, Memory, Values};

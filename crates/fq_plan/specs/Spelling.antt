@@ -12,9 +12,11 @@ use Rattle.fq_expr.specs.declared.expressions.Unary.TheVariants.{Neg, Not, IsNul
 use Rattle.fq_expr.specs.declared.expressions.Binary.{Binary}
 use Rattle.fq_expr.specs.declared.expressions.Binary.TheVariants.{Add, Sub, Mul, FloorDiv, Mod, Eq, Ne, Lt, Le, Gt, Ge, EqMissing, And, Or, FillNull}
 use Rattle.fq_expr.specs.Expression as expr
+use Rattle.fq_ops.specs.declared.aggregates.Function.{Function}
+use Rattle.fq_ops.specs.declared.aggregates.Function.TheVariants as function
 use Rattle.fq_ops.specs.declared.joins.How.{How}
 use Rattle.fq_ops.specs.declared.joins.How.TheVariants.{Inner, Left, Semi, Anti}
-use Rattle.fq_ops.specs.Aggregate.{Aggregate, sum_of, min_of, max_of, count_of, len, first_of_all, last_of_all, unique_of, Output}
+use Rattle.fq_ops.specs.Aggregate.{Aggregate, len, over, Output}
 use Rattle.fq_plan.specs.Parts.{given, only_if, word, name_of, whole, whole_from_to, each_of, with_length, two_items, three_items, pair_of, has_members, member, one_member}
 use Rattle.fq_plan.specs.Plan.{PlanStep, row_wise, join, group_by, rolling_sum, Query}
 use Rattle.fq_run.specs.Sources.{Source}
@@ -86,10 +88,10 @@ join_of Two d =
 abbrev pub row_counts : List (Name × Aggregate)
 row_counts = (codes "len", len) ∷ []
 
-abbrev pub functions : List (Name × (Name → Aggregate))
+abbrev pub functions : List (Name × Function)
 functions =
-    (codes "sum", sum_of) ∷ (codes "min", min_of) ∷ (codes "max", max_of) ∷ (codes "count", count_of)
-    ∷ (codes "first", first_of_all) ∷ (codes "last", last_of_all) ∷ (codes "n_unique", unique_of) ∷ []
+    (codes "sum", function.Sum) ∷ (codes "min", function.Min) ∷ (codes "max", function.Max) ∷ (codes "count", function.Count)
+    ∷ (codes "first", function.First) ∷ (codes "last", function.Last) ∷ (codes "n_unique", function.NUnique) ∷ []
 
 -- [NAME, "len"]
 abbrev pub of_rows : Data × Data → Option Output
@@ -100,7 +102,7 @@ abbrev pub of_column : Data × Data × Data → Option Output
 of_column items =
     given (name_of items.0) (λ name.
     given (name_of items.2) (λ column.
-    option_map (λ f. (name, f column)) (word functions items.1)))
+    option_map (λ f. (name, over f column)) (word functions items.1)))
 
 abbrev pub aggregate : Data → Option Output
 aggregate d = elim (two_items d) [ Some items ↦ of_rows items | None ↦ given (three_items d) of_column ]

@@ -1,7 +1,7 @@
 //! Words of the plan language, as they are written in messages.
 use crate::plans::Version;
 use fq_expr::{Binary, Unary};
-use fq_ops::What;
+use fq_ops::{Function, What};
 use std::fmt;
 use std::fmt::{Display, Formatter, Write};
 
@@ -101,13 +101,21 @@ pub fn binary_word(op: Binary) -> &'static str {
 /// The word of an aggregate, and the column that it is of.
 pub fn aggregate_words(what: &What) -> (&'static str, Option<&str>) {
     match what {
-        What::Len => ("len", None),
-        What::Count(column) => ("count", Some(column.as_str())),
-        What::Sum(column) => ("sum", Some(column.as_str())),
-        What::Min(column) => ("min", Some(column.as_str())),
-        What::Max(column) => ("max", Some(column.as_str())),
-        What::First(column) => ("first", Some(column.as_str())),
-        What::Last(column) => ("last", Some(column.as_str())),
-        What::NUnique(column) => ("n_unique", Some(column.as_str())),
+        What::Len => (function_word(Function::Len), None),
+        What::Of(function, column) => (function_word(*function), Some(column.as_str())),
+    }
+}
+
+// The word of a function.
+fn function_word(function: Function) -> &'static str {
+    match function {
+        Function::Len => "len",
+        Function::Count => "count",
+        Function::Sum => "sum",
+        Function::Min => "min",
+        Function::Max => "max",
+        Function::First => "first",
+        Function::Last => "last",
+        Function::NUnique => "n_unique",
     }
 }

@@ -6,7 +6,8 @@ use Rattle.fq_expr.specs.declared.expressions.Binary.TheVariants.{Mul}
 use Rattle.fq_expr.specs.declared.expressions.Unary.TheVariants.{Not}
 use Rattle.fq_expr.specs.Expression.{column, unary, binary, filter_by, with_columns}
 use Rattle.fq_expr.specs.Front.{NumberedSteps}
-use Rattle.fq_ops.specs.Aggregate.{Output, len, sum_of}
+use Rattle.fq_ops.specs.declared.aggregates.Function.TheVariants as function
+use Rattle.fq_ops.specs.Aggregate.{Output, len, over}
 
 -- the columns of the file
 abbrev pub orders : Fields
@@ -27,4 +28,4 @@ abbrev pub group_keys : List Name
 group_keys = codes "region" ∷ []
 
 abbrev pub group_outputs : List Output
-group_outputs = (codes "orders", len) ∷ (codes "cents", sum_of (codes "cents")) ∷ []
+group_outputs = (codes "orders", len) ∷ (codes "cents", over function.Sum (codes "cents")) ∷ []

@@ -23,7 +23,7 @@ ghost use Rattle.region_totals.specs.declared.Failure.TheVariants as failure;
 use fq_column::{Batch, Kind, Memory, Schema, StepFault};
 use fq_csv::{MAX_ROWS, NullValues, Scan, ScanFault, Scanner, print_frame};
 use fq_expr::{Binary, Expr, Front, Piece, RowFault, RowStep, Unary, steps_of_joined_streams};
-use fq_ops::{Agg, GroupFault, Grouper, What, group_schema};
+use fq_ops::{Agg, Function, GroupFault, Grouper, What, group_schema};
 use std::alloc::Global;
 use std::io;
 use std::io::{Read, Write};
@@ -132,7 +132,7 @@ fn aggregates(alloc: Global) -> Result<Vec<Agg>, Memory>
     };
     let cents = Agg {
         name: name(alloc, "cents")?,
-        what: What::Sum(name(alloc, "cents")?),
+        what: What::Of(Function::Sum, name(alloc, "cents")?),
     };
     Ok(vec![in alloc; orders, cents]?)
 }

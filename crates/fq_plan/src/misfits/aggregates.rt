@@ -1,7 +1,7 @@
 //! Why a value spells no aggregate.
 use crate::misfits::parts::{Explained, Judge};
-use crate::reading::aggregates::of_column;
 use crate::reading::values::{three_items, two_items};
+use crate::reading::words::function as read_function;
 use crate::reasons::{Fit, Segment, within};
 use crate::words::AGGREGATES;
 use fq_ops::Agg;
@@ -20,7 +20,7 @@ impl Explained for Agg {
             return judge.wrong_length(value, form);
         };
         judge.item::<String>(0, name)?;
-        if of_column(function, String::new(judge.alloc)).is_none() {
+        if read_function(function).is_none() {
             let takes = "takes no column: [NAME, \"len\"]";
             let wrong = judge.other_word(function, AGGREGATES, AGGREGATES, takes);
             return within(Segment::Item(1), wrong);

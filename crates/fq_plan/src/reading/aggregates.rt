@@ -4,12 +4,12 @@ ghost use Rattle.serde_json.specs.View.{view};
 ghost use Rattle.fq_ops.specs.Aggregate.{Output};
 ghost use Rattle.fq_ops.specs.AggregateData.{aggregate_of};
 ghost use Rattle.fq_plan.specs.Parts.{word};
-ghost use Rattle.fq_plan.specs.Spelling.{aggregate, row_counts, functions};
+ghost use Rattle.fq_plan.specs.Spelling.{aggregate, row_counts};
 
 use crate::plans::Version;
 use crate::reading::Spelled;
 use crate::reading::values::{three_items, two_items};
-use crate::reading::words::name as read_name;
+use crate::reading::words::{function as read_function, name as read_name};
 use fq_column::Memory;
 use fq_ops::{Agg, What};
 use serde_json::Value;
@@ -39,7 +39,10 @@ impl Spelled for Agg {
         let Some(column) = read_name(alloc, column)? else {
             return Ok(None);
         };
-        Ok(of_column(function, column).map(|what| Agg { name, what }))
+        Ok(read_function(function).map(|function| Agg {
+            name,
+            what: What::Of(function, column),
+        }))
     }
 }
 
@@ -49,22 +52,6 @@ fn of_rows(function: &Value) -> Option<What>
 {
     match function.as_str()? {
         "len" => Some(What::Len),
-        _ => None,
-    }
-}
-
-/// The aggregate of a column that a word names.
-pub fn of_column(function: &Value, column: String) -> Option<What>
-    ensures { option_map aggregate_of result ≡ option_map (λ f. f (string_bytes column)) (word functions (view function.now)) }
-{
-    match function.as_str()? {
-        "sum" => Some(What::Sum(column)),
-        "min" => Some(What::Min(column)),
-        "max" => Some(What::Max(column)),
-        "count" => Some(What::Count(column)),
-        "first" => Some(What::First(column)),
-        "last" => Some(What::Last(column)),
-        "n_unique" => Some(What::NUnique(column)),
         _ => None,
     }
 }

@@ -1,8 +1,8 @@
-//! Words of the plan language: numbers, names, kinds, joins and operations.
+//! Words of the plan language: numbers, names, kinds, joins, functions and operations.
 ghost use Rattle.std.specs.Prelude.{◌≡◌, ℤ, IfOk, option_map, string_bytes};
 ghost use Rattle.serde_json.specs.View.{view};
 ghost use Rattle.fq_plan.specs.Parts.{whole, name_of, word};
-ghost use Rattle.fq_plan.specs.Spelling.{kinds, hows, unaries, binaries};
+ghost use Rattle.fq_plan.specs.Spelling.{kinds, functions, hows, unaries, binaries};
 ghost use Rattle.fq_column.specs.Frame.{Name};
 ghost use Rattle.fq_column.specs.declared.cells.Kind.{Kind as KindData};
 ghost use Rattle.fq_ops.specs.declared.joins.How.{How as HowData};
@@ -11,7 +11,7 @@ use crate::plans::Version;
 use crate::reading::Spelled;
 use fq_column::{Kind, Memory};
 use fq_expr::{Binary, Unary};
-use fq_ops::How;
+use fq_ops::{Function, How};
 use serde_json::Value;
 use std::alloc::Global;
 
@@ -96,6 +96,22 @@ fn how(version: Version, value: &Value) -> Option<How>
         ("left", _) => Some(How::Left),
         ("semi", Version::Two) => Some(How::Semi),
         ("anti", Version::Two) => Some(How::Anti),
+        _ => None,
+    }
+}
+
+/// The function of a column that a word names.
+pub fn function(value: &Value) -> Option<Function>
+    ensures { result ≡ word functions (view value.now) }
+{
+    match value.as_str()? {
+        "sum" => Some(Function::Sum),
+        "min" => Some(Function::Min),
+        "max" => Some(Function::Max),
+        "count" => Some(Function::Count),
+        "first" => Some(Function::First),
+        "last" => Some(Function::Last),
+        "n_unique" => Some(Function::NUnique),
         _ => None,
     }
 }

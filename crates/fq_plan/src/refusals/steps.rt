@@ -4,11 +4,10 @@ use crate::reasons::{Fit, Segment, bail, within};
 use crate::refusals::columns::{explain_column, explain_columns, explain_fault, explain_sum};
 use crate::refusals::expressions::explain_kind;
 use crate::refusals::joins::explain_join;
-use crate::words::aggregate_words;
 use fq_column::{Kind, Schema, StepFault};
 use fq_csv::kind_word;
 use fq_expr::{Expr, RowStep};
-use fq_ops::{Agg, MAX_WINDOW, What, group_schema, join_schema, roll_schema};
+use fq_ops::{Agg, Function, MAX_WINDOW, What, group_schema, join_schema, roll_schema};
 use std::alloc::Global;
 
 /// The schema after a step. The sides are the schemas of the sources before the last.
@@ -120,10 +119,10 @@ fn explain_grouping<T>(
 
 // Nothing if an aggregate has a kind.
 fn explain_aggregate(alloc: Global, schema: &Schema, what: &What) -> Fit {
-    match (what, aggregate_words(what)) {
-        (What::Sum(column), _) => explain_sum(alloc, schema, column.as_str(), "sum: "),
-        (_, (_, Some(column))) => explain_column(alloc, schema, column, ""),
-        (_, (_, None)) => Ok(()),
+    match what {
+        What::Len => Ok(()),
+        What::Of(Function::Sum, column) => explain_sum(alloc, schema, column.as_str(), "sum: "),
+        What::Of(_, column) => explain_column(alloc, schema, column.as_str(), ""),
     }
 }
 

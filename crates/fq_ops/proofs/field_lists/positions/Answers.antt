@@ -1,11 +1,10 @@
-use Rattle.std.proofs.Common.{[], string_bytes, true≢false, sym, ap, ◌∙◌, arith}
+use Rattle.std.proofs.Common.{[], string_bytes, sym, ap, ◌∙◌, arith}
 use Rattle.std.proofs.lemmas.List.{length-map, get_or-map}
 use Rattle.fq_column.specs.Frame.{has_name, names_of}
-use Rattle.fq_column.proofs.NameLemmas.{unnamed}
 use Rattle.fq_ops.proofs.field_lists.positions.Goals as goal
 
-pub unreachable-requires : goal.unreachable-requires
-unreachable-requires c =
+pub place_of-requires : goal.place_of-requires
+place_of-requires c =
     let s = c.args.schema.now in
     let names = c.args.names.now in
     let i = c.loop-name.name-index in
@@ -13,4 +12,4 @@ unreachable-requires c =
     let low = length-map names string_bytes in
     let known = c.requires i [] (omega (arith, low)) in
     let same = get_or-map string_bytes names i name [] (omega arith) ∙ ap string_bytes (sym c.name-item.is) ∙ sym c.as_str.ensures.value in
-    true≢false (sym known ∙ ap (has_name (names_of s)) same ∙ unnamed s c.as_str.result.now (sym c.in-None.ensures))
+    sym (ap (has_name (names_of s)) same) ∙ known

@@ -8,7 +8,7 @@ use Rattle.fq_ops.specs.Accumulated.{Accumulated, IsAccumulator}
 use Rattle.fq_ops.specs.Gathered.{fresh}
 use Rattle.fq_ops.specs.Group.{group_schema, grouped_fields}
 use Rattle.fq_ops.specs.AggregateData.{outputs_of}
-use Rattle.fq_ops.proofs.AcceptedLemmas.{group-known, group-output, group-some, length-grouped, some-column}
+use Rattle.fq_ops.proofs.AcceptedLemmas.{aggregate-kinds, group-known, group-output, group-some, length-grouped, some-column}
 use Rattle.fq_ops.proofs.GatherLemmas.{all-fresh, fresh-empty}
 use Rattle.fq_ops.proofs.PlaceLemmas.{length-places}
 use Rattle.fq_ops.proofs.groups.Grouper.new.Goals as goal
@@ -20,8 +20,11 @@ judged expected s out e (inr h) = absurd (cc)
 pub positions-requires : goal.positions-requires
 positions-requires c = group-known c.args.schema (map string_bytes c.args.keys.now) (outputs_of c.args.aggs.now) c.requires
 
-pub accumulators_of-requires : goal.accumulators_of-requires
-accumulators_of-requires c = some-column c.args.schema (map string_bytes c.args.keys.now) (outputs_of c.args.aggs.now) c.requires
+pub accumulators_of-requires-clause-some : goal.accumulators_of-requires-clause-some
+accumulators_of-requires-clause-some c = some-column c.args.schema (map string_bytes c.args.keys.now) (outputs_of c.args.aggs.now) c.requires
+
+pub accumulators_of-requires-clause-known : goal.accumulators_of-requires-clause-known
+accumulators_of-requires-clause-known c = aggregate-kinds c.args.schema (map string_bytes c.args.keys.now) (outputs_of c.args.aggs.now) c.requires
 
 pub invariant_of-result : goal.invariant_of-result
 invariant_of-result c =
