@@ -6,6 +6,7 @@ use Rattle.csv.specs.declared.parser.State.{State}
 use Rattle.csv.specs.declared.reader.Trim.TheVariants as trim
 use Rattle.fq_csv.specs.File.{Record}
 use Rattle.fq_csv.specs.declared.readers.RecordReader.{RecordReader}
+use Rattle.fq_csv.specs.declared.retrying.Retrying.{Retrying}
 
 -- the records of the bytes that are left, from a state of the parser
 abbrev pub records_left : State → List ℕ → List Record
@@ -15,9 +16,15 @@ records_left s bytes = records_from default_config (length bytes + 1) s bytes
 abbrev pub IsPlain : {R : Type 0} → RecordReader R → Type 0
 IsPlain r = (reader_trim r.reader ≡ trim.None) × Ready r.reader × (reader_config r.reader ≡ default_config)
 
--- these are the records that a reader has left, by what its source has left
-abbrev pub HasLeft : {R : Type 0} → (R → Option (List ℕ)) → RecordReader R → List Record → Type 0
-HasLeft remaining r rs = (bytes : List ℕ) × (source_of remaining r.reader ≡ Some bytes) × (rs ≡ records_left (reader_state r.reader) bytes)
+-- by what a source has left
+module _ {R : Type 0} (remaining : R → Option (List ℕ)) where
+  -- what it has left if its reads are tried again
+  abbrev pub retried : Retrying R → Option (List ℕ)
+  retried s = remaining s.reader
+
+  -- these are the records that a reader of it has left
+  abbrev pub HasLeft : RecordReader R → List Record → Type 0
+  HasLeft r rs = (bytes : List ℕ) × (source_of retried r.reader ≡ Some bytes) × (rs ≡ records_left (reader_state r.reader) bytes)
 
 -- the same, of a reader of a text
 abbrev pub TextHasLeft : RecordReader (Bor (List ℕ)) → List Record → Type 0

@@ -5,15 +5,17 @@ ghost use Rattle.csv.specs.Records.{fields_of};
 ghost use Rattle.fq_csv.specs.File.{Record};
 ghost use Rattle.fq_csv.specs.Readers.{HasLeft, IsPlain, TextHasLeft};
 
+use crate::retrying::Retrying;
 use csv::{ByteRecord, Error, Reader, ReaderBuilder};
 use fq_column::Memory;
 use std::alloc::Global;
 use std::io::Read;
 
-/// A reader of the records of a file, each with as many fields as it has. The header is the first of them.
+/// A reader of the records of a file, each with as many fields as it has. The header is the first of them. A read that a signal interrupts is
+/// tried again.
 #[derive(Drop)]
 pub struct RecordReader<R> {
-    reader: Reader<R>,
+    reader: Reader<Retrying<R>>,
 }
 
 impl<R: Read> RecordReader<R> {
@@ -28,7 +30,7 @@ impl<R: Read> RecordReader<R> {
         let reader = ReaderBuilder::new()
             .has_headers(false)
             .flexible(true)
-            .from_reader(alloc, bytes);
+            .from_reader(alloc, Retrying { reader: bytes });
         RecordReader { reader }
     }
 

@@ -1,5 +1,5 @@
 //! The next records of a file as a run.
-ghost use Rattle.std.specs.Prelude.{◌≡◌, ◌≤◌, Option, Some, IfOk, IfErr, IsNone};
+ghost use Rattle.std.specs.Prelude.{◌≡◌, Option, Some, IfOk, IfErr, IsNone};
 ghost use Rattle.fq_csv.specs.RecordScan.{IsRunStep};
 ghost use Rattle.fq_csv.specs.Records.{StopsBy};
 ghost use Rattle.fq_csv.specs.Stage.{ending_of};

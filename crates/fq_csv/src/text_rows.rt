@@ -1,10 +1,9 @@
 //! The rows that the records of a text are.
-ghost use Rattle.std.specs.Prelude.{◌≡◌, ◌<◌, ◌≤◌, All, IfNone, IfOk, IfSome, List, MatchBool, OnOk, Ok, [], ◌∷◌, length};
+ghost use Rattle.std.specs.Prelude.{◌≡◌, ◌<◌, ◌≤◌, All, IfNone, IfOk, IfSome, Ok, [], length};
 ghost use Rattle.csv.specs.Reading.{default_config, records, strip_bom};
 ghost use Rattle.csv.specs.Records.{fields_of};
 ghost use Rattle.fq_column.specs.Column.{Cells};
 ghost use Rattle.fq_column.specs.Frame.{Row};
-ghost use Rattle.fq_csv.specs.File.{Record};
 ghost use Rattle.fq_csv.specs.Rows.{Holds, kinds_in, row_by_kinds, with_row};
 ghost use Rattle.fq_csv.specs.TextRows.{HoldsRowsOf, IsNoRow};
 

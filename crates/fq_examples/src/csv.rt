@@ -1,8 +1,7 @@
 //! Files as streams, and frames as text.
-ghost use Rattle.std.specs.Prelude.{◌≡◌, ◌∷◌, [], true, false, codes, pos, negsuc, Some, None, ℕ};
+ghost use Rattle.std.specs.Prelude.{◌≡◌, ◌∷◌, [], true, false, codes, pos, negsuc, Some};
 ghost use Rattle.fq_column.specs.declared.cells.Cell.TheVariants as cell;
 ghost use Rattle.fq_column.specs.declared.cells.Kind.TheVariants as kind;
-ghost use Rattle.fq_column.specs.Frame.{Fields};
 ghost use Rattle.fq_column.specs.Stream.{done, faulted};
 ghost use Rattle.fq_csv.specs.File.{file_stream, plain};
 ghost use Rattle.fq_csv.specs.Printed.{printed};

@@ -1,5 +1,5 @@
 //! The lines of records, and where files are written otherwise than RFC 4180 says.
-ghost use Rattle.std.specs.Prelude.{◌≡◌, ◌∷◌, ◌++◌, [], Some, true, false, codes};
+ghost use Rattle.std.specs.Prelude.{◌≡◌, ◌∷◌, [], Some, true, false, codes};
 ghost use Rattle.fq_places.specs.Marks.{marks_of};
 ghost use Rattle.fq_places.specs.Records.{ends_in_quotes, flaws_of, record_lines};
 ghost use Rattle.fq_places.specs.declared.marks.Flaw.TheVariants as flaw;

@@ -1,11 +1,10 @@
 -- What marks say of the records of a file.
-use Rattle.std.specs.Prelude.{◌≡◌, Bool, true, false, ℕ, List, [], ◌∷◌, Option, Some, is_some, if◌then◌else◌}
+use Rattle.std.specs.Prelude.{Bool, true, false, ℕ, List, [], ◌∷◌, Option, Some, is_some, if◌then◌else◌}
 use Rattle.std.specs.List.{list_any}
-use Rattle.fq_places.specs.Marks.{HasMarks, marks_of}
+use Rattle.fq_places.specs.Marks.{marks_of}
 use Rattle.fq_places.specs.declared.marks.Flaw.{Flaw}
 use Rattle.fq_places.specs.declared.marks.Flaw.TheVariants as flaw
 use Rattle.fq_places.specs.declared.marks.Mark.{Mark}
-use Rattle.fq_places.specs.declared.marks.Marks.{Marks}
 
 -- the lines of the marks at which records begin
 abbrev pub lines_of : List Mark → List ℕ
@@ -28,7 +27,3 @@ is_open_quote _ = false
 -- whether a file ends in quotes that are not closed
 abbrev pub ends_in_quotes : List ℕ → Bool
 ends_in_quotes bytes = list_any (λ (mark : Mark). is_open_quote mark.flaw) (marks_of bytes)
-
--- these are the lines of the records that a reader of marks has left
-abbrev pub HasLines : {R : Type 0} → (R → Option (List ℕ)) → Marks R → List ℕ → Type 0
-HasLines remaining m lines = (marks : List Mark) × HasMarks remaining m marks × (lines ≡ lines_of marks)

@@ -1,11 +1,12 @@
 //! The records of a file with their lines.
-ghost use Rattle.std.specs.Prelude.{◌≡◌, ◌∷◌, [], ℕ, List, Some, IfOk, MatchOption, OnOk};
+ghost use Rattle.std.specs.Prelude.{◌≡◌, ◌∷◌, [], ◌++◌, ℕ, List, Some, IfOk, MatchOption, OnOk};
 ghost use Rattle.csv.specs.Reading.{default_config, records as records_of, strip_bom};
 ghost use Rattle.csv.specs.Records.{fields_of};
 ghost use Rattle.fq_csv.specs.File.{Record};
 ghost use Rattle.fq_csv.specs.Readers.{HasLeft, IsPlain};
-ghost use Rattle.fq_places.specs.Marks.{IsSound};
-ghost use Rattle.fq_places.specs.Records.{HasLines, record_lines};
+ghost use Rattle.fq_places.specs.Marks.{HasMarks, IsSound, marks_of};
+ghost use Rattle.fq_places.specs.Records.{flaws_of, lines_of};
+ghost use Rattle.fq_places.specs.declared.marks.Mark.{Mark as MarkValue};
 
 use crate::marks::{Mark, Marks};
 use crate::unread::Unread;
@@ -31,7 +32,7 @@ impl<A: Read + Drop, B: Read + Drop> LinedRecords<A, B> {
         ensures plain { IfOk result (λ r. IsPlain r.records) }
         ensures sound { IfOk result (λ r. IsSound r.marks) }
         ensures records { IfOk result (λ r. (bytes : List ℕ) → A.remaining records ≡ Some bytes → HasLeft A.remaining r.records (records_of default_config (strip_bom bytes))) }
-        ensures lines { IfOk result (λ r. (bytes : List ℕ) → B.remaining marks ≡ Some bytes → HasLines B.remaining r.marks (record_lines bytes)) }
+        ensures marks { IfOk result (λ r. (bytes : List ℕ) → B.remaining marks ≡ Some bytes → HasMarks B.remaining r.marks (marks_of bytes)) }
     {
         Ok(LinedRecords {
             records: RecordReader::new(alloc, records),
@@ -41,15 +42,17 @@ impl<A: Read + Drop, B: Read + Drop> LinedRecords<A, B> {
         })
     }
 
-    /// Reads the next record, and gives its line, or `None` after the last. `Changed` if the two readers have not as many records.
+    /// Reads the next record, and gives its line, or `None` after the last. `Changed` if the two readers have not as many records. With each
+    /// record, and after the last, come the flaws that were not given before.
     pub fn next(&mut self) -> Result<Option<u64>, Unread>
         requires plain { IsPlain self.old.records }
         requires sound { IsSound self.old.marks }
         ensures plain { OnOk result (IsPlain self.new.records) }
         ensures sound { IsSound self.new.marks }
-        ensures reads { IfOk result (λ line. (rs : List Record) (ls : List ℕ) → HasLeft A.remaining self.old.records rs → HasLines B.remaining self.old.marks ls →
-            MatchOption line ((rs ≡ []) × (ls ≡ [])) (λ l. (r : List Record) × (k : List ℕ) × (rs ≡ fields_of self.new.row ∷ r) × (ls ≡ l ∷ k)
-            × HasLeft A.remaining self.new.records r × HasLines B.remaining self.new.marks k)) }
+        ensures reads { IfOk result (λ line. (rs : List Record) (marks : List MarkValue) → HasLeft A.remaining self.old.records rs → HasMarks B.remaining self.old.marks marks →
+            (rest : List MarkValue) × HasMarks B.remaining self.new.marks rest × (flaws_of marks ≡ self.new.flaws.items ++ flaws_of rest)
+            × MatchOption line ((rs ≡ []) × (lines_of marks ≡ []) × (rest ≡ [])) (λ l. (r : List Record) × (rs ≡ fields_of self.new.row ∷ r)
+            × HasLeft A.remaining self.new.records r × (lines_of marks ≡ l ∷ lines_of rest))) }
     {
         self.flaws.clear();
         let found = self.records.read(&mut self.row)?;

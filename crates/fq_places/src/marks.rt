@@ -167,7 +167,7 @@ impl<R: Read + Drop> Marks<R> {
         requires { IsSound self.old }
         ensures sound { IsSound self.new }
         ensures reads { IfOk result (λ line. (marks : List MarkValue) → HasMarks R.remaining self.old marks → (rest : List MarkValue) × HasMarks R.remaining self.new rest
-            × MatchOption line (lines_of marks ≡ []) (λ l. lines_of marks ≡ l ∷ lines_of rest) × (flaws.old.items ++ flaws_of marks ≡ flaws.new.items ++ flaws_of rest)) }
+            × MatchOption line ((lines_of marks ≡ []) × (rest ≡ [])) (λ l. lines_of marks ≡ l ∷ lines_of rest) × (flaws.old.items ++ flaws_of marks ≡ flaws.new.items ++ flaws_of rest)) }
     {
         for _ in 0..u64::MAX {
             let Some(mark) = self.next()? else {

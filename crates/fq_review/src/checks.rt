@@ -1,5 +1,17 @@
 //! A check of files by the columns of a plan.
-use crate::problems::{BadField, Header, Problem, Width};
+ghost use Rattle.std.specs.Prelude.{◌≡◌, ◌==◌, ◌&&◌, ◌∷◌, [], ℕ, List, Some, false, length, IfOk, MatchOption, OnOk};
+ghost use Rattle.std.specs.Cmp.Lexicographic.{pointwise};
+ghost use Rattle.csv.specs.Reading.{default_config, records as records_of, strip_bom};
+ghost use Rattle.csv.specs.Records.{fields_of};
+ghost use Rattle.fq_column.specs.Frame.{same_name};
+ghost use Rattle.fq_csv.specs.File.{Record};
+ghost use Rattle.fq_csv.specs.Readers.{HasLeft, IsPlain};
+ghost use Rattle.fq_places.specs.Marks.{HasMarks, IsSound, marks_of};
+ghost use Rattle.fq_places.specs.declared.marks.Mark.{Mark as MarkValue};
+ghost use Rattle.fq_review.specs.Checked.{are_rows, is_clean, is_flawless, is_row, layout_of, names_in};
+
+use crate::headers::{Header, has_names};
+use crate::problems::{BadField, Problem, Width};
 use crate::tallies::Tally;
 use csv::ByteRecord;
 use fq_column::{Kind, Memory};
@@ -48,7 +60,9 @@ struct File<'a> {
 
 impl Check {
     /// A check that writes so many lines at most.
-    pub fn new(alloc: Global, limit: u64) -> Check {
+    pub fn new(alloc: Global, limit: u64) -> Check
+        ensures { result.problems ≡ 0 }
+    {
         Check {
             alloc,
             left: limit,
@@ -61,7 +75,9 @@ impl Check {
     }
 
     /// How many problems were found.
-    pub fn problems(&self) -> u64 {
+    pub fn problems(&self) -> u64
+        ensures { result ≡ self.now.problems }
+    {
         self.problems
     }
 
@@ -69,8 +85,9 @@ impl Check {
     /// nothing.
     ///
     /// A problem is a header that is not the columns' names, a row that has more or fewer fields than it, a field that is not a cell of
-    /// its column (`is_cell`), and a flaw. With a header of another width nothing after it is judged. Fails as [`LinedRecords`] does, and if an
-    /// allocation fails.
+    /// its column (`is_cell`), a row past the most that a file may have, and a flaw. With a header of another width nothing after it is
+    /// judged. No problem is counted exactly if the file is read without a fault in each run, and has no flaw. Fails as [`LinedRecords`]
+    /// does, and if an allocation fails.
     pub fn read_file<A: Read + Drop, B: Read + Drop, E: Write>(
         &mut self,
         number: u16,
@@ -79,38 +96,93 @@ impl Check {
         records: A,
         marks: B,
         err: &mut E,
-    ) -> Result<(), Unread> {
+    ) -> Result<(), Unread>
+        ensures judged { OnOk result ((bytes : List ℕ) → A.remaining records ≡ Some bytes → B.remaining marks ≡ Some bytes →
+            (self.new.problems == 0) ≡ ((self.old.problems == 0) && is_clean number (layout_of expected.entry.columns.now expected.entry.nulls.now) bytes)) }
+    {
         let file = File {
             number,
             name,
             expected,
         };
         let mut records = LinedRecords::new(self.alloc, records, marks)?;
-        for row in 0..=u64::from(MAX_ROWS) {
-            let line = records.next()?;
-            self.tell_flaws(file, records.flaws.as_slice(), err);
-            let Some(line) = line else {
-                if row == 0 {
-                    self.tell(file, 1, Problem::NoHeader, err);
-                }
+        self.judge_file(file, &mut records, err)
+    }
+
+    // Judges the records of a file.
+    fn judge_file<A: Read + Drop, B: Read + Drop, E: Write>(
+        &mut self,
+        file: File<'_>,
+        records: &mut LinedRecords<A, B>,
+        err: &mut E,
+    ) -> Result<(), Unread>
+        requires plain { IsPlain records.old.records }
+        requires sound { IsSound records.old.marks }
+        ensures judged { OnOk result ((bytes : List ℕ) → HasLeft A.remaining records.old.records (records_of default_config (strip_bom bytes)) →
+            HasMarks B.remaining records.old.marks (marks_of bytes) → (self.new.problems == 0)
+            ≡ ((self.old.problems == 0) && is_clean file.entry.number (layout_of file.entry.expected.columns.now file.entry.expected.nulls.now) bytes)) }
+    {
+        let Some(line) = self.next_line(file, records, err)? else {
+            self.tell(file, 1, Problem::NoHeader, err);
+            return Ok(());
+        };
+        if self.judge_header(file, line, &records.row, err) {
+            return self.judge_rows(file, records, err);
+        }
+        self.next_line(file, records, err)?;
+        Ok(())
+    }
+
+    // Judges the records after the header of a file.
+    fn judge_rows<A: Read + Drop, B: Read + Drop, E: Write>(
+        &mut self,
+        file: File<'_>,
+        records: &mut LinedRecords<A, B>,
+        err: &mut E,
+    ) -> Result<(), Unread>
+        requires plain { IsPlain records.old.records }
+        requires sound { IsSound records.old.marks }
+        ensures judged { OnOk result ((rs : List Record) (marks : List MarkValue) → HasLeft A.remaining records.old.records rs → HasMarks B.remaining records.old.marks marks →
+            (self.new.problems == 0) ≡ ((self.old.problems == 0) && (are_rows (layout_of file.entry.expected.columns.now file.entry.expected.nulls.now) rs && is_flawless marks))) }
+    {
+        for _ in 0..MAX_ROWS {
+            let Some(line) = self.next_line(file, records, err)? else {
                 return Ok(());
             };
-            if row > 0 {
-                self.judge_row(file, line, &records.row, err)?;
-            } else if !self.judge_header(file, line, &records.row, err) {
-                records.next()?;
-                self.tell_flaws(file, records.flaws.as_slice(), err);
-                return Ok(());
-            }
+            self.judge_row(file, line, &records.row, err)?;
         }
-        if let Some(line) = records.next()? {
+        if let Some(line) = self.next_line(file, records, err)? {
             self.tell(file, line, Problem::TooLong, err);
         }
         Ok(())
     }
 
+    // Reads the next record of a file, and gives its line, or nothing after the last. Tells the flaws that show up to there.
+    fn next_line<A: Read + Drop, B: Read + Drop, E: Write>(
+        &mut self,
+        file: File<'_>,
+        records: &mut LinedRecords<A, B>,
+        err: &mut E,
+    ) -> Result<Option<u64>, Unread>
+        requires plain { IsPlain records.old.records }
+        requires sound { IsSound records.old.marks }
+        ensures plain { OnOk result (IsPlain records.new.records) }
+        ensures sound { OnOk result (IsSound records.new.marks) }
+        ensures told { OnOk result ((self.old.problems == 0) ≡ false → (self.new.problems == 0) ≡ false) }
+        ensures reads { IfOk result (λ line. (rs : List Record) (marks : List MarkValue) → HasLeft A.remaining records.old.records rs → HasMarks B.remaining records.old.marks marks →
+            (rest : List MarkValue) × HasMarks B.remaining records.new.marks rest
+            × (((self.new.problems == 0) && is_flawless rest) ≡ ((self.old.problems == 0) && is_flawless marks))
+            × MatchOption line ((rs ≡ []) × (rest ≡ [])) (λ _. (r : List Record) × (rs ≡ fields_of records.new.row ∷ r) × HasLeft A.remaining records.new.records r)) }
+    {
+        let line = records.next()?;
+        self.tell_flaws(file, records.flaws.as_slice(), err);
+        Ok(line)
+    }
+
     // Tells flaws of a file.
-    fn tell_flaws<E: Write>(&mut self, file: File<'_>, flaws: &[Mark], err: &mut E) {
+    fn tell_flaws<E: Write>(&mut self, file: File<'_>, flaws: &[Mark], err: &mut E)
+        ensures { (self.new.problems == 0) ≡ ((self.old.problems == 0) && is_flawless flaws.now) }
+    {
         for mark in flaws {
             if let Some(flaw) = mark.flaw {
                 self.tell(file, mark.line, Problem::Flaw(flaw), err);
@@ -125,11 +197,14 @@ impl Check {
         line: u64,
         header: &ByteRecord,
         err: &mut E,
-    ) -> bool {
+    ) -> bool
+        ensures told { (self.new.problems == 0) ≡ ((self.old.problems == 0) && pointwise same_name (names_in file.entry.expected.columns.now) (fields_of header.now)) }
+        ensures width { result ≡ (length (fields_of header.now) == length file.entry.expected.columns.now) }
+    {
         let columns = file.expected.columns;
-        let judged = Header { header, columns };
-        if judged.differs() {
-            self.tell(file, line, Problem::Header(judged), err);
+        if !has_names(header, columns) {
+            let differing = Header { header, columns };
+            self.tell(file, line, Problem::Header(differing), err);
         }
         header.len() == columns.len()
     }
@@ -141,7 +216,10 @@ impl Check {
         line: u64,
         row: &ByteRecord,
         err: &mut E,
-    ) -> Result<(), Memory> {
+    ) -> Result<(), Memory>
+        ensures { OnOk result ((self.new.problems == 0) ≡ ((self.old.problems == 0)
+            && is_row (layout_of file.entry.expected.columns.now file.entry.expected.nulls.now) (fields_of row.now))) }
+    {
         let Expected { columns, nulls } = file.expected;
         if row.len() != columns.len() {
             let width = Width {
@@ -151,8 +229,11 @@ impl Check {
             self.tell(file, line, Problem::Width(width), err);
             return Ok(());
         }
-        for (field, (column, kind)) in row.iter().zip(columns.iter()) {
-            let (column, kind) = (column.as_str(), *kind);
+        for place in 0..columns.len() {
+            let Some(field) = row.get(place) else {
+                unreachable!()
+            };
+            let (column, kind) = (columns[place].0.as_str(), columns[place].1);
             if !is_cell(field, kind, nulls) {
                 let bad = BadField {
                     column,
@@ -167,7 +248,9 @@ impl Check {
     }
 
     // Counts a problem, and writes its line.
-    fn tell<E: Write>(&mut self, file: File<'_>, line: u64, problem: Problem<'_>, err: &mut E) {
+    fn tell<E: Write>(&mut self, file: File<'_>, line: u64, problem: Problem<'_>, err: &mut E)
+        ensures { (self.new.problems == 0) ≡ false }
+    {
         self.problems = self.problems.saturating_add(1);
         match problem {
             Problem::NoHeader | Problem::Header(_) => self.headers = self.headers.saturating_add(1),
@@ -182,13 +265,9 @@ impl Check {
     }
 
     // Counts a bad field of a column.
-    fn count(
-        &mut self,
-        file: File<'_>,
-        line: u64,
-        column: &str,
-        field: &[u8],
-    ) -> Result<(), Memory> {
+    fn count(&mut self, file: File<'_>, line: u64, column: &str, field: &[u8]) -> Result<(), Memory>
+        ensures { self.new.problems ≡ self.old.problems }
+    {
         let place = (file.number, line);
         for fields in &mut self.fields {
             if fields.name.as_str() == column {

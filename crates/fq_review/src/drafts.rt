@@ -1,5 +1,6 @@
 //! A plan that files draft.
 use crate::guesses::Guess;
+use crate::headers::has_names;
 use csv::ByteRecord;
 use fq_column::{MAX_COLUMNS, Memory, has_double};
 use fq_csv::{NullValues, kind_word};
@@ -74,14 +75,6 @@ struct Source {
 }
 
 impl Source {
-    // Whether a header has the names of its columns.
-    fn has_header(&self, header: &ByteRecord) -> bool {
-        let columns = self.columns.as_slice();
-        header.len() == columns.len()
-            && columns.iter().enumerate().all(|(place, column)| header.get(place)
-                == Some(column.0.as_bytes()))
-    }
-
     // Whether another has columns of the same names.
     fn is_like(&self, other: &Source) -> bool {
         let (ours, theirs) = (self.columns.as_slice(), other.columns.as_slice());
@@ -150,7 +143,7 @@ impl Draft {
     // Takes the header of a file: it is one more file of the last source, or the first of another.
     fn take_header(&mut self, file: u16, header: &ByteRecord) -> Result<(), DraftFault> {
         if let Some(source) = self.sources.last_mut()
-            && source.has_header(header)
+            && has_names(header, source.columns.as_slice())
         {
             source.files = source.files.saturating_add(1);
             return Ok(());

@@ -7,9 +7,11 @@
 mod checks;
 mod drafts;
 mod guesses;
+mod headers;
 mod problems;
 mod tallies;
 
 pub use checks::{Check, Expected};
 pub use drafts::{Draft, DraftFault};
-pub use problems::{BadField, Header, Width, wanted};
+pub use headers::Header;
+pub use problems::{BadField, Width, wanted};

@@ -1,48 +1,10 @@
-//! What is wrong with a header, a row or a field.
-use csv::ByteRecord;
+//! What is wrong with a row, a field or another place of a file.
+use crate::headers::Header;
 use fq_column::Kind;
 use fq_csv::MAX_ROWS;
 use fq_places::{Flaw, Quoted};
 use std::fmt;
 use std::fmt::{Display, Formatter, Write};
-
-/// A header that is to have the names of these columns. Its text says where it differs.
-#[derive(Clone, Copy)]
-pub struct Header<'a> {
-    pub header: &'a ByteRecord,
-    pub columns: &'a [(String, Kind)],
-}
-
-impl Header<'_> {
-    /// Whether it differs.
-    pub fn differs(self) -> bool {
-        let (header, columns) = (self.header, self.columns);
-        header.len() != columns.len()
-            || columns.iter().enumerate().any(|(place, column)| header.get(place)
-                != Some(column.0.as_bytes()))
-    }
-}
-
-impl Display for Header<'_> {
-    fn fmt<W: Write>(&self, f: &mut Formatter<W>) -> fmt::Result {
-        for (place, column) in self.columns.iter().enumerate() {
-            let name = Quoted(column.0.as_bytes());
-            match self.header.get(place) {
-                None => return write!(f, "column {place} is missing, the plan has {name}"),
-                Some(field) if field != column.0.as_bytes() => {
-                    return write!(
-                        f,
-                        "column {place} is {}, the plan has {name}",
-                        Quoted(field)
-                    );
-                }
-                Some(_) => {}
-            }
-        }
-        let (fields, columns) = (self.header.len(), self.columns.len());
-        write!(f, "it has {fields} columns, the plan has {columns}")
-    }
-}
 
 /// A row with more or fewer fields than the header.
 #[derive(Clone, Copy)]

@@ -7,7 +7,7 @@ pub returns-in_default-clause-reads : goal.returns-in_default-clause-reads
 returns-in_default-clause-reads g c marks left =
     let kept = c.loop.invariant.left marks left in
     let next = rw c.in_default.is at (c.in_ok-mark.ensures.reads kept.0 kept.1) in
-    (next.0, next.1, kept.2 ∙ ap lines_of next.2.0, kept.3 ∙ ap (λ ms. c.loop.flaws.items ++ flaws_of ms) (next.2.0 ∙ sym next.2.1))
+    (next.0, next.1, (kept.2 ∙ ap lines_of next.2.0, next.2.1), kept.3 ∙ ap (λ ms. c.loop.flaws.items ++ flaws_of ms) (next.2.0 ∙ sym next.2.1))
 
 pub returns-then-mark-clause-reads : goal.returns-then-mark-clause-reads
 returns-then-mark-clause-reads g c marks left =
