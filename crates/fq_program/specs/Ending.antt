@@ -8,14 +8,14 @@ use Rattle.fq_plan.specs.declared.faults.PlanFault.TheVariants as plan
 use Rattle.fq_program.specs.declared.failures.Failure.{Failure}
 use Rattle.fq_review.specs.declared.drafts.DraftFault.{DraftFault}
 use Rattle.fq_review.specs.declared.drafts.DraftFault.TheVariants as draft
-use Rattle.fq_program.specs.declared.failures.Failure.TheVariants.{Words, InputTwice, PlanFile, Plan, Check, Run, Problems, Draft, DraftTooLarge}
+use Rattle.fq_program.specs.declared.failures.Failure.TheVariants.{Arguments, InputTwice, PlanFile, Plan, Check, Run, Problems, Draft, DraftTooLarge}
 use Rattle.fq_program.specs.declared.status.Status.{Status}
-use Rattle.fq_program.specs.declared.status.Status.TheVariants.{Done, BadWords, BadPlan, BadFile, BadDevice, NoMemory}
+use Rattle.fq_program.specs.declared.status.Status.TheVariants.{Done, BadArguments, BadPlan, BadFile, BadDevice, NoMemory}
 
 -- the status of a run's fault
 abbrev pub status_of_fault : Fault → Status
-status_of_fault (Inputs wanted got) = BadWords
-status_of_fault Setting = BadWords
+status_of_fault (Inputs wanted got) = BadArguments
+status_of_fault Setting = BadArguments
 status_of_fault Memory = NoMemory
 status_of_fault (Read file) = BadDevice
 status_of_fault Write = BadDevice
@@ -27,8 +27,8 @@ status_of_refusal refusal = elim refusal.code [ code.Memory ↦ NoMemory | _ ↦
 
 -- the status of a failure
 abbrev pub status_of : Failure → Status
-status_of Words = BadWords
-status_of InputTwice = BadWords
+status_of Arguments = BadArguments
+status_of InputTwice = BadArguments
 status_of PlanFile = BadDevice
 status_of (Plan plan.Memory) = NoMemory
 status_of (Plan fault) = BadPlan
@@ -38,7 +38,7 @@ status_of Problems = BadFile
 status_of (Draft draft.Memory) = NoMemory
 status_of (Draft (draft.Read file)) = BadDevice
 status_of (Draft fault) = BadFile
-status_of DraftTooLarge = BadWords
+status_of DraftTooLarge = BadArguments
 
 -- a refusal of the check as a failure of the program: a failed allocation has one name, wherever it was
 abbrev pub refused : CheckFault → Failure
@@ -57,7 +57,7 @@ IsOutside failure = (status_of failure ≡ BadDevice) ⊎ (status_of failure ≡
 -- the numbers of the statuses
 abbrev pub number_of : Status → ℕ
 number_of Done = 0
-number_of BadWords = 2
+number_of BadArguments = 2
 number_of BadPlan = 3
 number_of BadFile = 4
 number_of BadDevice = 5
@@ -65,9 +65,6 @@ number_of NoMemory = 6
 
 abbrev pub done : ℕ
 done = number_of Done
-
-abbrev pub bad_words : ℕ
-bad_words = number_of BadWords
 
 abbrev pub bad_device : ℕ
 bad_device = number_of BadDevice

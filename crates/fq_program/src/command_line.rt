@@ -14,6 +14,7 @@ use crate::outputs::{Noted, Output};
 use crate::program::checked_plan;
 use crate::reviews::{check_files, draft_plan};
 use crate::status::Status;
+use crate::usage::write_refusal;
 use clap::error::ErrorKind;
 use fq_plan::{Checked, Fault, read_plan};
 use std::alloc::Global;
@@ -42,22 +43,27 @@ pub fn with_words<T: Threads + Wait + Sync, O: Opener, W: Write, E: Write>(
 ) -> u8
     ensures unwritten { result ≢ done → result ≢ bad_device → Keeps (W.contents out.old.writer) (W.contents out.new.writer) }
 {
-    match Options::of_words(alloc, words.as_slice()) {
+    match Options::of_arguments(alloc, words.as_slice()) {
         Ok(options) => run_and_report(rt, alloc, &options, files, out, err),
-        Err(answer) => answer_words(&answer, out, err),
+        Err(answer) => answer_usage(alloc, &answer, out, err),
     }
 }
 
 // Says what is wrong with the arguments on `err`, or writes the text that they ask for to `out`.
-fn answer_words<W: Write, E: Write>(answer: &clap::Error, out: &mut W, err: &mut E) -> u8
+fn answer_usage<W: Write, E: Write>(
+    alloc: Global,
+    answer: &clap::Error,
+    out: &mut W,
+    err: &mut E,
+) -> u8
     ensures unwritten { result ≢ done → result ≢ bad_device → Keeps (W.contents out.old) (W.contents out.new) }
 {
     if answer.kind() == ErrorKind::OutOfMemory {
         return report(Err(Failure::MEMORY), err);
     }
     if answer.use_stderr() {
-        let _ = write!(err, "{answer}");
-        return Status::BadWords as u8;
+        write_refusal(alloc, answer, err);
+        return Status::BadArguments as u8;
     }
     report(
         write!(out, "{answer}").map_err(|_| Failure::Run(Fault::Write)),

@@ -54,7 +54,7 @@ pub fn write_details<O: Opener, E: Write>(
 ) {
     let text = learned.plan.as_slice();
     let _ = match failure {
-        Failure::Words | Failure::Problems | Failure::DraftTooLarge | Failure::Draft(_) => None,
+        Failure::Arguments | Failure::Problems | Failure::DraftTooLarge | Failure::Draft(_) => None,
         Failure::InputTwice => write_inputs(options, err),
         Failure::PlanFile => write_cause(files, options.plan().unwrap_or_default(), err),
         Failure::Plan(_) => write_misfit(alloc, options.plan().unwrap_or_default(), text, err),

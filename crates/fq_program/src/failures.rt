@@ -17,7 +17,7 @@ use thiserror::Error;
 pub enum Failure {
     /// An argument is not valid UTF-8.
     #[error("an argument is not valid UTF-8")]
-    Words,
+    Arguments,
     /// The arguments name standard input more than once.
     #[error("standard input (-) can be read only once")]
     InputTwice,
@@ -53,7 +53,8 @@ impl Failure {
         ensures { result ≡ status_of self }
     {
         match self {
-            Failure::Words | Failure::InputTwice | Failure::DraftTooLarge => Status::BadWords,
+            Failure::Arguments | Failure::InputTwice | Failure::DraftTooLarge =>
+                Status::BadArguments,
             Failure::PlanFile => Status::BadDevice,
             Failure::Plan(PlanFault::Memory) => Status::NoMemory,
             Failure::Plan(_) => Status::BadPlan,
@@ -75,7 +76,7 @@ fn status_of_run(fault: Fault) -> Status
     ensures { result ≡ status_of_fault fault }
 {
     match fault {
-        Fault::Inputs { .. } | Fault::Setting => Status::BadWords,
+        Fault::Inputs { .. } | Fault::Setting => Status::BadArguments,
         Fault::Memory => Status::NoMemory,
         Fault::Read { .. } | Fault::Write => Status::BadDevice,
         _ => Status::BadFile,

@@ -1,6 +1,4 @@
 //! What opens files by name.
-ghost use Rattle.std.specs.Io.{ReadsAtMost};
-
 use crate::outputs::{Output, SystemOutput};
 use crate::progress::{Line, Watched};
 use fq_places::Unread;
@@ -172,27 +170,11 @@ impl<F: Read + OpenFile, I: Read> SystemReader<F, I> {
     }
 }
 
-impl<F: Read, I: Read> SystemReader<F, I> {
-    // Reads once.
-    fn read_once(&mut self, buffer: &mut [u8]) -> io::Result<usize>
-        ensures bound { ReadsAtMost result buffer.new }
-    {
+impl<F: Read, I: Read> Read for SystemReader<F, I> {
+    fn read(&mut self, buffer: &mut [u8]) -> io::Result<usize> {
         match self {
             SystemReader::File(file) => file.read(buffer),
             SystemReader::Input(input) => input.read(buffer),
         }
-    }
-}
-
-/// A read that a signal interrupts is tried again.
-impl<F: Read, I: Read> Read for SystemReader<F, I> {
-    fn read(&mut self, buffer: &mut [u8]) -> io::Result<usize> {
-        for _ in 0..u64::MAX {
-            match self.read_once(buffer) {
-                Err(error) if error.kind() == ErrorKind::Interrupted => {}
-                answer => return answer,
-            }
-        }
-        Err(io::Error::from(ErrorKind::Other))
     }
 }

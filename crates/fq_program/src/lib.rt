@@ -17,6 +17,7 @@ mod program;
 mod progress;
 mod reviews;
 mod status;
+mod usage;
 
 pub use command_line::with_words;
 pub use failures::{Failure, report};

@@ -18,7 +18,7 @@ pub struct Options<'a>(ArgMatches<'a>);
 impl<'a> Options<'a> {
     /// The options that the arguments give; the program's own name is not among these. A request for help or for the version is an
     /// error here, as in `clap`.
-    pub fn of_words(alloc: Global, words: &'a [String]) -> Result<Options<'a>, Error> {
+    pub fn of_arguments(alloc: Global, words: &'a [String]) -> Result<Options<'a>, Error> {
         Ok(Options(command(alloc)?.try_get_matches_from(words)?))
     }
 

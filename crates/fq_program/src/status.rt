@@ -6,7 +6,7 @@ pub enum Status {
     /// The frame, or the text that the arguments ask for, is on the output.
     Done = 0,
     /// Arguments that are refused, or the wrong number of files.
-    BadWords = 2,
+    BadArguments = 2,
     /// No plan, or a plan that is refused.
     BadPlan = 3,
     /// A fault of a file's text, or of a step on its rows.

@@ -1,5 +1,5 @@
 //! Arguments of the program.
-use crate::cases::{fails_by, prints_by};
+use crate::cases::{fails_by, prints_by, writes_by};
 use std::test::Fail;
 
 #[test]
@@ -206,6 +206,46 @@ fn standard_input_as_a_plan_and_as_a_file(rt: HostRuntime) -> Result<(), Fail> {
         2,
         "standard input (-) can be read only once",
     )
+}
+
+#[test]
+fn numbers_that_are_refused(rt: HostRuntime) -> Result<(), Fail> {
+    let alloc = rt.alloc();
+    for (line, argument, range) in [
+        ("--plan plan --batch 0 0", "'0' for '--batch <N>'", "1 to 65536"),
+        (
+            "--plan plan --batch 65537 0",
+            "'65537' for '--batch <N>'",
+            "1 to 65536",
+        ),
+        (
+            "--plan plan --batch=many 0",
+            "'many' for '--batch <N>'",
+            "1 to 65536",
+        ),
+        (
+            "--plan plan --workers 17 0",
+            "'17' for '--workers <N>'",
+            "1 to 16",
+        ),
+        (
+            "--plan plan --workers ': 0",
+            "'':' for '--workers <N>'",
+            "1 to 16",
+        ),
+        (
+            "--plan plan --check --limit ten 0",
+            "'ten' for '--limit <N>'",
+            "0 to 18446744073709551615",
+        ),
+    ] {
+        let text = format!(in alloc;
+            "error: invalid value {argument}: it takes a whole number from {range}\n\nFor more information, try '--help'.\n"
+        )?;
+        let wanted = (2, "", text.as_str());
+        writes_by(&rt, alloc, line, "", &["v\n1\n"], "", wanted)?;
+    }
+    Ok(())
 }
 
 #[test]

@@ -32,6 +32,6 @@ fn words_of(rt: &(impl env::Env + AllocGlobal)) -> Result<Vec<String>, Failure> 
     match env::args(rt) {
         Ok(words) => Ok(words.skip(1).collect(rt.alloc())?),
         Err(error) if error.kind() == ErrorKind::OutOfMemory => Err(Failure::MEMORY),
-        Err(_) => Err(Failure::Words),
+        Err(_) => Err(Failure::Arguments),
     }
 }
