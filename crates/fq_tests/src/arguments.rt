@@ -212,7 +212,11 @@ fn standard_input_as_a_plan_and_as_a_file(rt: HostRuntime) -> Result<(), Fail> {
 fn numbers_that_are_refused(rt: HostRuntime) -> Result<(), Fail> {
     let alloc = rt.alloc();
     for (line, argument, range) in [
-        ("--plan plan --batch 0 0", "'0' for '--batch <N>'", "1 to 65536"),
+        (
+            "--plan plan --batch 0 0",
+            "'0' for '--batch <N>'",
+            "1 to 65536",
+        ),
         (
             "--plan plan --batch 65537 0",
             "'65537' for '--batch <N>'",
