@@ -62,8 +62,10 @@ fn answer_usage<W: Write, E: Write>(
         return report(Err(Failure::MEMORY), err);
     }
     if answer.use_stderr() {
-        write_refusal(alloc, answer, err);
-        return Status::BadArguments as u8;
+        return match write_refusal(alloc, answer, err) {
+            Ok(()) => Status::BadArguments as u8,
+            Err(_) => report(Err(Failure::MEMORY), err),
+        };
     }
     report(
         write!(out, "{answer}").map_err(|_| Failure::Run(Fault::Write)),
