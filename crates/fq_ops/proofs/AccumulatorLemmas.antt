@@ -1,50 +1,35 @@
 -- The running values of groups after more rows.
-use Rattle.std.proofs.Common.{◌≡◌, ℕ, zero, suc, ◌+◌, ◌-◌, ◌*◌, ◌^◌, ◌<◌, ◌≤◌, List, [], ◌∷◌, ◌++◌, Ok, Err, true, drop, fold, get_or, inl, inr, set, length, map, replicate, take, zip, refl, sym, ap, ◌∙◌, arith, append_assoc, length-append}
-use Rattle.std.specs.Prelude.{All, OnOk, Result, is_some}
+use Rattle.std.proofs.Common.{◌≡◌, ℕ, zero, suc, ◌+◌, ◌-◌, ◌<◌, ◌≤◌, List, [], ◌∷◌, ◌++◌, Ok, Err, drop, fold, get_or, inl, inr, set, length, map, replicate, take, zip, refl, sym, ap, subst, ◌∙◌, arith, append_assoc, length-append}
+use Rattle.std.specs.Prelude.{All, OnOk, Result}
 use Rattle.std.specs.List.{position_or_len}
 use Rattle.std.proofs.Math.Seq.{take-suc}
 use Rattle.std.proofs.lemmas.Bool.{cases_lt}
 use Rattle.indexmap.specs.IndexSet.{insert_all, insert_key}
-use Rattle.std.proofs.lemmas.Int.{ints}
 use Rattle.std.proofs.lemmas.List.{length-set, length-replicate, map-append}
+use Rattle.std.proofs.lemmas.List.Elements.{All-append, All-replicate}
 use Rattle.std.proofs.lemmas.List.Sums.{fold-append}
 use Rattle.fq_column.specs.declared.cells.Cell.{Cell}
-use Rattle.fq_ops.specs.Accumulated.{numbers_along, padded, stepped_along, stepped_at}
+use Rattle.fq_ops.specs.Accumulated.{HaveTaken, numbers_along, padded, stepped_along, stepped_at}
 use Rattle.fq_ops.specs.declared.aggregates.Function.{Function}
-use Rattle.fq_ops.specs.declared.aggregates.Function.TheVariants as function
 use Rattle.fq_ops.specs.Group.{same_key}
-use Rattle.fq_ops.specs.Running.{Running, Sum, Min, Max, Count, Len, First, Last, NUnique, IsBoundedBy, finished, start_of, stepped}
+use Rattle.fq_ops.specs.Running.{Running, Len, IsBoundedBy, start_of, stepped}
 use Rattle.fq_ops.proofs.GroupLemmas.{length-insert_key, position-within}
+use Rattle.fq_ops.proofs.RunningLemmas.{IsBoundedBy-more, start-bounded}
 
 -- ---- bounds
-
-more : (n m : ℕ) → n ≤ m → n * 2 ^ 63 ≤ m * 2 ^ 63
-more n m h = omega (arith, h)
-
-pub IsBoundedBy-more : (n m : ℕ) → n ≤ m → (r : Running) → IsBoundedBy n r → IsBoundedBy m r
-IsBoundedBy-more n m h (Sum total) b = record { low = omega (arith, ints, b.low, more n m h); high = omega (arith, ints, b.high, more n m h) }
-IsBoundedBy-more n m h (Min best) b = tt
-IsBoundedBy-more n m h (Max best) b = tt
-IsBoundedBy-more n m h (Count k) b = omega (arith, b, h)
-IsBoundedBy-more n m h (Len k) b = omega (arith, b, h)
-IsBoundedBy-more n m h (First first) b = tt
-IsBoundedBy-more n m h (Last last) b = tt
-IsBoundedBy-more n m h (NUnique cells) b = omega (arith, b, h)
 
 pub all-more : (n m : ℕ) → n ≤ m → (rs : List Running) → All (IsBoundedBy n) rs → All (IsBoundedBy m) rs
 all-more n m h rs all k d low = IsBoundedBy-more n m h (get_or rs k d) (all k d low)
 
-pub all-push : {X : Type 0} (P : X → Type 0) (xs : List X) (y : X) → All P xs → P y → All P (xs ++ y ∷ [])
-all-push P [] y h w zero d low = w
-all-push P [] y h w (suc k) d low = absurd (omega (arith, low))
-all-push P (x ∷ xs) y h w zero d low = h zero d (omega arith)
-all-push P (x ∷ xs) y h w (suc k) d low = all-push P xs y (λ j e b. h (suc j) e (omega (arith, b))) w k d (omega (arith, low))
+-- new groups have taken no row
+pub padded-bounded : (n count : ℕ) (f : Function) (xs : List Running) → All (IsBoundedBy n) xs → All (IsBoundedBy n) (padded count (start_of f) xs)
+padded-bounded n count f xs h =
+    All-append (IsBoundedBy n) xs (replicate (count - length xs) (start_of f)) h (All-replicate (IsBoundedBy n) (count - length xs) (start_of f) (start-bounded n f))
 
--- what was bounded before an earlier step stays so after a later one
-pub bounded-from : {T E : Type 0} (r : Result T E) (count : ℕ) (xs old new : List Running) → ((n : ℕ) → All (IsBoundedBy n) old → All (IsBoundedBy n) new) →
-    OnOk r ((n : ℕ) → All (IsBoundedBy n) new → All (IsBoundedBy (n + count)) xs) → OnOk r ((n : ℕ) → All (IsBoundedBy n) old → All (IsBoundedBy (n + count)) xs)
-bounded-from (Ok x) count xs old new f h = λ n p. h n (f n p)
-bounded-from (Err e) count xs old new f h = tt
+pub taken-padded : {T E : Type 0} (r : Result T E) (count groups : ℕ) (f : Function) (old grown new : List Running) → grown ≡ padded groups (start_of f) old →
+    OnOk r (HaveTaken count grown new) → OnOk r (HaveTaken count old new)
+taken-padded (Ok x) count groups f old grown new e taken = record { bounded = λ n h. taken.bounded n (subst (All (IsBoundedBy n)) (sym e) (padded-bounded n groups f old h)) }
+taken-padded (Err refused) count groups f old grown new e taken = tt
 
 -- ---- one row more
 
@@ -78,25 +63,8 @@ length-stepped states (n ∷ numbers) [] = refl
 length-stepped states (n ∷ numbers) (c ∷ cells) =
     length-stepped (stepped_at states (n, c)) numbers cells ∙ length-set states n (stepped (get_or states n (Len 0)) c)
 
-pub start-bounded : (n : ℕ) (f : Function) → IsBoundedBy n (start_of f)
-start-bounded n function.Sum = record { low = omega (arith, ints); high = omega (arith, ints) }
-start-bounded n function.Min = tt
-start-bounded n function.Max = tt
-start-bounded n function.Count = omega arith
-start-bounded n function.Len = omega arith
-start-bounded n function.First = tt
-start-bounded n function.Last = tt
-start-bounded n function.NUnique = omega arith
-
 pub length-padded : {X : Type 0} (n : ℕ) (x : X) (xs : List X) → length xs ≤ n → length (padded n x xs) ≡ n
 length-padded n x xs h = length-append xs (replicate (n - length xs) x) ∙ ap (λ k. length xs + k) (length-replicate (n - length xs) x) ∙ omega (arith, h)
-
--- ---- values that always fit
-
-pub all-fit : {X : Type 0} (run : X → Running) → ((x : X) → is_some (finished (run x)) ≡ true) → (xs : List X) (k : ℕ) → is_some (finished (get_or (map run xs) k (Len 0))) ≡ true
-all-fit run h [] k = refl
-all-fit run h (x ∷ xs) zero = h x
-all-fit run h (x ∷ xs) (suc k) = all-fit run h xs k
 
 -- ---- the numbers of keys
 

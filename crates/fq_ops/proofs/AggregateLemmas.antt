@@ -1,28 +1,25 @@
 -- The running values of a group's rows are its aggregates, and values of their kinds.
-use Rattle.std.proofs.Common.{◌≡◌, ℕ, zero, suc, ◌-◌, Bool, true, false, List, [], ◌∷◌, fold, get_or, length, map, ℤ, pos, Option, Some, None, Result, Ok, Err, unwrap_or, refl, sym, ap, subst, ◌∙◌, true≢false, if◌then◌else◌}
+use Rattle.std.proofs.Common.{◌≡◌, ℕ, suc, Bool, true, false, List, [], ◌∷◌, map, pos, Option, Some, None, Result, Ok, Err, unwrap_or, refl, sym, ap, subst, ◌∙◌, true≢false, if◌then◌else◌}
 use Rattle.std.specs.Option.{option_map, option_map_or}
-use Rattle.std.specs.Ordering.{is_lt, is_gt}
 use Rattle.std.proofs.lemmas.Bool.{and_parts}
 use Rattle.std.proofs.lemmas.List.{length-map}
-use Rattle.fq_column.specs.declared.cells.Cell.{Cell}
 use Rattle.fq_column.specs.declared.cells.Cell.TheVariants.{Null, Whole}
 use Rattle.fq_column.specs.declared.cells.Kind.{Kind}
 use Rattle.fq_column.specs.declared.cells.Kind.TheVariants as kind
 use Rattle.fq_column.specs.declared.faults.StepFault.{StepFault}
-use Rattle.fq_column.specs.Cell.{cell_cmp, fits, fitted, has_kind, is_null, same_cell}
+use Rattle.fq_column.specs.Cell.{has_kind}
 use Rattle.fq_column.specs.Frame.{Fields, Name, Row, column_at, has_name, names_of, position_of, row_fits, same_name, value_at, value_named}
 use Rattle.fq_column.specs.Refusal.{and_then}
 use Rattle.fq_column.specs.Schema.{kind_named}
 use Rattle.fq_ops.specs.declared.aggregates.Function.{Function}
-use Rattle.fq_ops.specs.declared.aggregates.Function.TheVariants as function
-use Rattle.fq_ops.specs.Aggregate.{Aggregate, len, over, aggregated, count, first_seen, int_sum, value_of, values, wholes}
+use Rattle.fq_ops.specs.Aggregate.{Aggregate, len, over, aggregated, count, kind_over, value_of}
 use Rattle.fq_ops.specs.Gathered.{place_named, running_of}
-use Rattle.fq_ops.specs.Group.{aggregate_kind, kind_over, must_be_whole}
+use Rattle.fq_ops.specs.Group.{aggregate_kind}
 use Rattle.fq_ops.specs.Running.{finished}
 use Rattle.fq_column.proofs.NameLemmas.{position-here, position-past, unnamed}
 use Rattle.fq_ops.proofs.JudgedFieldLemmas.{TellsName, tells-name}
 use Rattle.fq_ops.proofs.ProbeLemmas.{AllIn, AllIn-map}
-use Rattle.fq_ops.proofs.RunningLemmas.{all-finished, best-all, len-finished}
+use Rattle.fq_ops.proofs.RunningLemmas.{Fitting, all-finished, len-finished, same-kind, value-fits, whole-fits}
 
 -- ---- the column of a name
 
@@ -76,62 +73,6 @@ running-is fields (over f n) k e rows =
     all-finished f (column_at (place_named fields n) rows) ∙ ap (value_of f) (column-named fields n known.0 known.1 rows)
 
 -- ---- aggregates are of their kinds
-
-abbrev Fitting : Kind → Cell → Type 0
-Fitting k c = has_kind k c ≡ true
-
-fitting-at : (k : Kind) (cells : List Cell) → AllIn (Fitting k) cells → (i : ℕ) → has_kind k (get_or cells i Null) ≡ true
-fitting-at k [] h i = refl
-fitting-at k (c ∷ cells) h zero = h.0
-fitting-at k (c ∷ cells) h (suc i) = fitting-at k cells h.1 i
-
-one-of : (k : Kind) (b : Bool) (x y : Cell) → Fitting k x → Fitting k y → Fitting k (if b then x else y)
-one-of k true x y h g = h
-one-of k false x y h g = g
-
-module _ (wins : Cell → Cell → Bool) where
-  abbrev picked : Cell → Cell → Cell
-  picked best cell = if is_null cell then best else if is_null best then cell else if wins cell best then cell else best
-
-  picked-fits : (k : Kind) (best : Cell) (cells : List Cell) → Fitting k best → AllIn (Fitting k) cells → Fitting k (fold picked best cells)
-  picked-fits k best [] b h = b
-  picked-fits k best (c ∷ cells) b h =
-      let pick = one-of k (is_null c) best (if is_null best then c else if wins c best then c else best) b
-      (one-of k (is_null best) c (if wins c best then c else best) h.0 (one-of k (wins c best) c best h.0 b)) in
-      picked-fits k (picked best c) cells pick h.1
-
-fitted-fits : (z : ℤ) → has_kind kind.Whole (unwrap_or (fitted z) Null) ≡ true
-fitted-fits z = by (fits z) refl
-  where
-    by : (b : Bool) → fits z ≡ b → has_kind kind.Whole (unwrap_or (fitted z) Null) ≡ true
-    by true e = ap (λ b. has_kind kind.Whole (unwrap_or (if b then Some (Whole z) else None) Null)) e
-    by false e = ap (λ b. has_kind kind.Whole (unwrap_or (if b then Some (Whole z) else None) Null)) e
-
-whole-only : (j k : Kind) → must_be_whole j ≡ Ok k → k ≡ kind.Whole
-whole-only kind.Whole k e = let same : Ok kind.Whole ≡ Ok k = e in cc
-whole-only kind.Text k e = absurd (cc)
-whole-only kind.Truth k e = absurd (cc)
-
-same-kind : (j k : Kind) → ◌≡◌ {A = Result Kind StepFault} (Ok j) (Ok k) → j ≡ k
-same-kind j k e = cc
-
-whole-fits : (k : Kind) (c : Cell) → k ≡ kind.Whole → has_kind kind.Whole c ≡ true → has_kind k c ≡ true
-whole-fits k c e h = ap (λ l. has_kind l c) e ∙ h
-
-module _ (j k : Kind) (cells : List Cell) (fit : AllIn (Fitting j) cells) where
-  same-fit : ◌≡◌ {A = Result Kind StepFault} (Ok j) (Ok k) → AllIn (Fitting k) cells
-  same-fit e = subst (λ l. AllIn (Fitting l) cells) (same-kind j k e) fit
-
-  -- what a function makes of cells of a kind is of the function's kind over it
-  value-fits : (f : Function) → kind_over f j ≡ Ok k → has_kind k (unwrap_or (value_of f cells) Null) ≡ true
-  value-fits function.Sum e = whole-fits k (unwrap_or (fitted (int_sum (wholes cells))) Null) (whole-only j k e) (fitted-fits (int_sum (wholes cells)))
-  value-fits function.Min e = ap (has_kind k) (sym (best-all (λ a b. is_lt (cell_cmp a b)) cells)) ∙ picked-fits (λ a b. is_lt (cell_cmp a b)) k Null cells refl (same-fit e)
-  value-fits function.Max e = ap (has_kind k) (sym (best-all (λ a b. is_gt (cell_cmp a b)) cells)) ∙ picked-fits (λ a b. is_gt (cell_cmp a b)) k Null cells refl (same-fit e)
-  value-fits function.Count e = whole-fits k (count (values cells)) (sym (same-kind kind.Whole k e)) refl
-  value-fits function.Len e = whole-fits k (count cells) (sym (same-kind kind.Whole k e)) refl
-  value-fits function.First e = fitting-at k cells (same-fit e) 0
-  value-fits function.Last e = fitting-at k cells (same-fit e) (length cells - 1)
-  value-fits function.NUnique e = whole-fits k (count (first_seen same_cell cells)) (sym (same-kind kind.Whole k e)) refl
 
 module _ (fields : Fields) (rows : List Row) (fit : AllIn (λ row. row_fits fields row ≡ true) rows) where
   column-fits : (n : Name) (k : Kind) → kind_named fields n ≡ Ok k → AllIn (Fitting k) (map (value_named fields n) rows)

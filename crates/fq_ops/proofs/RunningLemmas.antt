@@ -1,19 +1,26 @@
--- Running values are the aggregates of their cells.
-use Rattle.std.proofs.Common.{◌≡◌, ℕ, zero, suc, ◌+◌, ◌-◌, map, Bool, true, false, not, cond, List, [], ◌∷◌, ◌++◌, fold, length, ℤ, pos, ◌+ℤ◌, Option, Some, None, unwrap_or, refl, sym, ap, ◌∙◌, if◌then◌else◌, arith, append_assoc, append-nil}
+-- What holds of each aggregate function: its running value is the aggregate of its cells, its aggregates are of its kind, and its
+-- running values are bounded by the number of rows.
+use Rattle.std.proofs.Common.{◌≡◌, ℕ, zero, suc, ◌+◌, ◌-◌, ◌*◌, ◌^◌, ◌≤◌, map, Bool, true, false, not, cond, List, [], ◌∷◌, ◌++◌, fold, get_or, length, ℤ, pos, ◌+ℤ◌, Option, Some, None, Result, Ok, unwrap_or, refl, sym, ap, subst, ◌∙◌, if◌then◌else◌, arith, append_assoc, append-nil}
 use Rattle.std.specs.Ordering.{is_lt, is_gt}
 use Rattle.std.specs.List.{reduce}
-use Rattle.std.specs.Prelude.{slice_index_or}
+use Rattle.std.specs.Prelude.{slice_index_or, is_some}
 use Rattle.std.proofs.lemmas.Int.{ints}
 use Rattle.fq_column.specs.declared.cells.Cell.{Cell}
 use Rattle.fq_column.specs.declared.cells.Cell.TheVariants.{Null, Whole, Text, Truth}
-use Rattle.fq_column.specs.Cell.{is_null, cell_cmp, fitted, same_cell}
+use Rattle.fq_column.specs.declared.cells.Kind.{Kind}
+use Rattle.fq_column.specs.declared.cells.Kind.TheVariants as kind
+use Rattle.fq_column.specs.declared.faults.StepFault.{StepFault}
+use Rattle.fq_column.specs.Cell.{is_null, cell_cmp, fits, fitted, has_kind, same_cell}
 use Rattle.fq_column.specs.Column.{nullable}
 use Rattle.fq_column.specs.Frame.{value_at}
 use Rattle.fq_ops.specs.declared.aggregates.Function.{Function}
 use Rattle.fq_ops.specs.declared.aggregates.Function.TheVariants as function
-use Rattle.fq_ops.specs.Aggregate.{wholes, int_sum, value_of, values, least, greatest, count, first_seen}
-use Rattle.fq_ops.specs.Running.{Sum, Min, Max, Count, Len, First, Last, NUnique, addend, lesser, greater, start_of, stepped, finished}
+use Rattle.fq_ops.specs.declared.accumulators.States.{States}
+use Rattle.fq_ops.specs.declared.accumulators.States.TheVariants.{Sum as Sums, Min as Leasts, Max as Greatests, Count as Counts, Len as Lens, First as Firsts, Last as Lasts, NUnique as NUniques}
+use Rattle.fq_ops.specs.Aggregate.{wholes, int_sum, kind_over, must_be_whole, value_of, values, least, greatest, count, first_seen}
+use Rattle.fq_ops.specs.Running.{Running, Sum, Min, Max, Count, Len, First, Last, NUnique, IsBoundedBy, addend, lesser, greater, running_in, start_of, stepped, finished}
 use Rattle.fq_ops.proofs.GroupLemmas.{first_seen-push, same_cell_laws}
+use Rattle.fq_ops.proofs.ProbeLemmas.{AllIn}
 
 -- ---- what a cell that is not a whole number adds
 
@@ -148,3 +155,104 @@ all-finished function.Len cells = len-finished cells
 all-finished function.First cells = first-finished cells
 all-finished function.Last cells = last-finished cells
 all-finished function.NUnique cells = unique-finished cells
+
+-- ---- values are of their kinds
+
+abbrev pub Fitting : Kind → Cell → Type 0
+Fitting k c = has_kind k c ≡ true
+
+fitting-at : (k : Kind) (cells : List Cell) → AllIn (Fitting k) cells → (i : ℕ) → has_kind k (get_or cells i Null) ≡ true
+fitting-at k [] h i = refl
+fitting-at k (c ∷ cells) h zero = h.0
+fitting-at k (c ∷ cells) h (suc i) = fitting-at k cells h.1 i
+
+one-of : (k : Kind) (b : Bool) (x y : Cell) → Fitting k x → Fitting k y → Fitting k (if b then x else y)
+one-of k true x y h g = h
+one-of k false x y h g = g
+
+module _ (wins : Cell → Cell → Bool) where
+  abbrev picked : Cell → Cell → Cell
+  picked best cell = if is_null cell then best else if is_null best then cell else if wins cell best then cell else best
+
+  picked-fits : (k : Kind) (best : Cell) (cells : List Cell) → Fitting k best → AllIn (Fitting k) cells → Fitting k (fold picked best cells)
+  picked-fits k best [] b h = b
+  picked-fits k best (c ∷ cells) b h =
+      let pick = one-of k (is_null c) best (if is_null best then c else if wins c best then c else best) b
+      (one-of k (is_null best) c (if wins c best then c else best) h.0 (one-of k (wins c best) c best h.0 b)) in
+      picked-fits k (picked best c) cells pick h.1
+
+fitted-fits : (z : ℤ) → has_kind kind.Whole (unwrap_or (fitted z) Null) ≡ true
+fitted-fits z = by (fits z) refl
+  where
+    by : (b : Bool) → fits z ≡ b → has_kind kind.Whole (unwrap_or (fitted z) Null) ≡ true
+    by true e = ap (λ b. has_kind kind.Whole (unwrap_or (if b then Some (Whole z) else None) Null)) e
+    by false e = ap (λ b. has_kind kind.Whole (unwrap_or (if b then Some (Whole z) else None) Null)) e
+
+whole-only : (j k : Kind) → must_be_whole j ≡ Ok k → k ≡ kind.Whole
+whole-only kind.Whole k e = let same : Ok kind.Whole ≡ Ok k = e in cc
+whole-only kind.Text k e = absurd (cc)
+whole-only kind.Truth k e = absurd (cc)
+
+pub same-kind : (j k : Kind) → ◌≡◌ {A = Result Kind StepFault} (Ok j) (Ok k) → j ≡ k
+same-kind j k e = cc
+
+pub whole-fits : (k : Kind) (c : Cell) → k ≡ kind.Whole → has_kind kind.Whole c ≡ true → has_kind k c ≡ true
+whole-fits k c e h = ap (λ l. has_kind l c) e ∙ h
+
+module _ (j k : Kind) (cells : List Cell) (fit : AllIn (Fitting j) cells) where
+  same-fit : ◌≡◌ {A = Result Kind StepFault} (Ok j) (Ok k) → AllIn (Fitting k) cells
+  same-fit e = subst (λ l. AllIn (Fitting l) cells) (same-kind j k e) fit
+
+  -- what a function makes of cells of a kind is of the function's kind over it
+  pub value-fits : (f : Function) → kind_over f j ≡ Ok k → has_kind k (unwrap_or (value_of f cells) Null) ≡ true
+  value-fits function.Sum e = whole-fits k (unwrap_or (fitted (int_sum (wholes cells))) Null) (whole-only j k e) (fitted-fits (int_sum (wholes cells)))
+  value-fits function.Min e = ap (has_kind k) (sym (best-all (λ a b. is_lt (cell_cmp a b)) cells)) ∙ picked-fits (λ a b. is_lt (cell_cmp a b)) k Null cells refl (same-fit e)
+  value-fits function.Max e = ap (has_kind k) (sym (best-all (λ a b. is_gt (cell_cmp a b)) cells)) ∙ picked-fits (λ a b. is_gt (cell_cmp a b)) k Null cells refl (same-fit e)
+  value-fits function.Count e = whole-fits k (count (values cells)) (sym (same-kind kind.Whole k e)) refl
+  value-fits function.Len e = whole-fits k (count cells) (sym (same-kind kind.Whole k e)) refl
+  value-fits function.First e = fitting-at k cells (same-fit e) 0
+  value-fits function.Last e = fitting-at k cells (same-fit e) (length cells - 1)
+  value-fits function.NUnique e = whole-fits k (count (first_seen same_cell cells)) (sym (same-kind kind.Whole k e)) refl
+
+-- ---- how far running values can be
+
+more : (n m : ℕ) → n ≤ m → n * 2 ^ 63 ≤ m * 2 ^ 63
+more n m h = omega (arith, h)
+
+pub IsBoundedBy-more : (n m : ℕ) → n ≤ m → (r : Running) → IsBoundedBy n r → IsBoundedBy m r
+IsBoundedBy-more n m h (Sum total) b = record { low = omega (arith, ints, b.low, more n m h); high = omega (arith, ints, b.high, more n m h) }
+IsBoundedBy-more n m h (Min best) b = tt
+IsBoundedBy-more n m h (Max best) b = tt
+IsBoundedBy-more n m h (Count k) b = omega (arith, b, h)
+IsBoundedBy-more n m h (Len k) b = omega (arith, b, h)
+IsBoundedBy-more n m h (First first) b = tt
+IsBoundedBy-more n m h (Last last) b = tt
+IsBoundedBy-more n m h (NUnique cells) b = omega (arith, b, h)
+
+pub start-bounded : (n : ℕ) (f : Function) → IsBoundedBy n (start_of f)
+start-bounded n function.Sum = record { low = omega (arith, ints); high = omega (arith, ints) }
+start-bounded n function.Min = tt
+start-bounded n function.Max = tt
+start-bounded n function.Count = omega arith
+start-bounded n function.Len = omega arith
+start-bounded n function.First = tt
+start-bounded n function.Last = tt
+start-bounded n function.NUnique = omega arith
+
+-- ---- values that always fit
+
+all-fit : {X : Type 0} (run : X → Running) → ((x : X) → is_some (finished (run x)) ≡ true) → (xs : List X) (k : ℕ) → is_some (finished (slice_index_or (map run xs) k (Len 0))) ≡ true
+all-fit run h [] k = refl
+all-fit run h (x ∷ xs) zero = h x
+all-fit run h (x ∷ xs) (suc k) = all-fit run h xs k
+
+-- no value but a sum may not fit
+pub others-fit : (s : States) (k : ℕ) → ((xs : _) → s ≡ Sums xs → ⊥) → is_some (finished (slice_index_or (running_in s) k (Len 0))) ≡ true
+others-fit (Sums xs) k other = absurd (other xs refl)
+others-fit (Leasts xs) k other = all-fit _ (λ s. refl) xs.items k
+others-fit (Greatests xs) k other = all-fit _ (λ s. refl) xs.items k
+others-fit (Counts xs) k other = all-fit _ (λ s. refl) xs.items k
+others-fit (Lens xs) k other = all-fit _ (λ s. refl) xs.items k
+others-fit (Firsts xs) k other = all-fit _ (λ s. refl) xs.items k
+others-fit (Lasts xs) k other = all-fit _ (λ s. refl) xs.items k
+others-fit (NUniques xs) k other = all-fit _ (λ s. refl) xs.items k

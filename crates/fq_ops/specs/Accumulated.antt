@@ -1,5 +1,5 @@
 -- The running values of an aggregate, one for each group.
-use Rattle.std.specs.Prelude.{◌≡◌, ℕ, ◌-◌, ◌<◌, List, [], ◌∷◌, ◌++◌, All, fold, length, map, replicate, slice_index_or, slice_set, zip, nat_lt, Option, Some, None, if◌then◌else◌}
+use Rattle.std.specs.Prelude.{◌≡◌, ℕ, ◌+◌, ◌-◌, ◌<◌, List, [], ◌∷◌, ◌++◌, All, fold, length, map, replicate, slice_index_or, slice_set, zip, nat_lt, Option, Some, None, if◌then◌else◌}
 use Rattle.std.specs.List.{position_or_len}
 use Rattle.indexmap.specs.IndexSet.{insert_key}
 use Rattle.fq_column.specs.declared.cells.Cell.{Cell}
@@ -9,38 +9,15 @@ use Rattle.fq_column.specs.Frame.{Row, column_at, value_at}
 use Rattle.fq_column.specs.Lists.{first_missing, numbers}
 use Rattle.fq_ops.specs.declared.aggregates.Function.{Function}
 use Rattle.fq_ops.specs.declared.aggregates.Function.TheVariants as function
-use Rattle.fq_ops.specs.declared.accumulators.States.{States}
-use Rattle.fq_ops.specs.declared.accumulators.States.TheVariants.{Sum as Sums, Min as Leasts, Max as Greatests, Count as Counts, Len as Lens, First as Firsts, Last as Lasts, NUnique as NUniques}
 use Rattle.fq_ops.specs.Group.{same_key}
 use Rattle.fq_ops.specs.Picks.{Pick}
-use Rattle.fq_ops.specs.Running.{Running, Sum, Min, Max, Count, Len, First, Last, NUnique, IsBoundedBy, finished, of_kind, outcome, start_of, stepped}
+use Rattle.fq_ops.specs.Running.{Running, Len, IsBoundedBy, finished, of_kind, outcome, start_of, stepped}
 
 -- an aggregate function, the place of its column, and its running value in each group
 pub record Accumulated : Type 0 where
   pub function : Function
   pub column : ℕ
   pub states : List Running
-
--- the function of running values that are kept by their type, and what they say
-abbrev pub function_in : States → Function
-function_in (Sums xs) = function.Sum
-function_in (Leasts xs) = function.Min
-function_in (Greatests xs) = function.Max
-function_in (Counts xs) = function.Count
-function_in (Lens xs) = function.Len
-function_in (Firsts xs) = function.First
-function_in (Lasts xs) = function.Last
-function_in (NUniques xs) = function.NUnique
-
-abbrev pub running_in : States → List Running
-running_in (Sums xs) = map (λ s. Sum s.0) xs.items
-running_in (Leasts xs) = map (λ s. Min s.0) xs.items
-running_in (Greatests xs) = map (λ s. Max s.0) xs.items
-running_in (Counts xs) = map (λ s. Count s.0) xs.items
-running_in (Lens xs) = map (λ s. Len s.0) xs.items
-running_in (Firsts xs) = map (λ s. First s.0) xs.items
-running_in (Lasts xs) = map (λ s. Last s.0) xs.items
-running_in (NUniques xs) = map (λ s. NUnique s.0.keys) xs.items
 
 -- the numbers of keys in the order of first appearance, where these were seen before
 abbrev pub numbers_along : List (List Cell) → List (List Cell) → List ℕ
@@ -66,6 +43,10 @@ grown_and_stepped groups numbers cells f states = stepped_along (padded groups (
 -- the running values after rows, in so many groups
 abbrev pub accumulated : ℕ → List ℕ → List Row → Accumulated → Accumulated
 accumulated groups numbers rows a = record a { states = grown_and_stepped groups numbers (column_at a.column rows) a.function a.states }
+
+-- running values that are those of n rows are, after so many more, those of n and so many rows
+pub record HaveTaken (count : ℕ) (old new : List Running) : Type 0 where
+  pub bounded : (n : ℕ) → All (IsBoundedBy n) old → All (IsBoundedBy (n + count)) new
 
 -- the accumulator reads a column among so many, and its values, of at most n rows, are those of so many groups
 pub record IsAccumulator (width groups n : ℕ) (a : Accumulated) : Type 0 where

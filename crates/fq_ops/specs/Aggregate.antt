@@ -1,11 +1,16 @@
 -- Aggregates of a group (Polars, `Expr.sum`, `min`, `max`, `count`, `len`, `first`, `last`, `n_unique`).
-use Rattle.std.specs.Prelude.{◌-◌, Bool, not, List, [], ◌∷◌, map, filter, filter_map, length, fold, ℤ, pos, ◌+ℤ◌, Option, Some, None, unwrap_or, slice_index_or, if◌then◌else◌}
+use Rattle.std.specs.Prelude.{◌-◌, Bool, not, List, [], ◌∷◌, map, filter, filter_map, length, fold, ℤ, pos, ◌+ℤ◌, Option, Some, None, unwrap_or, slice_index_or, Result, Ok, if◌then◌else◌}
 use Rattle.std.specs.List.{reduce}
 use Rattle.std.specs.Ordering.{is_lt, is_gt}
 use Rattle.fq_column.specs.declared.cells.Cell.{Cell}
 use Rattle.fq_column.specs.declared.cells.Cell.TheVariants.{Null, Whole}
-use Rattle.fq_column.specs.Cell.{fitted, is_null, cell_cmp, same_cell}
+use Rattle.fq_column.specs.declared.cells.Kind.{Kind}
+use Rattle.fq_column.specs.declared.cells.Kind.TheVariants as kind
+use Rattle.fq_column.specs.declared.faults.StepFault.{StepFault}
+use Rattle.fq_column.specs.declared.faults.StepFault.TheVariants.{WrongKind}
+use Rattle.fq_column.specs.Cell.{fitted, is_null, cell_cmp, same_cell, same_kind}
 use Rattle.fq_column.specs.Frame.{Fields, Name, Row, value_named}
+use Rattle.fq_column.specs.Refusal.{refuse_if, unless_refused}
 use Rattle.fq_ops.specs.declared.aggregates.Function.{Function}
 use Rattle.fq_ops.specs.declared.aggregates.Function.TheVariants as function
 
@@ -57,6 +62,20 @@ value_of function.Len cells = Some (count cells)
 value_of function.First cells = Some (slice_index_or cells 0 Null)
 value_of function.Last cells = Some (slice_index_or cells (length cells - 1) Null)
 value_of function.NUnique cells = Some (count (first_seen same_cell cells))
+
+abbrev pub must_be_whole : Kind → Result Kind StepFault
+must_be_whole k = unless_refused (refuse_if (not (same_kind k kind.Whole)) WrongKind ∷ []) kind.Whole
+
+-- the kind of what a function makes of the cells of a column of this kind
+abbrev pub kind_over : Function → Kind → Result Kind StepFault
+kind_over function.Sum k = must_be_whole k
+kind_over function.Min k = Ok k
+kind_over function.Max k = Ok k
+kind_over function.Count k = Ok kind.Whole
+kind_over function.Len k = Ok kind.Whole
+kind_over function.First k = Ok k
+kind_over function.Last k = Ok k
+kind_over function.NUnique k = Ok kind.Whole
 
 -- the aggregate of the rows of a group, or none if a sum does not fit 64 bits
 abbrev pub aggregated : Fields → Aggregate → List Row → Option Cell

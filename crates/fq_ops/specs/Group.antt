@@ -6,32 +6,16 @@ use Rattle.fq_column.specs.declared.cells.Kind.{Kind}
 use Rattle.fq_column.specs.declared.cells.Kind.TheVariants.{Whole}
 use Rattle.fq_column.specs.declared.cells.Cell.{Cell}
 use Rattle.fq_column.specs.declared.faults.StepFault.{StepFault}
-use Rattle.fq_column.specs.declared.faults.StepFault.TheVariants.{WrongKind, DoubleName, TooMany, NoColumn}
+use Rattle.fq_column.specs.declared.faults.StepFault.TheVariants.{DoubleName, TooMany, NoColumn}
 use Rattle.fq_column.specs.declared.schemas.TheConstants.{MAX_COLUMNS}
-use Rattle.fq_column.specs.Cell.{same_cell, same_kind}
+use Rattle.fq_column.specs.Cell.{same_cell}
 use Rattle.fq_column.specs.Frame.{Fields, Name, Row, same_name, value_named}
 use Rattle.fq_column.specs.Lists.{is_distinct, all_or_missing}
 use Rattle.fq_column.specs.Refusal.{refuse_if, unless_refused, and_then}
 use Rattle.fq_column.specs.Schema.{kind_named}
 use Rattle.fq_column.specs.Stream.{Stream, whole_on}
-use Rattle.fq_ops.specs.declared.aggregates.Function.{Function}
-use Rattle.fq_ops.specs.declared.aggregates.Function.TheVariants as function
 use Rattle.fq_ops.specs.Fields.{Judged, refusals, settled}
-use Rattle.fq_ops.specs.Aggregate.{Aggregate, len, over, Output, aggregated, first_seen}
-
-abbrev pub must_be_whole : Kind → Result Kind StepFault
-must_be_whole k = unless_refused (refuse_if (not (same_kind k Whole)) WrongKind ∷ []) Whole
-
--- the kind of what a function makes of the cells of a column of this kind
-abbrev pub kind_over : Function → Kind → Result Kind StepFault
-kind_over function.Sum k = must_be_whole k
-kind_over function.Min k = Ok k
-kind_over function.Max k = Ok k
-kind_over function.Count k = Ok Whole
-kind_over function.Len k = Ok Whole
-kind_over function.First k = Ok k
-kind_over function.Last k = Ok k
-kind_over function.NUnique k = Ok Whole
+use Rattle.fq_ops.specs.Aggregate.{Aggregate, len, over, Output, aggregated, first_seen, kind_over}
 
 -- the kind of an aggregate
 abbrev pub aggregate_kind : Fields → Aggregate → Result Kind StepFault

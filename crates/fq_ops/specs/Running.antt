@@ -1,5 +1,5 @@
 -- A running value of an aggregate: what one more cell makes of it, and what it means at the end.
-use Rattle.std.specs.Prelude.{ℕ, ◌+◌, ◌≤◌, [], ℤ, pos, ◌+ℤ◌, List, length, Option, Some, None, unwrap_or, if◌then◌else◌}
+use Rattle.std.specs.Prelude.{ℕ, ◌+◌, ◌≤◌, [], ℤ, pos, ◌+ℤ◌, List, length, map, Option, Some, None, unwrap_or, if◌then◌else◌}
 use Rattle.std.specs.Ordering.{is_lt, is_gt}
 use Rattle.indexmap.specs.IndexSet.{insert_key}
 use Rattle.fq_column.specs.declared.cells.Kind.{Kind}
@@ -8,6 +8,8 @@ use Rattle.fq_column.specs.declared.cells.Cell.TheVariants.{Null, Whole, Text, T
 use Rattle.fq_column.specs.Cell.{is_null, cell_cmp, fitted, has_kind, same_cell}
 use Rattle.fq_ops.specs.declared.aggregates.Function.{Function}
 use Rattle.fq_ops.specs.declared.aggregates.Function.TheVariants as function
+use Rattle.fq_ops.specs.declared.accumulators.States.{States}
+use Rattle.fq_ops.specs.declared.accumulators.States.TheVariants.{Sum as Sums, Min as Leasts, Max as Greatests, Count as Counts, Len as Lens, First as Firsts, Last as Lasts, NUnique as NUniques}
 use Rattle.fq_ops.specs.Aggregate.{count}
 use Rattle.fq_ops.specs.Sums.{IsWithin}
 
@@ -89,3 +91,24 @@ IsBoundedBy n (Len k) = k ≤ n
 IsBoundedBy n (First first) = Unit {0}
 IsBoundedBy n (Last last) = Unit {0}
 IsBoundedBy n (NUnique cells) = length cells ≤ n
+
+-- the function of running values that are kept by their type, and what they say
+abbrev pub function_in : States → Function
+function_in (Sums xs) = function.Sum
+function_in (Leasts xs) = function.Min
+function_in (Greatests xs) = function.Max
+function_in (Counts xs) = function.Count
+function_in (Lens xs) = function.Len
+function_in (Firsts xs) = function.First
+function_in (Lasts xs) = function.Last
+function_in (NUniques xs) = function.NUnique
+
+abbrev pub running_in : States → List Running
+running_in (Sums xs) = map (λ s. Sum s.0) xs.items
+running_in (Leasts xs) = map (λ s. Min s.0) xs.items
+running_in (Greatests xs) = map (λ s. Max s.0) xs.items
+running_in (Counts xs) = map (λ s. Count s.0) xs.items
+running_in (Lens xs) = map (λ s. Len s.0) xs.items
+running_in (Firsts xs) = map (λ s. First s.0) xs.items
+running_in (Lasts xs) = map (λ s. Last s.0) xs.items
+running_in (NUniques xs) = map (λ s. NUnique s.0.keys) xs.items

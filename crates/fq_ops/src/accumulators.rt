@@ -1,9 +1,9 @@
 //! The running values of an aggregate, one for each group.
 ghost use Rattle.std.specs.Prelude.{◌≡◌, ◌+◌, ◌-◌, ◌<◌, ◌≤◌, ◌^◌, ℕ, [], All, is_some, length, map, IfOk, OnOk};
 ghost use Rattle.fq_column.specs.Lists.{numbers};
-ghost use Rattle.fq_ops.specs.Accumulated.{IsAccumulator, accumulated, function_in, grown_and_stepped, padded, running_in, running_pick, stepped_along, value_in, value_pick};
+ghost use Rattle.fq_ops.specs.Accumulated.{HaveTaken, IsAccumulator, accumulated, grown_and_stepped, padded, running_pick, stepped_along, value_in, value_pick};
 ghost use Rattle.fq_ops.specs.Picks.{column_of};
-ghost use Rattle.fq_ops.specs.Running.{IsBoundedBy, start_of};
+ghost use Rattle.fq_ops.specs.Running.{IsBoundedBy, function_in, running_in, start_of};
 
 use crate::aggregates::Function;
 use crate::running::State;
@@ -36,7 +36,8 @@ pub struct Accumulator {
 }
 
 impl Model for Accumulator {
-    ghost use Rattle.fq_ops.specs.Accumulated.{Accumulated, function_in, running_in};
+    ghost use Rattle.fq_ops.specs.Accumulated.{Accumulated};
+    ghost use Rattle.fq_ops.specs.Running.{function_in, running_in};
 
     ghost Value = { Accumulated };
 
@@ -142,7 +143,7 @@ impl States {
         requires bounded { All (IsBoundedBy (2 ^ 40 - length numbers.now)) (running_in self.old) }
         ensures function { OnOk result (function_in self.new ≡ function_in self.old) }
         ensures taken { OnOk result (running_in self.new ≡ grown_and_stepped groups numbers.now column.now.cells (function_in self.old) (running_in self.old)) }
-        ensures bounded { OnOk result ((n : ℕ) → All (IsBoundedBy n) (running_in self.old) → All (IsBoundedBy (n + length numbers.now)) (running_in self.new)) }
+        ensures bounded { OnOk result (HaveTaken (length numbers.now) (running_in self.old) (running_in self.new)) }
     {
         for_each_function!(self, states => take(alloc, states, column, numbers, groups))
     }
@@ -162,7 +163,7 @@ fn take<S: State>(
     requires few { length numbers.now ≤ 2 ^ 40 }
     requires bounded { All (IsBoundedBy (2 ^ 40 - length numbers.now)) (map S.running states.old.items) }
     ensures taken { OnOk result (map S.running states.new.items ≡ grown_and_stepped groups numbers.now column.now.cells S.function (map S.running states.old.items)) }
-    ensures bounded { OnOk result ((n : ℕ) → All (IsBoundedBy n) (map S.running states.old.items) → All (IsBoundedBy (n + length numbers.now)) (map S.running states.new.items)) }
+    ensures bounded { OnOk result (HaveTaken (length numbers.now) (map S.running states.old.items) (map S.running states.new.items)) }
 {
     grow(alloc, states, groups)?;
     step_all(alloc, states, column, numbers)
@@ -173,7 +174,6 @@ fn grow<S: State>(alloc: Global, states: &mut Vec<S>, groups: usize) -> Result<(
     requires { length states.old.items ≤ groups }
     ensures grown { OnOk result (map S.running states.new.items ≡ padded groups (start_of S.function) (map S.running states.old.items)) }
     ensures size { OnOk result (length states.new.items ≡ groups) }
-    ensures bounded { OnOk result ((n : ℕ) → All (IsBoundedBy n) (map S.running states.old.items) → All (IsBoundedBy n) (map S.running states.new.items)) }
 {
     states.reserve(groups - states.len())?;
     for _ in states.len()..groups {
@@ -194,7 +194,7 @@ fn step_all<S: State>(
     requires few { length numbers.now ≤ 2 ^ 40 }
     requires bounded { All (IsBoundedBy (2 ^ 40 - length numbers.now)) (map S.running states.old.items) }
     ensures stepped { OnOk result (map S.running states.new.items ≡ stepped_along (map S.running states.old.items) numbers.now column.now.cells) }
-    ensures bounded { OnOk result ((n : ℕ) → All (IsBoundedBy n) (map S.running states.old.items) → All (IsBoundedBy (n + length numbers.now)) (map S.running states.new.items)) }
+    ensures bounded { OnOk result (HaveTaken (length numbers.now) (map S.running states.old.items) (map S.running states.new.items)) }
 {
     let mut scratch = Cell::Null;
     for row in 0..numbers.len() {

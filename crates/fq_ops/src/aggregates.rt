@@ -1,6 +1,6 @@
 //! Aggregates of a group.
 ghost use Rattle.std.specs.Prelude.{◌≡◌};
-ghost use Rattle.fq_ops.specs.Group.{kind_over};
+ghost use Rattle.fq_ops.specs.Aggregate.{kind_over};
 
 use fq_column::{Kind, StepFault};
 

@@ -1,8 +1,7 @@
-use Rattle.std.proofs.Common.{◌∷◌, [], ◌++◌, ◌+◌, ◌-◌, length, map, replicate, subst, sym, ap, ◌∙◌, arith}
-use Rattle.std.specs.Prelude.{All}
+use Rattle.std.proofs.Common.{◌∷◌, [], ◌++◌, ◌+◌, ◌-◌, length, map, replicate, sym, ap, ◌∙◌, arith}
 use Rattle.std.proofs.lemmas.List.{length-append, length-map, map-append}
-use Rattle.fq_ops.specs.Running.{IsBoundedBy, start_of}
-use Rattle.fq_ops.proofs.AccumulatorLemmas.{all-push, padded-more, start-bounded}
+use Rattle.fq_ops.specs.Running.{start_of}
+use Rattle.fq_ops.proofs.AccumulatorLemmas.{padded-more}
 use Rattle.fq_ops.proofs.accumulators.grow.Goals as goal
 
 pub loop-preserved : goal.loop-preserved
@@ -20,5 +19,4 @@ loop-preserved g c =
           ∙ sym (padded-more old n start (omega (arith, size)))
           ∙ ap (λ k. old ++ replicate (n + 1 - k) start) size;
       size = ap length c.in_ok-push.ensures.items ∙ length-append c.loop.states.items (c.start.result ∷ []) ∙ omega (arith, c.loop.invariant.size);
-      bounded = λ k h. subst (All (IsBoundedBy k)) (sym pushed) (all-push (IsBoundedBy k) xs start (c.loop.invariant.bounded k h) (start-bounded k g.S.State.function));
     }

@@ -4,7 +4,8 @@ use Rattle.std.proofs.lemmas.List.{get_or-map, length-map, length-set, map-set}
 use Rattle.std.proofs.lemmas.List.Elements.{All-set}
 use Rattle.fq_column.specs.declared.cells.Cell.TheVariants.{Null}
 use Rattle.fq_ops.specs.Running.{Len, IsBoundedBy, stepped}
-use Rattle.fq_ops.proofs.AccumulatorLemmas.{IsBoundedBy-more, all-more, stepped-more}
+use Rattle.fq_ops.proofs.AccumulatorLemmas.{all-more, stepped-more}
+use Rattle.fq_ops.proofs.RunningLemmas.{IsBoundedBy-more}
 use Rattle.fq_ops.proofs.accumulators.step_all.Goals as goal
 
 pub step-requires-clause-few : goal.step-requires-clause-few
@@ -49,4 +50,4 @@ loop-row-preserved g c =
     }
 
 pub returns-clause-bounded : goal.returns-clause-bounded
-returns-clause-bounded g c = λ n h. subst (λ m. All (IsBoundedBy (n + m)) (map g.S.State.running c.loop-row.states.items)) (omega arith) (c.loop-row.invariant.bounded n h)
+returns-clause-bounded g c = record { bounded = λ n h. subst (λ m. All (IsBoundedBy (n + m)) (map g.S.State.running c.loop-row.states.items)) (omega arith) (c.loop-row.invariant.bounded n h) }

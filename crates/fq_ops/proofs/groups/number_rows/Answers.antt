@@ -2,11 +2,12 @@ use Rattle.std.proofs.Common.{◌≡◌, ◌+◌, ◌∷◌, [], ◌++◌, ◌<�
 use Rattle.std.specs.Prelude.{All}
 use Rattle.std.specs.List.{position_or_len}
 use Rattle.std.proofs.lemmas.List.{length-append}
+use Rattle.std.proofs.lemmas.List.Elements.{All-push}
 use Rattle.indexmap.specs.IndexSet.{insert_all, insert_key}
 use Rattle.fq_ops.specs.Accumulated.{numbers_along}
 use Rattle.fq_ops.specs.Group.{same_key}
 use Rattle.fq_ops.specs.Grouping.{key_at}
-use Rattle.fq_ops.proofs.AccumulatorLemmas.{all-below, all-push, insert-grows, insert-push, keys-more, numbers-push}
+use Rattle.fq_ops.proofs.AccumulatorLemmas.{all-below, insert-grows, insert-push, keys-more, numbers-push}
 use Rattle.fq_ops.proofs.groups.number_rows.Goals as goal
 
 pub loop-row-preserved : goal.loop-row-preserved
@@ -32,6 +33,6 @@ loop-row-preserved c =
           ∙ sym (ap (numbers_along first) taken ∙ numbers-push first before here);
       beside = ap length c.in_ok-push.ensures.items ∙ length-append numbers (n ∷ []) ∙ omega (arith, c.loop-row.invariant.beside);
       within = subst (All (λ x. x < length c.number_of.new.seen.keys)) (sym c.in_ok-push.ensures.items)
-          (all-push (λ x. x < length c.number_of.new.seen.keys) numbers n (all-below (length seen) (length c.number_of.new.seen.keys) grows numbers c.loop-row.invariant.within) c.in_ok-number_of.ensures.within);
+          (All-push (λ x. x < length c.number_of.new.seen.keys) numbers n (all-below (length seen) (length c.number_of.new.seen.keys) grows numbers c.loop-row.invariant.within) c.in_ok-number_of.ensures.within);
       grown = omega (arith, c.loop-row.invariant.grown, grows);
     }

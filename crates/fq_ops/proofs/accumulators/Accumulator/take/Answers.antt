@@ -1,7 +1,7 @@
 use Rattle.std.proofs.Common.{◌≤◌, Ok, Err, length, subst, sym, ap, ◌∙◌, arith}
 use Rattle.std.specs.Prelude.{All, OnOk, Result}
-use Rattle.fq_ops.specs.Accumulated.{Accumulated, function_in, padded, running_in}
-use Rattle.fq_ops.specs.Running.{IsBoundedBy, start_of}
+use Rattle.fq_ops.specs.Accumulated.{Accumulated, padded}
+use Rattle.fq_ops.specs.Running.{IsBoundedBy, function_in, running_in, start_of}
 use Rattle.fq_ops.proofs.AccumulatorLemmas.{length-padded, length-stepped}
 use Rattle.fq_ops.proofs.accumulators.Accumulator.take.Goals as goal
 
@@ -20,5 +20,5 @@ returns-clause-ready c =
       column = omega (arith, c.requires.column, ap (λ (a : Accumulated). a.column) view);
       beside = ap length taken ∙ length-stepped (padded groups (start_of (function_in states)) old) c.args.numbers.now c.column-column.result.now.cells
           ∙ length-padded groups (start_of (function_in states)) old fits;
-      bounded = bounded n (subst (λ (a : Accumulated). All (IsBoundedBy n) a.states) (sym view) h);
+      bounded = bounded.bounded n (subst (λ (a : Accumulated). All (IsBoundedBy n) a.states) (sym view) h);
     }) c.take.ensures.taken c.take.ensures.bounded
