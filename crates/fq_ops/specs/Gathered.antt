@@ -1,8 +1,9 @@
 -- What a grouper has taken and no longer holds.
-use Rattle.std.specs.Prelude.{◌≡◌, ℕ, ◌+◌, ◌≤◌, ◌<◌, ◌^◌, All, Bool, false, IsOk, List, [], length, map, unwrap_or, fold, Result, Err}
+use Rattle.std.specs.Prelude.{◌≡◌, ℕ, ◌+◌, ◌≤◌, ◌<◌, All, Bool, false, IsOk, List, [], length, map, unwrap_or, fold, Result, Err}
 use Rattle.std.specs.List.{AllPass}
 use Rattle.fq_column.specs.declared.cells.Cell.{Cell}
 use Rattle.fq_column.specs.Frame.{Fields, Name, Row, column_at, names_of, position_of, row_fits}
+use Rattle.fq_ops.specs.declared.groups.TheConstants.{MAX_GROUPED_ROWS}
 use Rattle.fq_ops.specs.declared.groups.GroupFault.{GroupFault}
 use Rattle.fq_ops.specs.declared.groups.GroupFault.TheVariants.{SumRange, Memory}
 use Rattle.fq_ops.specs.declared.aggregates.Function.{Function}
@@ -68,7 +69,7 @@ pub record HasTakenRows (g : Gathered) (keys : List Name) (outputs : List Output
 pub record IsReady (g : Gathered) : Type 0 where
   pub some : 1 ≤ length g.places
   pub places : All (λ p. p < length g.fields) g.places
-  pub few : g.taken ≤ 2 ^ 40
+  pub few : g.taken ≤ MAX_GROUPED_ROWS
   pub width : length g.output ≡ length g.places + length g.accumulators
   pub accumulators : g.failed ≡ false → All (IsAccumulator (length g.fields) (length g.seen) g.taken) g.accumulators
 

@@ -6,6 +6,7 @@ ghost use Rattle.fq_ops.specs.Picks.{column_of};
 ghost use Rattle.fq_ops.specs.Running.{IsBoundedBy, function_in, running_in, start_of};
 
 use crate::aggregates::Function;
+use crate::groups::MAX_GROUPED_ROWS;
 use crate::running::State;
 use crate::states::{Count, Distinct, First, Greatest, Last, Least, RowCount, Sum};
 use fq_column::{Batch, Cell, Column, Kind, Memory};
@@ -80,8 +81,8 @@ impl Accumulator {
         requires beside { length numbers.now ≡ length batch.now.rows }
         requires within { All (λ n. n < groups) numbers.now }
         requires groups { length self.old.states ≤ groups }
-        requires few { length numbers.now ≤ 2 ^ 40 }
-        requires bounded { All (IsBoundedBy (2 ^ 40 - length numbers.now)) self.old.states }
+        requires few { length numbers.now ≤ MAX_GROUPED_ROWS }
+        requires bounded { All (IsBoundedBy (MAX_GROUPED_ROWS - length numbers.now)) self.old.states }
         ensures taken { OnOk result (self.new ≡ accumulated groups numbers.now batch.now.rows self.old) }
         ensures ready { OnOk result ((n : ℕ) → All (IsBoundedBy n) self.old.states →
             IsAccumulator (length batch.now.fields) groups (n + length numbers.now) self.new) }
@@ -103,7 +104,7 @@ impl Accumulator {
 
     /// The column of the groups' values, with null where a value does not fit 64 bits or is of another kind.
     pub fn column(&self, alloc: Global, kind: Kind) -> Result<Column, Memory>
-        requires { All (IsBoundedBy (2 ^ 40)) self.now.states }
+        requires { All (IsBoundedBy (MAX_GROUPED_ROWS)) self.now.states }
         ensures { IfOk result (λ column. column ≡ column_of (numbers (length self.now.states)) (value_pick kind self.now)) }
     {
         for_each_function!(&self.states, states => gather(alloc, kind, states))
@@ -139,8 +140,8 @@ impl States {
         requires beside { length numbers.now ≡ length column.now.cells }
         requires within { All (λ n. n < groups) numbers.now }
         requires groups { length (running_in self.old) ≤ groups }
-        requires few { length numbers.now ≤ 2 ^ 40 }
-        requires bounded { All (IsBoundedBy (2 ^ 40 - length numbers.now)) (running_in self.old) }
+        requires few { length numbers.now ≤ MAX_GROUPED_ROWS }
+        requires bounded { All (IsBoundedBy (MAX_GROUPED_ROWS - length numbers.now)) (running_in self.old) }
         ensures function { OnOk result (function_in self.new ≡ function_in self.old) }
         ensures taken { OnOk result (running_in self.new ≡ grown_and_stepped groups numbers.now column.now.cells (function_in self.old) (running_in self.old)) }
         ensures bounded { OnOk result (HaveTaken (length numbers.now) (running_in self.old) (running_in self.new)) }
@@ -160,8 +161,8 @@ fn take<S: State>(
     requires beside { length numbers.now ≡ length column.now.cells }
     requires within { All (λ n. n < groups) numbers.now }
     requires groups { length states.old.items ≤ groups }
-    requires few { length numbers.now ≤ 2 ^ 40 }
-    requires bounded { All (IsBoundedBy (2 ^ 40 - length numbers.now)) (map S.running states.old.items) }
+    requires few { length numbers.now ≤ MAX_GROUPED_ROWS }
+    requires bounded { All (IsBoundedBy (MAX_GROUPED_ROWS - length numbers.now)) (map S.running states.old.items) }
     ensures taken { OnOk result (map S.running states.new.items ≡ grown_and_stepped groups numbers.now column.now.cells S.function (map S.running states.old.items)) }
     ensures bounded { OnOk result (HaveTaken (length numbers.now) (map S.running states.old.items) (map S.running states.new.items)) }
 {
@@ -191,8 +192,8 @@ fn step_all<S: State>(
 ) -> Result<(), Memory>
     requires beside { length numbers.now ≡ length column.now.cells }
     requires within { All (λ n. n < length states.old.items) numbers.now }
-    requires few { length numbers.now ≤ 2 ^ 40 }
-    requires bounded { All (IsBoundedBy (2 ^ 40 - length numbers.now)) (map S.running states.old.items) }
+    requires few { length numbers.now ≤ MAX_GROUPED_ROWS }
+    requires bounded { All (IsBoundedBy (MAX_GROUPED_ROWS - length numbers.now)) (map S.running states.old.items) }
     ensures stepped { OnOk result (map S.running states.new.items ≡ stepped_along (map S.running states.old.items) numbers.now column.now.cells) }
     ensures bounded { OnOk result (HaveTaken (length numbers.now) (map S.running states.old.items) (map S.running states.new.items)) }
 {
@@ -206,7 +207,7 @@ fn step_all<S: State>(
 
 // The column of the groups' values, with null where a value does not fit 64 bits or is of another kind.
 fn gather<S: State>(alloc: Global, kind: Kind, states: &Vec<S>) -> Result<Column, Memory>
-    requires { All (IsBoundedBy (2 ^ 40)) (map S.running states.now.items) }
+    requires { All (IsBoundedBy (MAX_GROUPED_ROWS)) (map S.running states.now.items) }
     ensures { IfOk result (λ column. column ≡ column_of (numbers (length states.now.items)) (running_pick kind (map S.running states.now.items))) }
 {
     let mut column = Column::with_capacity(alloc, kind, states.len())?;

@@ -26,6 +26,9 @@ use std::alloc::Global;
 use std::marker::Model;
 use thiserror::Error;
 
+/// The most rows that a grouper takes, so that no running value overflows.
+pub const MAX_GROUPED_ROWS: u64 = 1 << 40;
+
 /// Why a grouping gives no rows.
 #[derive(Clone, Copy, Debug, PartialEq, Eq, Error)]
 pub enum GroupFault {
@@ -114,7 +117,7 @@ impl Grouper {
     /// allocation fails, the grouper has failed for good, and its number of rows stays.
     pub fn take(&mut self, alloc: Global, batch: &Batch) -> Result<(), Memory>
         requires fields { batch.now.fields ≡ self.old.fields }
-        requires room { self.old.taken + length batch.now.rows ≤ 2 ^ 40 }
+        requires room { self.old.taken + length batch.now.rows ≤ MAX_GROUPED_ROWS }
         ensures shape { (self.new.fields ≡ self.old.fields) × (self.new.output ≡ self.old.output) }
         ensures taken { OnOk result ((keys : List Name) (outputs : List Output) (rows : List Row) →
             HasTakenRows self.old keys outputs rows → HasTakenRows self.new keys outputs (rows ++ batch.now.rows)) }
@@ -251,8 +254,8 @@ fn accumulate(
 ) -> Result<(), Memory>
     requires beside { length numbers.now ≡ length batch.now.rows }
     requires within { All (λ n. n < groups) numbers.now }
-    requires few { length numbers.now ≤ 2 ^ 40 }
-    requires ready { All (λ a. (a.column < length batch.now.fields) × (length a.states ≤ groups) × All (IsBoundedBy (2 ^ 40 - length numbers.now)) a.states) accumulators.old.items }
+    requires few { length numbers.now ≤ MAX_GROUPED_ROWS }
+    requires ready { All (λ a. (a.column < length batch.now.fields) × (length a.states ≤ groups) × All (IsBoundedBy (MAX_GROUPED_ROWS - length numbers.now)) a.states) accumulators.old.items }
     ensures taken { OnOk result (accumulators.new.items ≡ map (accumulated groups numbers.now batch.now.rows) accumulators.old.items) }
     ensures ready { OnOk result ((n : ℕ) → All (λ a. All (IsBoundedBy n) a.states) accumulators.old.items →
         All (IsAccumulator (length batch.now.fields) groups (n + length numbers.now)) accumulators.new.items) }
@@ -302,7 +305,7 @@ fn gather(
 ) -> Result<Vec<Column>, Memory>
     requires width { length accumulators.now ≤ length output.now }
     requires beside { All (λ a. length a.states ≡ length keys.now) accumulators.now }
-    requires bounded { All (λ a. All (IsBoundedBy (2 ^ 40)) a.states) accumulators.now }
+    requires bounded { All (λ a. All (IsBoundedBy (MAX_GROUPED_ROWS)) a.states) accumulators.now }
     ensures { IfOk result (λ columns. columns.items ≡ columns_of
         (group_picks (length output.now - length accumulators.now) keys.now accumulators.now (kinds_of output.now) (length output.now)) (numbers (length keys.now))) }
 {

@@ -20,7 +20,7 @@ mod states;
 mod sums;
 
 pub use aggregates::{Agg, Function, What};
-pub use groups::{GroupFault, Grouper};
+pub use groups::{GroupFault, Grouper, MAX_GROUPED_ROWS};
 pub use joins::{How, JoinTable, Probed, join_laws};
 pub use output_schemas::{group_schema, join_schema, roll_schema};
 pub use rolls::{MAX_WINDOW, Rolling};

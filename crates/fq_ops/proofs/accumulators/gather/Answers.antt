@@ -1,5 +1,6 @@
-use Rattle.std.proofs.Common.{◌<◌, ◌^◌, ◌++◌, ◌∷◌, [], length, map, subst, ap, sym, ◌∙◌, arith}
+use Rattle.std.proofs.Common.{◌<◌, ◌++◌, ◌∷◌, [], length, map, subst, ap, sym, ◌∙◌, arith}
 use Rattle.std.proofs.lemmas.List.{get_or-map, length-map}
+use Rattle.fq_ops.specs.declared.groups.TheConstants.{MAX_GROUPED_ROWS}
 use Rattle.fq_ops.specs.Accumulated.{running_pick}
 use Rattle.fq_ops.specs.Running.{Len, IsBoundedBy, of_kind, outcome}
 use Rattle.fq_ops.proofs.FinishLemmas.{column-more}
@@ -11,7 +12,7 @@ push_to-requires g c =
     let states = c.args.states.now.items in
     let state = c.index.result.now in
     let low : c.loop-group.group < length states = omega (arith, c.len-group-end.ensures) in
-    subst (IsBoundedBy (2 ^ 40)) (get_or-map run states c.loop-group.group state (run state) low ∙ sym (ap run c.index.ensures))
+    subst (IsBoundedBy (MAX_GROUPED_ROWS)) (get_or-map run states c.loop-group.group state (run state) low ∙ sym (ap run c.index.ensures))
     (c.requires c.loop-group.group (run state) (omega (arith, low, length-map states run)))
 
 pub loop-group-preserved : goal.loop-group-preserved

@@ -1,8 +1,9 @@
-use Rattle.std.proofs.Common.{◌≡◌, ◌+◌, ◌-◌, ◌^◌, ◌<◌, get_or, set, length, map, subst, sym, ap, ◌∙◌, arith}
+use Rattle.std.proofs.Common.{◌≡◌, ◌+◌, ◌-◌, ◌<◌, get_or, set, length, map, subst, sym, ap, ◌∙◌, arith}
 use Rattle.std.specs.Prelude.{All}
 use Rattle.std.proofs.lemmas.List.{get_or-map, length-map, length-set, map-set}
 use Rattle.std.proofs.lemmas.List.Elements.{All-set}
 use Rattle.fq_column.specs.declared.cells.Cell.TheVariants.{Null}
+use Rattle.fq_ops.specs.declared.groups.TheConstants.{MAX_GROUPED_ROWS}
 use Rattle.fq_ops.specs.Running.{Len, IsBoundedBy, stepped}
 use Rattle.fq_ops.proofs.AccumulatorLemmas.{all-more, stepped-more}
 use Rattle.fq_ops.proofs.RunningLemmas.{IsBoundedBy-more}
@@ -17,9 +18,9 @@ step-requires-clause-few g c =
     let state = c.index_mut-state.result.now in
     let low : n < length states = omega (arith, c.requires.within c.loop-row.row 0 (omega arith), c.loop-row.invariant.size) in
     let was : run state ≡ get_or xs n (run state) = ap run c.index_mut-state.ensures.value ∙ sym (get_or-map run states n state (run state) low) in
-    let all = c.loop-row.invariant.bounded (2 ^ 40 - length c.args.numbers.now) c.requires.bounded in
-    subst (IsBoundedBy (2 ^ 40)) (sym was)
-    (IsBoundedBy-more (2 ^ 40 - length c.args.numbers.now + c.loop-row.row) (2 ^ 40) (omega (arith, c.requires.few)) (get_or xs n (run state)) (all n (run state) (omega (arith, low, length-map states run))))
+    let all = c.loop-row.invariant.bounded (MAX_GROUPED_ROWS - length c.args.numbers.now) c.requires.bounded in
+    subst (IsBoundedBy (MAX_GROUPED_ROWS)) (sym was)
+    (IsBoundedBy-more (MAX_GROUPED_ROWS - length c.args.numbers.now + c.loop-row.row) (MAX_GROUPED_ROWS) (omega (arith, c.requires.few)) (get_or xs n (run state)) (all n (run state) (omega (arith, low, length-map states run))))
 
 pub loop-row-preserved : goal.loop-row-preserved
 loop-row-preserved g c =
