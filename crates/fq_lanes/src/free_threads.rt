@@ -21,7 +21,7 @@ use crate::reports::Report;
 use crate::sinks::Sink;
 use crate::sleeping::Parkers;
 use crate::tails::Tail;
-use crate::threads::{Core, start_feeds};
+use crate::threads::{Core, Crew, start_feeds};
 use crate::turns::run_turns;
 use crate::work::{MAX_WORKERS, Work};
 use crate::worker_lanes::WorkerLanes;
@@ -102,43 +102,32 @@ fn run_threads<
     W: Work<Item = F::Item> + Sync,
     G: Gate<W::Out> + Sync,
     H: Core<F::Item, W::Out> + Drop,
->(
-    rt: &'e R,
-    alloc: Global,
-    parkers: &'e Parkers,
-    feeds: Vec<F>,
-    work: &'e W,
-    gate: &'e G,
-    workers: u16,
-    hub: H,
-) -> (H, Result<(), Memory>)
+>(crew: &Crew<'e, R, W, G>, feeds: Vec<F>, hub: H) -> (H, Result<(), Memory>)
 where
     F::Item: Drop + Send + 'e,
     W::Out: Drop + Send + 'e,
     requires few { length feeds.items ≤ MAX_FEEDS }
-    requires parkers { (length parkers.now.feeds.items ≡ length feeds.items) × (length parkers.now.workers.items ≡ workers) }
+    requires parkers { (length crew.now.parkers.now.feeds.items ≡ length feeds.items) × (length crew.now.parkers.now.workers.items ≡ crew.now.workers) }
     requires open { All F.is_open feeds.items }
     requires hub { H.can_run hub (length feeds.items) }
     ensures refused { OnErr result.1 (result.0 ≡ hub) }
     ensures done { OnOk result.1 ((told : List (List (FromFeed F.Item))) × Each (Began F.gives F.may_fail) feeds.items told
-        × ((ds : List (WorkerView F.Item W.Out)) × AllReplied (W.gives work.now) ds × H.done hub told ds result.0)) }
+        × ((ds : List (WorkerView F.Item W.Out)) × AllReplied (W.gives crew.now.work.now) ds × H.done hub told ds result.0)) }
 {
     let feeds = feeds.into_iter();
     thread::scope(
         thread::scope_env(),
-        rt,
+        crew.rt,
         move |scope| -> (H, Result<(), Memory>)
-            requires { All F.is_open (into_iter_items feeds) × (length (into_iter_items feeds) ≤ MAX_FEEDS) × (length parkers.now.feeds.items ≡ length (into_iter_items feeds)) × (length parkers.now.workers.items ≡ workers) × H.can_run hub (length (into_iter_items feeds)) }
+            requires { All F.is_open (into_iter_items feeds) × (length (into_iter_items feeds) ≤ MAX_FEEDS) × (length crew.now.parkers.now.feeds.items ≡ length (into_iter_items feeds)) × (length crew.now.parkers.now.workers.items ≡ crew.now.workers) × H.can_run hub (length (into_iter_items feeds)) }
             ensures refused { OnErr result.1 (result.0 ≡ hub) }
             ensures done { OnOk result.1 ((told : List (List (FromFeed F.Item))) × Each (Began F.gives F.may_fail) (into_iter_items feeds) told
-                × ((ds : List (WorkerView F.Item W.Out)) × AllReplied (W.gives work.entry.now) ds × H.done hub told ds result.0)) }
+                × ((ds : List (WorkerView F.Item W.Out)) × AllReplied (W.gives crew.entry.now.work.now) ds × H.done hub told ds result.0)) }
         {
             let mut feeds = feeds;
-            let mut lanes = Vec::new(alloc);
+            let mut lanes = Vec::new(crew.alloc);
             let mut hub = hub;
-            let outcome = start_feeds(
-                scope, rt, alloc, parkers, work, gate, workers, &mut feeds, &mut lanes, &mut hub,
-            );
+            let outcome = start_feeds(scope, crew, &mut feeds, &mut lanes, &mut hub);
             (hub, outcome)
         },
     )
@@ -196,7 +185,15 @@ where
         },
         outcome: Ok(()),
     };
-    let (run, started) = run_threads(rt, alloc, &parkers, feeds, work, gate, workers, run);
+    let crew = Crew {
+        rt,
+        alloc,
+        parkers: &parkers,
+        work,
+        gate,
+        workers,
+    };
+    let (run, started) = run_threads(&crew, feeds, run);
     let Run {
         parker: _,
         hub,

@@ -1,5 +1,5 @@
 //! The threads of the feeds, and then those of the workers.
-ghost use Rattle.std.specs.Prelude.{◌≡◌, ◌≤◌, ◌+◌, ℕ, List, [], ◌∷◌, ◌++◌, IfOk, OnOk, OnErr, All, Result, length};
+ghost use Rattle.std.specs.Prelude.{◌≡◌, ◌<◌, ◌≤◌, ◌+◌, ℕ, List, [], ◌∷◌, ◌++◌, IfOk, OnOk, OnErr, All, Result, length};
 ghost use Rattle.std.specs.Vec.Iter.{into_iter_items};
 ghost use Rattle.fq_lanes.specs.WorkerLanes.{worker_name, worker_names, worker_view, worker_views, idle_worker, AreNewWorkers};
 ghost use Rattle.fq_lanes.specs.FeedLane.{feed_names, feed_view, new_feed, told_of, tolds_of, AreNewFeeds};
@@ -52,6 +52,17 @@ pub(crate) trait Core<X, O> {
         ensures lanes { feed_names lanes.new.items ≡ feed_names lanes.old.items }
         ensures workers { worker_names workers.new.items ≡ worker_names workers.old.items }
         ensures done { done self.old (tolds_of lanes.new.items) (worker_views workers.new.items) self.new };
+}
+
+/// What the threads of a run share, and how many workers there are.
+#[derive(Drop)]
+pub(crate) struct Crew<'s, R, W, G> {
+    pub(crate) rt: &'s R,
+    pub(crate) alloc: Global,
+    pub(crate) parkers: &'s Parkers,
+    pub(crate) work: &'s W,
+    pub(crate) gate: &'s G,
+    pub(crate) workers: u16,
 }
 
 /// What a worker's thread promises of its ends.
@@ -111,22 +122,21 @@ fn open_worker<'s, X: Drop, O: Drop>(
 /// fails or the runtime refuses the thread; the workers are then as before.
 fn start_worker<'s, E, R: Threads + Wait + Sync, W: Work + Sync, G: Gate<W::Out> + Sync>(
     scope: &Scope<'s, E>,
-    rt: &'s R,
-    alloc: Global,
-    waiter: Waiter<'s>,
+    crew: &Crew<'s, R, W, G>,
     number: u16,
-    work: &'s W,
-    gate: &'s G,
     workers: &mut Vec<WorkerLanes<'s, W::Item, W::Out>>,
 ) -> Result<WorkerHandle<W>, Memory>
 where
     W::Item: Drop + Send + 's,
     W::Out: Drop + Send + 's,
+    requires { number < length crew.now.parkers.now.workers.items }
     ensures started { IfOk result (λ child. (hub : WorkerLanes W.Item W.Out) × (workers.new.items ≡ workers.old.items ++ hub ∷ []) × (worker_view hub ≡ idle_worker)
-        × (child.promise.work.value ≡ work.now) × (worker_name hub ≡ (take_name child.promise.jobs.value, put_name child.promise.answers.value))) }
+        × (child.promise.work.value ≡ crew.now.work.now) × (worker_name hub ≡ (take_name child.promise.jobs.value, put_name child.promise.answers.value))) }
     ensures refused { OnErr result (workers.new.items ≡ workers.old.items) }
 {
-    let (their_jobs, their_answers) = open_worker(alloc, waiter, workers)?;
+    let (rt, work, gate) = (crew.rt, crew.work, crew.gate);
+    let waiter = crew.parkers.of_worker(number);
+    let (their_jobs, their_answers) = open_worker(crew.alloc, waiter, workers)?;
     let promise = WorkerPromise {
         work: Snapshot::of(work),
         jobs: Snapshot::of(&their_jobs),
@@ -179,13 +189,8 @@ fn start_workers_from<
     H: Core<W::Item, W::Out>,
 >(
     scope: &Scope<'s, E>,
-    rt: &'s R,
-    alloc: Global,
-    parkers: &'s Parkers,
-    work: &'s W,
-    gate: &'s G,
+    crew: &Crew<'s, R, W, G>,
     from: u16,
-    count: u16,
     lanes: &mut Vec<FeedLane<'s, W::Item>>,
     workers: &mut Vec<WorkerLanes<'s, W::Item, W::Out>>,
     hub: &mut H,
@@ -194,38 +199,25 @@ where
     W::Item: Drop + Send + 's,
     W::Out: Drop + Send + 's,
     requires few { length lanes.old.items ≤ MAX_FEEDS }
-    requires parkers { length parkers.now.workers.items ≡ count }
+    requires parkers { length crew.now.parkers.now.workers.items ≡ crew.now.workers }
     requires hub { H.can_run hub.old (length lanes.old.items) }
     requires lanes { AreNewFeeds lanes.old.items }
     requires workers { AreNewWorkers workers.old.items }
     ensures lanes { feed_names lanes.new.items ≡ feed_names lanes.old.items }
     ensures workers { worker_names workers.new.items ≡ worker_names workers.old.items }
     ensures refused { OnErr result (hub.new ≡ hub.old) }
-    ensures done { OnOk result ((ds : List (WorkerView W.Item W.Out)) × AllReplied (W.gives work.now) ds × H.done hub.old (tolds_of lanes.new.items) (worker_views workers.new.items ++ ds) hub.new) }
+    ensures done { OnOk result ((ds : List (WorkerView W.Item W.Out)) × AllReplied (W.gives crew.now.work.now) ds × H.done hub.old (tolds_of lanes.new.items) (worker_views workers.new.items ++ ds) hub.new) }
 {
-    if from >= count {
-        hub.run(rt, lanes, workers);
+    if from >= crew.workers {
+        hub.run(crew.rt, lanes, workers);
         return Ok(());
     }
-    let waiter = parkers.of_worker(from);
-    let Ok(child) = start_worker(scope, rt, alloc, waiter, from, work, gate, workers) else {
-        drain_lanes(rt, lanes, RunFault::Memory);
+    let Ok(child) = start_worker(scope, crew, from, workers) else {
+        drain_lanes(crew.rt, lanes, RunFault::Memory);
         return Err(Memory);
     };
-    let outcome = start_workers_from(
-        scope,
-        rt,
-        alloc,
-        parkers,
-        work,
-        gate,
-        from + 1,
-        count,
-        lanes,
-        workers,
-        hub,
-    );
-    close_worker(rt, workers, child);
+    let outcome = start_workers_from(scope, crew, from + 1, lanes, workers, hub);
+    close_worker(crew.rt, workers, child);
     outcome
 }
 
@@ -239,12 +231,7 @@ fn start_workers<
     H: Core<W::Item, W::Out>,
 >(
     scope: &Scope<'s, E>,
-    rt: &'s R,
-    alloc: Global,
-    parkers: &'s Parkers,
-    work: &'s W,
-    gate: &'s G,
-    count: u16,
+    crew: &Crew<'s, R, W, G>,
     lanes: &mut Vec<FeedLane<'s, W::Item>>,
     hub: &mut H,
 ) -> Result<(), Memory>
@@ -252,27 +239,15 @@ where
     W::Item: Drop + Send + 's,
     W::Out: Drop + Send + 's,
     requires few { length lanes.old.items ≤ MAX_FEEDS }
-    requires parkers { length parkers.now.workers.items ≡ count }
+    requires parkers { length crew.now.parkers.now.workers.items ≡ crew.now.workers }
     requires hub { H.can_run hub.old (length lanes.old.items) }
     requires lanes { AreNewFeeds lanes.old.items }
     ensures lanes { feed_names lanes.new.items ≡ feed_names lanes.old.items }
     ensures refused { OnErr result (hub.new ≡ hub.old) }
-    ensures done { OnOk result ((ds : List (WorkerView W.Item W.Out)) × AllReplied (W.gives work.now) ds × H.done hub.old (tolds_of lanes.new.items) ds hub.new) }
+    ensures done { OnOk result ((ds : List (WorkerView W.Item W.Out)) × AllReplied (W.gives crew.now.work.now) ds × H.done hub.old (tolds_of lanes.new.items) ds hub.new) }
 {
-    let mut workers = Vec::new(alloc);
-    start_workers_from(
-        scope,
-        rt,
-        alloc,
-        parkers,
-        work,
-        gate,
-        0,
-        count,
-        lanes,
-        &mut workers,
-        hub,
-    )
+    let mut workers = Vec::new(crew.alloc);
+    start_workers_from(scope, crew, 0, lanes, &mut workers, hub)
 }
 
 /// Opens the lane of a feed: the hub's end comes last among `lanes`, and the answer is the end of its thread.
@@ -356,12 +331,7 @@ pub(crate) fn start_feeds<
     H: Core<F::Item, W::Out>,
 >(
     scope: &Scope<'s, E>,
-    rt: &'s R,
-    alloc: Global,
-    parkers: &'s Parkers,
-    work: &'s W,
-    gate: &'s G,
-    count: u16,
+    crew: &Crew<'s, R, W, G>,
     feeds: &mut IntoIter<F>,
     lanes: &mut Vec<FeedLane<'s, F::Item>>,
     hub: &mut H,
@@ -371,25 +341,23 @@ where
     W::Out: Drop + Send + 's,
     requires open { All F.is_open (into_iter_items feeds.old) }
     requires few { length lanes.old.items + length (into_iter_items feeds.old) ≤ MAX_FEEDS }
-    requires parkers { (length parkers.now.feeds.items ≡ length lanes.old.items + length (into_iter_items feeds.old)) × (length parkers.now.workers.items ≡ count) }
+    requires parkers { (length crew.now.parkers.now.feeds.items ≡ length lanes.old.items + length (into_iter_items feeds.old)) × (length crew.now.parkers.now.workers.items ≡ crew.now.workers) }
     requires hub { H.can_run hub.old (length lanes.old.items + length (into_iter_items feeds.old)) }
     requires lanes { AreNewFeeds lanes.old.items }
     ensures lanes { feed_names lanes.new.items ≡ feed_names lanes.old.items }
     ensures refused { OnErr result (hub.new ≡ hub.old) }
     ensures done { OnOk result ((told : List (List (FromFeed F.Item))) × Each (Began F.gives F.may_fail) (into_iter_items feeds.old) told
-        × ((ds : List (WorkerView F.Item W.Out)) × AllReplied (W.gives work.now) ds × H.done hub.old (tolds_of lanes.new.items ++ told) ds hub.new)) }
+        × ((ds : List (WorkerView F.Item W.Out)) × AllReplied (W.gives crew.now.work.now) ds × H.done hub.old (tolds_of lanes.new.items ++ told) ds hub.new)) }
 {
     let Some(feed) = feeds.next() else {
-        return start_workers(scope, rt, alloc, parkers, work, gate, count, lanes, hub);
+        return start_workers(scope, crew, lanes, hub);
     };
-    let waiter = parkers.of_feed(lanes.len());
-    let Ok(child) = start_feed(scope, rt, alloc, waiter, feed, lanes) else {
-        drain_lanes(rt, lanes, RunFault::Memory);
+    let waiter = crew.parkers.of_feed(lanes.len());
+    let Ok(child) = start_feed(scope, crew.rt, crew.alloc, waiter, feed, lanes) else {
+        drain_lanes(crew.rt, lanes, RunFault::Memory);
         return Err(Memory);
     };
-    let outcome = start_feeds(
-        scope, rt, alloc, parkers, work, gate, count, feeds, lanes, hub,
-    );
-    close_feed(lanes, child.join(rt));
+    let outcome = start_feeds(scope, crew, feeds, lanes, hub);
+    close_feed(lanes, child.join(crew.rt));
     outcome
 }

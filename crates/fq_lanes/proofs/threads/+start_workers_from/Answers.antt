@@ -8,8 +8,8 @@ use Rattle.fq_lanes.specs.WorkerLanes.{AreNewWorkers, worker_views, worker_name,
 use Rattle.fq_lanes.proofs.ThreadLemmas.{list_moves, new_workers_push}
 use Rattle.fq_lanes.proofs.threads.+start_workers_from.Goals as goal
 
-pub returns-then-from-count-clause-done : goal.returns-then-from-count-clause-done
-returns-then-from-count-clause-done g t c =
+pub returns-then-from-crew-clause-done : goal.returns-then-from-crew-clause-done
+returns-then-from-crew-clause-done g t c =
     ([], tt, subst (λ ds. g.H.Core.done c.args.hub.now (tolds_of c.run.new.lanes.items) ds c.run.new.self) (sym (append-nil (worker_views c.run.new.workers.items))) c.run.ensures.done)
 
 pub start_workers_from-outcome-requires-clause-workers : goal.start_workers_from-outcome-requires-clause-workers
@@ -28,7 +28,7 @@ close_worker-requires g t c =
 pub returns-clause-done : goal.returns-clause-done
 returns-clause-done g t c =
     let last = c.close_worker.ensures.last in
-    let here : Replied (g.W.Work.gives c.args.work.now) (put_items last.0.jobs) (taken_items last.0.answers) = subst (λ w. Replied (g.W.Work.gives w) (put_items last.0.jobs) (taken_items last.0.answers)) c.in-Ok.ensures.started.3 last.2 in
+    let here : Replied (g.W.Work.gives c.args.crew.now.work.now) (put_items last.0.jobs) (taken_items last.0.answers) = subst (λ w. Replied (g.W.Work.gives w) (put_items last.0.jobs) (taken_items last.0.answers)) c.in-Ok.ensures.started.3 last.2 in
     on_ok_weaker c.start_workers_from-outcome.result
     (λ i. (
       worker_view last.0 ∷ i.0,
