@@ -1,9 +1,9 @@
 -- The places of the rows that a join puts together.
-use Rattle.std.specs.Prelude.{ℕ, ◌-◌, Bool, true, not, ◌||◌, List, [], ◌∷◌, ◌++◌, map, filter, length, nat_le, replicate, slice_index_or, Option, Some, None, if◌then◌else◌}
+use Rattle.std.specs.Prelude.{◌≡◌, ℕ, ◌-◌, ◌≤◌, Bool, true, not, ◌||◌, List, [], ◌∷◌, ◌++◌, map, filter, length, nat_le, replicate, slice_index_or, Option, Some, None, if◌then◌else◌}
 use Rattle.std.specs.List.{list_any}
 use Rattle.fq_column.specs.declared.cells.Cell.{Cell}
 use Rattle.fq_column.specs.Cell.{is_null}
-use Rattle.fq_column.specs.Lists.{numbers}
+use Rattle.fq_column.specs.Lists.{keep, numbers}
 use Rattle.std.specs.Option.{option_map_or}
 use Rattle.fq_column.specs.declared.cells.Cell.TheVariants.{Null}
 use Rattle.fq_column.specs.Frame.{Fields, Frame, Name, Row, column_at, has_name, value_at, value_named}
@@ -65,6 +65,10 @@ named_key fields on rows n = map (λ m. value_named fields m (slice_index_or row
 abbrev pub join_pairs : How → Bool → Fields → Fields → List Name → List Row → ℕ → List Row → List Pair × Option ℕ
 join_pairs how nulls_equal left right on rows room ls =
     pairs_within (λ l. pairs_of how l (matches_of nulls_equal (named_key right on rows) (length rows) (named_key left on ls l))) room (numbers (length ls))
+
+-- marks of rows: true for those at these places, which rise
+pub record AreMarks (marks : List Bool) (places : List ℕ) : Type 0 where
+  pub kept : (rows : List Row) → length marks ≤ length rows → keep marks rows ≡ map (λ p. slice_index_or rows p []) places
 
 -- the value of a pair in a left column, and in a right one
 abbrev pub left_value : List Row → ℕ → Pair → Cell

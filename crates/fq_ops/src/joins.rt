@@ -3,7 +3,7 @@ ghost use Rattle.std.specs.Prelude.{◌≡◌, ◌≤◌, ◌<◌, ◌+◌, ◌-
 ghost use Rattle.std.specs.List.{position_or_len};
 ghost use Rattle.indexmap.specs.IndexSet.{insert_key};
 ghost use Rattle.fq_column.specs.Frame.{Fields, IsFrame, Name, Row, has_name};
-ghost use Rattle.fq_column.specs.Lists.{numbers};
+ghost use Rattle.fq_column.specs.Lists.{keep as kept, numbers};
 ghost use Rattle.fq_column.specs.declared.cells.Cell.{Cell as Value};
 ghost use Rattle.fq_column.specs.Stream.{then_stream, rename_fault};
 ghost use Rattle.fq_ops.specs.Group.{same_key};
@@ -168,14 +168,13 @@ impl JoinTable {
     /// The rows that the left rows give in turn, each with its matches in the order of the right rows, as far as `room`
     /// rows go. Stops before the first left row whose output would pass the room, and names it.
     ///
-    /// One lookup for each left row; then whole columns are gathered.
-    pub fn probe(&self, alloc: Global, left: &Batch, how: How, room: u64) -> Result<Probed, Memory>
-        requires { IsOk (judged_join how left.now.fields self.now.fields self.now.on) }
-        ensures fields { IfOk result
-            (λ p. p.batch.fields ≡ joined_fields how left.now.fields self.now.fields self.now.on) }
-        ensures rows { let u = join_rows how self.now.nulls_equal left.now.fields self.now.fields self.now.on self.now.rows room left.now.rows in
+    /// One lookup for each left row; then whole columns are gathered. Where no left row gives two, the left values are moved.
+    pub fn probe(&self, alloc: Global, left: Batch, how: How, room: u64) -> Result<Probed, Memory>
+        requires { IsOk (judged_join how left.fields self.now.fields self.now.on) }
+        ensures fields { IfOk result (λ p. p.batch.fields ≡ joined_fields how left.fields self.now.fields self.now.on) }
+        ensures rows { let u = join_rows how self.now.nulls_equal left.fields self.now.fields self.now.on self.now.rows room left.rows in
             IfOk result (λ p. p.batch.rows ≡ u.rows) }
-        ensures fault { let u = join_rows how self.now.nulls_equal left.now.fields self.now.fields self.now.on self.now.rows room left.now.rows in
+        ensures fault { let u = join_rows how self.now.nulls_equal left.fields self.now.fields self.now.on self.now.rows room left.rows in
             IfOk result (λ p. p.fault ≡ u.fault) }
     {
         let on = self.on.as_slice();
@@ -184,7 +183,7 @@ impl JoinTable {
         };
         let places = positions(alloc, left.schema(), on)?;
         let places = places.as_slice();
-        let (pairs, fault) = pair_rows(alloc, &self.seen, &self.groups, places, left, how, room)?;
+        let (pairs, fault) = pair_rows(alloc, &self.seen, &self.groups, places, &left, how, room)?;
         let columns = gather(alloc, left, &self.right, on, how, &pairs)?;
         Ok(Piece {
             batch: Batch::new(schema, columns),
@@ -196,22 +195,45 @@ impl JoinTable {
 // The columns of pairs of rows: the left ones, then the right ones that the output takes.
 fn gather(
     alloc: Global,
-    left: &Batch,
+    left: Batch,
     right: &Batch,
     on: &[String],
     how: How,
     pairs: &Pairs,
 ) -> Result<Vec<Column>, Memory>
-    ensures { IfOk result (λ columns. columns.items ≡ columns_of (join_picks how left.now right.now (map string_bytes on.now)) pairs.now) }
+    ensures { IfOk result (λ columns. columns.items ≡ columns_of (join_picks how left right.now (map string_bytes on.now)) pairs.now) }
 {
-    let columns = gather_left(alloc, left, pairs)?;
+    let columns = take_left(alloc, left, pairs)?;
     match how {
         How::Inner | How::Left => gather_right(alloc, right, on, pairs, columns),
         How::Semi | How::Anti => Ok(columns),
     }
 }
 
-// The left columns of pairs of rows.
+// The left columns of pairs of rows: moved if no row stands in two pairs and they come in their order, and otherwise copied.
+fn take_left(alloc: Global, mut left: Batch, pairs: &Pairs) -> Result<Vec<Column>, Memory>
+    ensures { IfOk result (λ columns. columns.items ≡ columns_of (picks_from (λ _. true) (left_value left.rows) 0 left.fields) pairs.now) }
+{
+    let Some(marks) = pairs.left_marks(alloc, left.rows())? else {
+        return gather_left(alloc, &left, pairs);
+    };
+    keep_rows(&mut left, marks.as_slice(), pairs.left().len());
+    let (_, columns) = left.into_parts();
+    Ok(columns)
+}
+
+// Keeps the rows of a batch that are marked, which are so many.
+fn keep_rows(batch: &mut Batch, marks: &[bool], count: usize)
+    requires marks { length marks.now ≡ length batch.old.rows }
+    requires count { length (kept marks.now batch.old.rows) ≡ count }
+    ensures { batch.new ≡ record batch.old { rows = kept marks.now batch.old.rows } }
+{
+    if count < marks.len() {
+        batch.keep(marks);
+    }
+}
+
+// Copies of the left columns of pairs of rows.
 fn gather_left(alloc: Global, left: &Batch, pairs: &Pairs) -> Result<Vec<Column>, Memory>
     ensures { IfOk result (λ columns. columns.items ≡ columns_of (picks_from (λ _. true) (left_value left.now.rows) 0 left.now.fields) pairs.now) }
 {

@@ -1,5 +1,6 @@
 //! Pairs of places that a join puts together.
-ghost use Rattle.std.specs.Prelude.{◌≡◌, ◌++◌, [], ◌∷◌, map, length, IfOk, OnOk};
+ghost use Rattle.std.specs.Prelude.{◌≡◌, ◌++◌, [], ◌∷◌, map, length, IfOk, IfSome, OnOk};
+ghost use Rattle.fq_ops.specs.Pairs.{AreMarks};
 
 use fq_column::Memory;
 use std::alloc::Global;
@@ -43,6 +44,23 @@ impl Pairs {
             return Err(Memory);
         };
         Ok(())
+    }
+
+    /// Marks of this many left rows, true for those that stand in a pair, if they come in their order and none twice; `None` if not.
+    pub fn left_marks(&self, alloc: Global, rows: usize) -> Result<Option<Vec<bool>>, Memory>
+        ensures rows { IfOk result (λ o. IfSome o (λ marks. length marks.items ≡ rows)) }
+        ensures marks { IfOk result (λ o. IfSome o (λ marks. AreMarks marks.items (map (λ p. p.0) self.now))) }
+    {
+        let mut marks = Vec::with_capacity(alloc, rows)?;
+        for place in self.left() {
+            if *place < marks.len() || *place >= rows {
+                return Ok(None);
+            }
+            marks.resize(*place, false)?;
+            marks.push(true)?;
+        }
+        marks.resize(rows, false)?;
+        Ok(Some(marks))
     }
 
     /// The left places.

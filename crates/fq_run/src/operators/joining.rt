@@ -61,7 +61,7 @@ impl Joining {
         requires { (m : Transform) × ((rows : List Row) × ((m.takes ≡ batch.fields) × ((m.at_once rows).fault ≡ None) × HasJoined self.old m rows)) }
         ensures { IfOk result (λ p. Takes (HasJoined self.old) (HasJoined self.new) batch p) }
     {
-        let Probed { batch, fault } = self.table.probe(alloc, &batch, self.how, self.room)?;
+        let Probed { batch, fault } = self.table.probe(alloc, batch, self.how, self.room)?;
         self.room -= batch.rows() as u64;
         let fault = match fault {
             Some(_) => Some(Fault::JoinRows { step: self.number }),

@@ -18,14 +18,14 @@ all-taken how right (inr e) = ap (λ h. taken h right) e
 
 pub returns-in-Semi : goal.returns-in-Semi
 returns-in-Semi c =
-    let left : List (Pick Pair) = picks_from (λ _. true) (left_value c.args.left.now.rows) 0 c.args.left.now.fields in
+    let left : List (Pick Pair) = picks_from (λ _. true) (left_value c.args.left.rows) 0 c.args.left.fields in
     let other : Name → Bool = λ n. not (has_name (map string_bytes c.args.on.now) n) in
     c.in_ok-columns.ensures ∙ ap (λ ps. columns_of ps c.args.pairs.now) (sym (append-nil left))
     ∙ ap (λ (fields : Fields). columns_of (left ++ picks_from other (right_value c.args.right.now.rows) 0 fields) c.args.pairs.now) (sym (none-taken c.args.how c.args.right.now.fields c.in-Semi.is))
 
 pub returns-in-Inner : goal.returns-in-Inner
 returns-in-Inner c =
-    let left : List (Pick Pair) = picks_from (λ _. true) (left_value c.args.left.now.rows) 0 c.args.left.now.fields in
+    let left : List (Pick Pair) = picks_from (λ _. true) (left_value c.args.left.rows) 0 c.args.left.fields in
     let other : Name → Bool = λ n. not (has_name (map string_bytes c.args.on.now) n) in
     IfOk-weaker c.gather_right.result _ _ (λ all h. h left c.in_ok-columns.ensures
     ∙ ap (λ (fields : Fields). columns_of (left ++ picks_from other (right_value c.args.right.now.rows) 0 fields) c.args.pairs.now) (sym (all-taken c.args.how c.args.right.now.fields c.in-Inner.is))) c.gather_right.ensures

@@ -30,7 +30,7 @@ judged how left right on l r o s e f g ok (inr h) = absurd (cc)
 
 pub positions-requires : goal.positions-requires
 positions-requires c =
-    let left = c.args.left.now in
+    let left = c.args.left in
     let right = c.self.inside.right in
     let on = map string_bytes c.self.inside.on.items in
     let ok = subst (λ (t : Table). IsOk (join_schema c.args.how left.fields t.fields t.on)) (sym c.self.view_is) c.requires in
@@ -39,7 +39,7 @@ positions-requires c =
 
 pub new-requires-clause-kinds : goal.new-requires-clause-kinds
 new-requires-clause-kinds c =
-    let left = c.args.left.now in
+    let left = c.args.left in
     let right = c.self.inside.right in
     let on = map string_bytes c.self.inside.on.items in
     let ok = subst (λ (t : Table). IsOk (join_schema c.args.how left.fields t.fields t.on)) (sym c.self.view_is) c.requires in
@@ -50,7 +50,7 @@ new-requires-clause-kinds c =
 
 pub new-requires-clause-lengths : goal.new-requires-clause-lengths
 new-requires-clause-lengths c =
-    let left = c.args.left.now in
+    let left = c.args.left in
     let right = c.self.inside.right in
     let on = map string_bytes c.self.inside.on.items in
     let names : map string_bytes c.as_slice-on.result.now ≡ on = ap (map string_bytes) c.as_slice-on.ensures.value in
@@ -60,7 +60,7 @@ new-requires-clause-lengths c =
 
 pub returns-clause-fields : goal.returns-clause-fields
 returns-clause-fields c =
-    let left = c.args.left.now in
+    let left = c.args.left in
     let right = c.self.inside.right in
     let on = map string_bytes c.self.inside.on.items in
     let ok = subst (λ (t : Table). IsOk (join_schema c.args.how left.fields t.fields t.on)) (sym c.self.view_is) c.requires in
@@ -71,7 +71,7 @@ returns-clause-fields c =
 
 pub returns-clause-rows : goal.returns-clause-rows
 returns-clause-rows c =
-    let left = c.args.left.now in
+    let left = c.args.left in
     let nulls_equal = c.self.inside.nulls_equal in
     let right = c.self.inside.right in
     let on = map string_bytes c.self.inside.on.items in
@@ -99,7 +99,7 @@ returns-clause-rows c =
 
 pub returns-clause-fault : goal.returns-clause-fault
 returns-clause-fault c =
-    let left = c.args.left.now in
+    let left = c.args.left in
     let nulls_equal = c.self.inside.nulls_equal in
     let right = c.self.inside.right in
     let on = map string_bytes c.self.inside.on.items in
