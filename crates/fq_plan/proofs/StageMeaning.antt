@@ -20,12 +20,13 @@ use Rattle.fq_plan.specs.Meaning.{apply_plan_step, apply_plan_steps, fields_afte
 use Rattle.fq_plan.specs.Plan.{PlanStep, row_wise, join, group_by, rolling_sum}
 use Rattle.fq_plan.specs.Stages.{Leads, Turns, IsChecked, operator_steps, query_of, stage_steps}
 use Rattle.fq_plan.proofs.LeadingStepLemmas.{leading-steps}
+use Rattle.fq_run.specs.declared.operators.joining.TheConstants.{MAX_JOINED_ROWS}
 use Rattle.fq_run.specs.Outcome.{columns_after, frame_or_fault}
 use Rattle.fq_run.specs.Physical.{Physical, after_leading, front_fields, side_files, main_fields, outcome_of_run, outcome_of_sources}
 use Rattle.fq_run.specs.Sources.{Source, but_last, concat_streams, first_fault, frames_of, scan_fault, source_streams}
 use Rattle.fq_run.specs.Stages.{Accepts, Fit, schema_with}
 use Rattle.fq_run.specs.Starting.{nothing, transform_of, transforms_of}
-use Rattle.fq_run.specs.Transforms.{join_room, whole, whole_all}
+use Rattle.fq_run.specs.Transforms.{whole, whole_all}
 use Rattle.fq_run.specs.declared.faults.Fault.{Fault}
 use Rattle.fq_run.specs.declared.faults.Fault.TheVariants.{Overflow, JoinRows, RollRange, SumRange}
 use Rattle.fq_run.specs.declared.operators.Operator.{Operator}
@@ -83,15 +84,15 @@ module _ (sides : List Frame) (n : ℕ) (fields after : Fields) (u : Stream Faul
       go (Some r) e h = (r, e)
 
   pub join-turn : (source : ℕ) (on : List Name) (how : How) (nulls_equal : Bool) (right : Frame) → right ≡ get_or sides source right → judged_step (map (λ f. f.fields) sides) fields (join (pos source) on how nulls_equal) ≡ Ok after →
-      s ≡ (joined_fields how fields right.fields on, join_stream how nulls_equal fields right.fields on right.rows join_room (JoinRows n) u) → Is (join (pos source) on how nulls_equal ∷ [])
+      s ≡ (joined_fields how fields right.fields on, join_stream how nulls_equal fields right.fields on right.rows MAX_JOINED_ROWS (JoinRows n) u) → Is (join (pos source) on how nulls_equal ∷ [])
   join-turn source on how nulls_equal right is t h =
       let there = source-there how source on t in
       let at : slice_get sides source ≡ Some right = there.1 ∙ ap Some (sym (get_or_from_slice_get sides source there.0 right there.1) ∙ sym is) in
       let known : join_schema how fields right.fields on ≡ Ok after = ap (schema_with how fields on) (sym (slice_get-map (λ (f : Frame). f.fields) sides source ∙ ap (option_map (λ (f : Frame). f.fields)) at)) ∙ t in
       let same : (let output : Result Fields StepFault = Ok (joined_fields how fields right.fields on) in output) ≡ Ok after = sym (join-output how fields right.fields on (ap is_ok known)) ∙ known in
-      step-turn (join (pos source) on how nulls_equal) (joined_fields how fields right.fields on) (join_stream how nulls_equal fields right.fields on right.rows join_room (JoinRows n) u) t
+      step-turn (join (pos source) on how nulls_equal) (joined_fields how fields right.fields on) (join_stream how nulls_equal fields right.fields on right.rows MAX_JOINED_ROWS (JoinRows n) u) t
       (cc)
-      (ap (λ (o : Option Frame). elim o [ None ↦ u | Some right ↦ join_stream how nulls_equal fields right.fields on right.rows join_room (JoinRows n) u ]) at)
+      (ap (λ (o : Option Frame). elim o [ None ↦ u | Some right ↦ join_stream how nulls_equal fields right.fields on right.rows MAX_JOINED_ROWS (JoinRows n) u ]) at)
       h
 
 -- ---- stages, one after the other

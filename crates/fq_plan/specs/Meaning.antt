@@ -10,9 +10,9 @@ use Rattle.fq_ops.specs.Join.{join_stream}
 use Rattle.fq_ops.specs.Roll.{roll_stream}
 use Rattle.fq_plan.specs.Judged.{judged_step}
 use Rattle.fq_plan.specs.Plan.{PlanStep, row_wise, join, group_by, rolling_sum, Query, item_at, side_files, main_fields}
+use Rattle.fq_run.specs.declared.operators.joining.TheConstants.{MAX_JOINED_ROWS}
 use Rattle.fq_run.specs.Outcome.{frame_or_fault}
 use Rattle.fq_run.specs.Sources.{but_last, concat_streams, first_fault, frames_of, scan_fault, source_streams}
-use Rattle.fq_run.specs.Transforms.{join_room}
 use Rattle.fq_run.specs.declared.faults.Fault.{Fault}
 use Rattle.fq_run.specs.declared.faults.Fault.TheVariants.{Overflow, JoinRows, RollRange, SumRange}
 
@@ -21,7 +21,7 @@ module _ (sides : List Frame) where
   -- step n on a stream of rows with these columns
   abbrev pub apply_plan_step : ℕ → Fields → PlanStep → Stream Fault → Stream Fault
   apply_plan_step n fields (row_wise s) u = apply_step Overflow n fields s u
-  apply_plan_step n fields (join source on how nulls_equal) u = elim (item_at sides source) [ None ↦ u | Some right ↦ join_stream how nulls_equal fields right.fields on right.rows join_room (JoinRows n) u ]
+  apply_plan_step n fields (join source on how nulls_equal) u = elim (item_at sides source) [ None ↦ u | Some right ↦ join_stream how nulls_equal fields right.fields on right.rows MAX_JOINED_ROWS (JoinRows n) u ]
   apply_plan_step n fields (group_by keys aggs) u = group_stream fields keys aggs (SumRange n) u
   apply_plan_step n fields (rolling_sum column window min_samples name) u = roll_stream fields column (nat_abs window) (nat_abs min_samples) name (RollRange n) u
 

@@ -34,8 +34,8 @@ fn refusal_of_number(alloc: Global, refusal: &Error) -> Result<Option<String>, A
     Ok(Some(text))
 }
 
-// What stands before the reason in `error: invalid value '0' for '--batch <N>': ..`, but for the quote, and the least and the greatest
-// number that the option takes.
+// Of `error: invalid value '0' for '--batch <N>': ..`, the text before its last quote, and the least and the greatest number that the
+// option takes.
 fn number_in(text: &str) -> Option<(&str, u64, u64)> {
     let (argument, _) = text.rsplit_once("': ")?;
     let (_, option) = argument.rsplit_once("'--")?;

@@ -1,4 +1,8 @@
 //! A plan that files draft.
+ghost use Rattle.std.specs.Prelude.{OnOk};
+ghost use Rattle.fq_csv.specs.Readers.{IsPlain};
+ghost use Rattle.fq_places.specs.Marks.{IsSound};
+
 use crate::guesses::Guess;
 use crate::headers::has_names;
 use csv::ByteRecord;
@@ -80,6 +84,25 @@ impl Source {
         let (ours, theirs) = (self.columns.as_slice(), other.columns.as_slice());
         ours.len() == theirs.len() && ours.iter().zip(theirs.iter()).all(|(a, b)| a.0 == b.0)
     }
+
+    // Takes a row on a line of a file.
+    fn take_row(
+        &mut self,
+        alloc: Global,
+        nulls: &NullValues,
+        place: (u16, u64),
+        row: &ByteRecord,
+    ) -> Result<(), Memory> {
+        if row.len() != self.columns.len() {
+            let (rows, first) = self.left_out.unwrap_or((0, place));
+            self.left_out = Some((rows.saturating_add(1), first));
+            return Ok(());
+        }
+        for (field, column) in row.iter().zip(self.columns.iter_mut()) {
+            column.1.add(alloc, field, nulls, place)?;
+        }
+        Ok(())
+    }
 }
 
 impl Draft {
@@ -103,7 +126,8 @@ impl Draft {
         self.sources.len()
     }
 
-    /// Reads the next file, of which both of these are readers. A row of another width than the header is left out.
+    /// Reads the next file, of which both of these are readers. A row of another width than the header is left out. With a fault, what the
+    /// last source held may be gone.
     pub fn read_file<A: Read + Drop, B: Read + Drop>(
         &mut self,
         records: A,
@@ -111,71 +135,53 @@ impl Draft {
     ) -> Result<(), DraftFault> {
         let file = self.files;
         self.files = file.saturating_add(1);
-        self.read_records(file, records, marks)
+        let source = self.read_source(file, records, marks)?;
+        self.sources.push(source)?;
+        Ok(())
     }
 
-    // Reads a file of this number.
-    fn read_records<A: Read + Drop, B: Read + Drop>(
+    // Reads a file of this number, and gives its source.
+    fn read_source<A: Read + Drop, B: Read + Drop>(
         &mut self,
         file: u16,
         records: A,
         marks: B,
-    ) -> Result<(), DraftFault> {
+    ) -> Result<Source, DraftFault> {
         let mut records = match LinedRecords::new(self.alloc, records, marks) {
             Ok(records) => records,
             Err(cause) => return Err(fault_of(file, cause)),
         };
-        for row in 0..u64::MAX {
-            let line = match records.next() {
-                Ok(line) => line,
-                Err(cause) => return Err(fault_of(file, cause)),
-            };
-            match line {
-                None if row == 0 => return Err(DraftFault::NoHeader { file }),
-                None => return Ok(()),
-                Some(_) if row == 0 => self.take_header(file, &records.row)?,
-                Some(line) => self.take_row((file, line), &records.row)?,
-            }
+        if next_line(file, &mut records)?.is_none() {
+            return Err(DraftFault::NoHeader { file });
         }
-        Ok(())
+        let mut source = self.take_source(file, &records.row)?;
+        for _ in 0..u64::MAX {
+            let Some(line) = next_line(file, &mut records)? else {
+                break;
+            };
+            source.take_row(self.alloc, &self.nulls, (file, line), &records.row)?;
+        }
+        Ok(source)
     }
 
-    // Takes the header of a file: it is one more file of the last source, or the first of another.
-    fn take_header(&mut self, file: u16, header: &ByteRecord) -> Result<(), DraftFault> {
-        if let Some(source) = self.sources.last_mut()
-            && has_names(header, source.columns.as_slice())
-        {
+    // The source of a file with this header: the last, with one file more, if it has the same names, and else another.
+    fn take_source(&mut self, file: u16, header: &ByteRecord) -> Result<Source, DraftFault> {
+        let has_header = |last: &mut Source| has_names(header, last.columns.as_slice());
+        if let Some(mut source) = self.sources.pop_if(has_header) {
             source.files = source.files.saturating_add(1);
-            return Ok(());
+            return Ok(source);
         }
         let names = names_of(self.alloc, file, header)?;
         let mut columns = Vec::with_capacity(self.alloc, names.len())?;
         for name in names {
             columns.push((name, Guess::new(self.alloc)))?;
         }
-        self.sources.push(Source {
+        Ok(Source {
             first: file,
             files: 1,
             columns,
             left_out: None,
-        })?;
-        Ok(())
-    }
-
-    // Takes a row on a line of a file of the last source.
-    fn take_row(&mut self, place: (u16, u64), row: &ByteRecord) -> Result<(), Memory> {
-        let Some(source) = self.sources.last_mut() else {
-            return Ok(());
-        };
-        if row.len() != source.columns.len() {
-            let (rows, first) = source.left_out.unwrap_or((0, place));
-            source.left_out = Some((rows.saturating_add(1), first));
-            return Ok(());
-        }
-        for (field, column) in row.iter().zip(source.columns.iter_mut()) {
-            column.1.add(self.alloc, field, &self.nulls, place)?;
-        }
-        Ok(())
+        })
     }
 
     /// The plan, in JSON.
@@ -273,6 +279,19 @@ fn write_likeness<E: Write>(
         "{name} has the header of {like}: named one after the other, they are one source"
     )
     .ok()
+}
+
+// Reads the next record of a file, and gives its line, or nothing after the last.
+fn next_line<A: Read + Drop, B: Read + Drop>(
+    file: u16,
+    records: &mut LinedRecords<A, B>,
+) -> Result<Option<u64>, DraftFault>
+    requires plain { IsPlain records.old.records }
+    requires sound { IsSound records.old.marks }
+    ensures plain { OnOk result (IsPlain records.new.records) }
+    ensures sound { OnOk result (IsSound records.new.marks) }
+{
+    records.next().map_err(|cause| fault_of(file, cause))
 }
 
 // A text as JSON has it.

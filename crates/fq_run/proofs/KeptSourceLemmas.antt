@@ -22,7 +22,8 @@ use Rattle.fq_run.specs.Kept.{shape, Takes, IsSound, AreSound}
 use Rattle.fq_run.specs.Run.{IsRunFault}
 use Rattle.fq_run.specs.Sources.{first_fault, row_fault, scan_fault}
 use Rattle.fq_run.specs.Starting.{nothing, transform_of, transforms_of}
-use Rattle.fq_run.specs.Transforms.{Transform, join_room, whole, whole_all}
+use Rattle.fq_run.specs.declared.operators.joining.TheConstants.{MAX_JOINED_ROWS}
+use Rattle.fq_run.specs.Transforms.{Transform, whole, whole_all}
 use Rattle.fq_run.specs.Working.{piece_stream}
 use Rattle.fq_run.specs.declared.faults.Fault.{Fault}
 use Rattle.fq_run.specs.declared.faults.Fault.TheVariants as fault
@@ -146,8 +147,8 @@ module _ (sides : List Frame) where
       let right : Frame = slice_index_or sides j.source nothing in
       let names : List Name = map string_bytes j.on.items in
       let t : Table = record { fields = right.fields; rows = right.rows; on = names; nulls_equal = j.nulls_equal } in
-      sound (join_stream j.how j.nulls_equal fields right.fields names right.rows join_room (fault.JoinRows n) u) (whole (transform_of sides n fields (Join j)) u) (join-whole n j.how t fields u)
-      (sound-step_on (join_rows j.how j.nulls_equal fields right.fields names right.rows join_room) (λ place. fault.JoinRows n) (λ g. tt) u h)
+      sound (join_stream j.how j.nulls_equal fields right.fields names right.rows MAX_JOINED_ROWS (fault.JoinRows n) u) (whole (transform_of sides n fields (Join j)) u) (join-whole n j.how t fields u)
+      (sound-step_on (join_rows j.how j.nulls_equal fields right.fields names right.rows MAX_JOINED_ROWS) (λ place. fault.JoinRows n) (λ g. tt) u h)
   sound-stage n fields (GroupBy g) u h =
       let names : List Name = map string_bytes g.keys.items in
       sound (group_stream fields names (outputs_of g.aggs.items) (fault.SumRange n) u) (whole (transform_of sides n fields (GroupBy g)) u) (group-whole n fields names (outputs_of g.aggs.items) u)

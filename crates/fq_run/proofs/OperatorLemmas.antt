@@ -20,7 +20,8 @@ use Rattle.fq_ops.specs.Taken.{HasTakenCells, Window}
 use Rattle.fq_ops.specs.declared.joins.How.{How}
 use Rattle.fq_ops.proofs.JoinLemmas.{within-parts}
 use Rattle.fq_ops.proofs.RollLemmas.{rolled-append, rolled-added}
-use Rattle.fq_run.specs.Transforms.{Transform, join_room, roll_transform, steps_transform}
+use Rattle.fq_run.specs.declared.operators.joining.TheConstants.{MAX_JOINED_ROWS}
+use Rattle.fq_run.specs.Transforms.{Transform, roll_transform, steps_transform}
 use Rattle.fq_run.specs.RunningOperators.{HasJoined, HasSummed, IsNext}
 use Rattle.fq_run.specs.Sources.{row_fault}
 use Rattle.fq_run.specs.declared.faults.Fault.{Fault}
@@ -82,23 +83,23 @@ module _ (j : Joining) (m : Transform) (rows : List Row) (batch : Frame) (h : Ha
   abbrev full : ℕ → Fault
   full _ = JoinRows j.number
 
-  room-left : j.room ≡ join_room - length (joins join_room rows).rows
-  room-left = h.room ∙ ap (λ (m : Transform). join_room - length (m.at_once rows).rows) h.transform
+  room-left : j.room ≡ MAX_JOINED_ROWS - length (joins MAX_JOINED_ROWS rows).rows
+  room-left = h.room ∙ ap (λ (m : Transform). MAX_JOINED_ROWS - length (m.at_once rows).rows) h.transform
 
   constant : (n : ℕ) (o : Option ℕ) → option_map full (option_map (λ p. n + p) o) ≡ option_map full o
   constant n None = refl
   constant n (Some p) = refl
 
-  joined-on : joins join_room (rows ++ batch.rows) ≡ then_stream (joins join_room rows) (rename_fault (λ p. length rows + p) (joins j.room batch.rows))
+  joined-on : joins MAX_JOINED_ROWS (rows ++ batch.rows) ≡ then_stream (joins MAX_JOINED_ROWS rows) (rename_fault (λ p. length rows + p) (joins j.room batch.rows))
   joined-on =
-      within-parts (joined m.takes j.table.fields j.table.on j.how j.table.nulls_equal j.table.rows) join_room rows batch.rows
-      ∙ ap (λ n. then_stream (joins join_room rows) (rename_fault (λ p. length rows + p) (joins n batch.rows))) (sym room-left)
+      within-parts (joined m.takes j.table.fields j.table.on j.how j.table.nulls_equal j.table.rows) MAX_JOINED_ROWS rows batch.rows
+      ∙ ap (λ n. then_stream (joins MAX_JOINED_ROWS rows) (rename_fault (λ p. length rows + p) (joins n batch.rows))) (sym room-left)
 
   join-next : (p : Stream Fault) → p ≡ rename_fault full (joins j.room batch.rows) → then_stream (m.at_once rows) p ≡ m.at_once (rows ++ batch.rows)
   join-next p e =
       (λ i. then_stream ((h.transform i).at_once rows) (e i))
-      ∙ (λ i. then_stream (rename_fault full (joins join_room rows)) (stream (joins j.room batch.rows).rows (sym (constant (length rows) (joins j.room batch.rows).fault) i)))
-      ∙ sym (rename_fault-then full (joins join_room rows) (rename_fault (λ p. length rows + p) (joins j.room batch.rows)))
+      ∙ (λ i. then_stream (rename_fault full (joins MAX_JOINED_ROWS rows)) (stream (joins j.room batch.rows).rows (sym (constant (length rows) (joins j.room batch.rows).fault) i)))
+      ∙ sym (rename_fault-then full (joins MAX_JOINED_ROWS rows) (rename_fault (λ p. length rows + p) (joins j.room batch.rows)))
       ∙ ap (rename_fault full) (sym joined-on)
       ∙ (λ i. (sym h.transform i).at_once (rows ++ batch.rows))
 

@@ -14,7 +14,8 @@ use Rattle.fq_ops.specs.Roll.{roll_rows, roll_stream, with_sum}
 use Rattle.fq_ops.specs.Table.{Table}
 use Rattle.fq_ops.specs.declared.joins.How.{How}
 use Rattle.fq_ops.proofs.JoinLemmas.{within-parts}
-use Rattle.fq_run.specs.Transforms.{IsCausal, Transform, given, group_transform, join_room, join_transform, roll_transform, row_by_row, steps_transform, whole}
+use Rattle.fq_run.specs.declared.operators.joining.TheConstants.{MAX_JOINED_ROWS}
+use Rattle.fq_run.specs.Transforms.{IsCausal, Transform, given, group_transform, join_transform, roll_transform, row_by_row, steps_transform, whole}
 use Rattle.fq_run.specs.declared.faults.Fault.{Fault}
 use Rattle.fq_run.specs.declared.faults.Fault.TheVariants.{JoinRows, Overflow, RollRange, SumRange}
 use Rattle.fq_run.proofs.OperatorLemmas.{more-sums, roll-on}
@@ -73,12 +74,12 @@ steps-causal f = row-causal f.fields (fields_after_all f.fields f.steps) (λ row
     (λ rows more. (apply_steps Overflow f.first f.fields f.steps (done more), apply_steps-then Overflow f.first f.fields f.steps (done rows) (done more)))
 
 pub join-causal : (n : ℕ) (how : How) (t : Table) (left : Fields) → IsCausal (join_transform n how t left)
-join-causal n how t left = row-causal left (joined_fields how left t.fields t.on) (λ rows. rename_fault (λ _. JoinRows n) (join_rows how t.nulls_equal left t.fields t.on t.rows join_room rows))
+join-causal n how t left = row-causal left (joined_fields how left t.fields t.on) (λ rows. rename_fault (λ _. JoinRows n) (join_rows how t.nulls_equal left t.fields t.on t.rows MAX_JOINED_ROWS rows))
     (λ rows more.
-    let v = rename_fault (λ p. length rows + p) (join_rows how t.nulls_equal left t.fields t.on t.rows (join_room - length (join_rows how t.nulls_equal left t.fields t.on t.rows join_room rows).rows) more) in (
+    let v = rename_fault (λ p. length rows + p) (join_rows how t.nulls_equal left t.fields t.on t.rows (MAX_JOINED_ROWS - length (join_rows how t.nulls_equal left t.fields t.on t.rows MAX_JOINED_ROWS rows).rows) more) in (
       rename_fault (λ _. JoinRows n) v,
-      ap (rename_fault (λ _. JoinRows n)) (within-parts (joined left t.fields t.on how t.nulls_equal t.rows) join_room rows more)
-          ∙ rename_fault-then (λ (_ : ℕ). JoinRows n) (join_rows how t.nulls_equal left t.fields t.on t.rows join_room rows) v,
+      ap (rename_fault (λ _. JoinRows n)) (within-parts (joined left t.fields t.on how t.nulls_equal t.rows) MAX_JOINED_ROWS rows more)
+          ∙ rename_fault-then (λ (_ : ℕ). JoinRows n) (join_rows how t.nulls_equal left t.fields t.on t.rows MAX_JOINED_ROWS rows) v,
     ))
 
 pub roll-causal : (n : ℕ) (fields : Fields) (column : Name) (window least : ℕ) (name : Name) → IsCausal (roll_transform n fields column window least name)
@@ -109,8 +110,8 @@ steps-whole f u =
     ∙ sym (apply_steps-then Overflow f.first f.fields f.steps (done u.rows) (stream [] u.fault))
     ∙ ap (apply_steps Overflow f.first f.fields f.steps) (rows-then-end u)
 
-pub join-whole : (n : ℕ) (how : How) (t : Table) (left : Fields) (u : Stream Fault) → whole (join_transform n how t left) u ≡ join_stream how t.nulls_equal left t.fields t.on t.rows join_room (JoinRows n) u
-join-whole n how t left u = whole-given left (joined_fields how left t.fields t.on) (λ rows. rename_fault (λ _. JoinRows n) (join_rows how t.nulls_equal left t.fields t.on t.rows join_room rows)) u
+pub join-whole : (n : ℕ) (how : How) (t : Table) (left : Fields) (u : Stream Fault) → whole (join_transform n how t left) u ≡ join_stream how t.nulls_equal left t.fields t.on t.rows MAX_JOINED_ROWS (JoinRows n) u
+join-whole n how t left u = whole-given left (joined_fields how left t.fields t.on) (λ rows. rename_fault (λ _. JoinRows n) (join_rows how t.nulls_equal left t.fields t.on t.rows MAX_JOINED_ROWS rows)) u
 
 pub roll-whole : (n : ℕ) (fields : Fields) (column : Name) (window least : ℕ) (name : Name) (u : Stream Fault) →
     whole (roll_transform n fields column window least name) u ≡ roll_stream fields column window least name (RollRange n) u

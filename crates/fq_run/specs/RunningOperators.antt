@@ -7,7 +7,8 @@ use Rattle.fq_ops.specs.Gathered.{Gathered, HasTakenRows}
 use Rattle.fq_ops.specs.Join.{join_schema}
 use Rattle.fq_ops.specs.Roll.{roll_schema}
 use Rattle.fq_ops.specs.Taken.{HasTakenCells}
-use Rattle.fq_run.specs.Transforms.{Transform, IsCausal, Chain, join_room, given, given_all, whole, whole_all, steps_transform, join_transform, roll_transform, group_transform}
+use Rattle.fq_run.specs.declared.operators.joining.TheConstants.{MAX_JOINED_ROWS}
+use Rattle.fq_run.specs.Transforms.{Transform, IsCausal, Chain, given, given_all, whole, whole_all, steps_transform, join_transform, roll_transform, group_transform}
 use Rattle.fq_run.specs.declared.faults.Fault.{Fault}
 use Rattle.fq_run.specs.declared.operators.Running.{Running}
 use Rattle.fq_run.specs.declared.operators.Running.TheVariants.{Rows, Join, Roll, Group}
@@ -36,7 +37,7 @@ IsUnder fields (Some b) = b.fields ≡ fields
 pub record HasJoined (j : Joining) (m : Transform) (rows : List Row) : Type 0 where
   pub transform : m ≡ join_transform j.number j.how j.table m.takes
   pub accepted : IsOk (join_schema j.how m.takes j.table.fields j.table.on)
-  pub room : j.room ≡ join_room - length (m.at_once rows).rows
+  pub room : j.room ≡ MAX_JOINED_ROWS - length (m.at_once rows).rows
 
 -- a rolling sum of the column of a name
 pub record HasSummed (s : Summing) (m : Transform) (rows : List Row) : Type 0 where

@@ -13,6 +13,7 @@ use Rattle.fq_ops.specs.Table.{Table}
 use Rattle.fq_ops.specs.declared.joins.How.{How}
 use Rattle.fq_column.specs.declared.cells.Kind.TheVariants.{Whole}
 use Rattle.fq_column.specs.Frame.{put_named}
+use Rattle.fq_run.specs.declared.operators.joining.TheConstants.{MAX_JOINED_ROWS}
 use Rattle.fq_run.specs.declared.faults.Fault.{Fault}
 use Rattle.fq_run.specs.declared.faults.Fault.TheVariants.{JoinRows, Overflow, RollRange, SumRange}
 
@@ -52,10 +53,6 @@ Chain fields (m ∷ ms) after = (m.takes ≡ fields) × Chain m.gives ms after
 
 -- ---- the operators of stages
 
--- the most rows that a join gives
-abbrev pub join_room : ℕ
-join_room = 4294967295
-
 -- one that goes row by row passes on at once all that it makes
 abbrev pub row_by_row : Fields → Fields → (List Row → Stream Fault) → Transform
 row_by_row takes gives out = record { takes = takes; gives = gives; at_once = out; in_all = out }
@@ -65,7 +62,7 @@ steps_transform f = row_by_row f.fields (fields_after_all f.fields f.steps) (λ 
 
 abbrev pub join_transform : ℕ → How → Table → Fields → Transform
 join_transform n how table left = row_by_row left (joined_fields how left table.fields table.on)
-    (λ rows. rename_fault (λ _. JoinRows n) (join_rows how table.nulls_equal left table.fields table.on table.rows join_room rows))
+    (λ rows. rename_fault (λ _. JoinRows n) (join_rows how table.nulls_equal left table.fields table.on table.rows MAX_JOINED_ROWS rows))
 
 abbrev pub roll_transform : ℕ → Fields → Name → ℕ → ℕ → Name → Transform
 roll_transform n fields column window min_samples name = row_by_row fields (put_named fields (name, Whole))

@@ -23,7 +23,7 @@ ghost use Rattle.region_totals.specs.declared.Failure.TheVariants as failure;
 use fq_column::{Batch, Kind, Memory, Schema, StepFault};
 use fq_csv::{MAX_ROWS, NullValues, Scan, ScanFault, Scanner, print_frame};
 use fq_expr::{Binary, Expr, Front, Piece, RowFault, RowStep, Unary, steps_of_joined_streams};
-use fq_ops::{Agg, Function, GroupFault, Grouper, What, group_schema};
+use fq_ops::{Agg, Function, GroupFault, Grouper, MAX_GROUPED_ROWS, What, group_schema};
 use std::alloc::Global;
 use std::io;
 use std::io::{Read, Write};
@@ -31,9 +31,6 @@ use thiserror::Error;
 
 /// The rows of a batch.
 const BATCH_SIZE: u32 = 1024;
-
-/// The most rows that a grouping takes.
-const MAX_GROUPED_ROWS: u64 = 1 << 40;
 
 /// Why there are no totals.
 #[derive(Debug, Drop, Error)]

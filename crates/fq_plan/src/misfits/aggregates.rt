@@ -1,9 +1,8 @@
 //! Why a value spells no aggregate.
 use crate::misfits::parts::{Explained, Judge};
 use crate::reading::values::{three_items, two_items};
-use crate::reading::words::function as read_function;
 use crate::reasons::{Fit, Segment, within};
-use crate::words::AGGREGATES;
+use crate::words::{AGGREGATES, function as read_function};
 use fq_ops::Agg;
 use serde_json::Value;
 

@@ -1,9 +1,8 @@
 //! Why a value spells no expression.
 use crate::misfits::parts::{Explained, Judge};
 use crate::reading::values::only_member;
-use crate::reading::words::{binary, unary};
 use crate::reasons::{Fit, Segment, within};
-use crate::words::{BINARIES, UNARIES};
+use crate::words::{BINARIES, UNARIES, binary, unary};
 use fq_column::Kind;
 use fq_expr::Expr;
 use serde_json::Value;

@@ -9,11 +9,8 @@ ghost use Rattle.fq_run.specs.RunningOperators.{HasGrouped, IsUnder, Takes, pass
 use crate::faults::Fault;
 use crate::passed::Passed;
 use fq_column::{Batch, Memory, Schema};
-use fq_ops::{Agg, GroupFault, Grouper};
+use fq_ops::{Agg, GroupFault, Grouper, MAX_GROUPED_ROWS};
 use std::alloc::Global;
-
-/// The most rows that a grouping takes; no run has more.
-const MAX_GROUPED_ROWS: u64 = 1 << 40;
 
 /// Aggregates of groups.
 #[derive(Drop)]

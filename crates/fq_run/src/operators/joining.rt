@@ -12,7 +12,7 @@ use fq_ops::{How, JoinTable, Probed};
 use std::alloc::Global;
 
 /// The most rows that a join gives.
-const MAX_JOINED_ROWS: u64 = 4_294_967_295;
+pub const MAX_JOINED_ROWS: u64 = 4_294_967_295;
 
 /// A join with the rows of a source before the last.
 #[derive(Drop)]

@@ -1,9 +1,9 @@
 use Rattle.fq_csv.specs.Readers.{IsPlain}
 use Rattle.fq_places.specs.Marks.{IsSound}
-use Rattle.fq_review.proofs.drafts.Draft.read_records.Given as goal
+use Rattle.fq_review.proofs.drafts.Draft.read_source.Given as goal
 
-abbrev pub invariant-loop-row : goal.invariant-loop-row
-invariant-loop-row g l = record {
+abbrev pub invariant-loop : goal.invariant-loop
+invariant-loop g l = record {
   plain : IsPlain l.records.records;
   sound : IsSound l.records.marks;
 }
