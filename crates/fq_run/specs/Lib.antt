@@ -17,6 +17,7 @@ pub mod Later
 pub mod Streaming
 pub mod WaitingSources
 pub mod PrintedText
+pub mod Printing
 pub mod Standing
 pub mod GoingOn
 pub mod GatheredRun

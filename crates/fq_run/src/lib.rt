@@ -17,6 +17,7 @@ mod passed;
 mod physical_plans;
 mod pipeline;
 mod printed_text;
+mod printing;
 mod run_tail;
 mod runs;
 mod stages;

@@ -1,5 +1,5 @@
 //! The main source's rows on their way through the steps after the leading ones.
-ghost use Rattle.std.specs.Prelude.{◌≡◌, ◌⊎◌, ◌++◌, List, [], map, Some, None, Err, IfOk, IfErr, OnOk};
+ghost use Rattle.std.specs.Prelude.{◌≡◌, ◌⊎◌, ◌++◌, List, [], map, Some, None, Ok, Err, IfOk, IfErr, OnOk};
 ghost use Rattle.fq_column.specs.Frame.{Fields, Row};
 ghost use Rattle.fq_column.specs.Stream.{Stream, done, then_stream};
 ghost use Rattle.fq_csv.specs.Printed.{printed, printed_rows};
@@ -10,11 +10,13 @@ ghost use Rattle.fq_run.specs.Later.{later_steps};
 ghost use Rattle.fq_run.specs.Outcome.{frame_or_fault};
 ghost use Rattle.fq_run.specs.Sources.{first_fault};
 ghost use Rattle.fq_run.specs.Stages.{Fit};
-ghost use Rattle.fq_run.specs.PrintedText.{Prints, text_of};
+ghost use Rattle.fq_run.specs.PrintedText.{Prints};
+ghost use Rattle.fq_run.specs.Printing.{whole_text};
 ghost use Rattle.fq_run.specs.RunningOperators.{rows_in};
 ghost use Rattle.fq_run.specs.Transforms.{whole_all};
 ghost use Rattle.fq_run.specs.declared.faults.Fault.{Fault as AnyFault};
 ghost use Rattle.fq_run.specs.declared.faults.Fault.TheVariants as fault;
+ghost use Rattle.fq_run.specs.declared.passed.Passed.{Passed as Piece};
 
 use crate::faults::Fault;
 use crate::gathering::Gathered;
@@ -22,17 +24,19 @@ use crate::leading_steps::Worked;
 use crate::passed::Passed;
 use crate::pipeline::Pipeline;
 use crate::printed_text::PrintedText;
+use crate::printing::{Press, Printing};
 use crate::stages::Stage;
-use fq_column::{Batch, Schema};
+use fq_column::{Batch, Memory, Schema};
 use std::alloc::Global;
 use std::marker::Model;
+use std::thread::Threads;
 
 /// Running operators, and the text of the rows that they have passed on.
 #[derive(Drop)]
 pub(crate) struct MainStream<'a> {
     before: Schema,
     pipeline: Pipeline<'a>,
-    text: PrintedText,
+    text: Printing,
 }
 
 impl<'a> Model for MainStream<'a> {
@@ -48,17 +52,17 @@ impl<'a> Model for MainStream<'a> {
     ghost use Rattle.std.specs.Prelude.{◌≡◌, List};
     ghost use Rattle.fq_column.specs.Frame.{Row};
     ghost use Rattle.fq_run.specs.Pipelines.{HasRun, Transforming};
-    ghost use Rattle.fq_run.specs.PrintedText.{text_of};
+    ghost use Rattle.fq_run.specs.Printing.{whole_text};
 
-    ghost view = { λ s. record { before = s.before; operators = s.pipeline.operators.items; text = text_of s.text } };
+    ghost view = { λ s. record { before = s.before; operators = s.pipeline.operators.items; text = whole_text s.text } };
 
     ghost invariant = { λ s. (w : Transforming) × ((taken : List Row) × ((out : List Row) × (HasRun s.pipeline.operators.items w taken out × (w.before ≡ s.before)))) };
 }
 
 impl<'a> MainStream<'a> {
     /// The steps over the sources before the last, which have taken no row of the last; or the first fault of those sources.
-    pub(crate) fn start(
-        alloc: Global,
+    pub(crate) fn start<T: Threads>(
+        press: &Press<'_, T>,
         sides: Vec<Gathered>,
         before: Schema,
         stages: &'a [Stage],
@@ -68,9 +72,9 @@ impl<'a> MainStream<'a> {
             (first_fault (map gathered_stream sides.items) ≡ None) × (HasRun s.operators (later_steps stages.entry.now sides.items before after) [] [] × ((s.before ≡ before) × (s.text ≡ printed (record { fields = after; rows = [] }))))) }
         ensures refused { IfErr result (λ f. (first_fault (map gathered_stream sides.items) ≡ Some f) ⊎ (f ≡ fault.Memory)) }
     {
-        let batches = whole_batches(alloc, sides)?;
-        let (pipeline, after) = Pipeline::start(alloc, batches.as_slice(), &before, stages)?;
-        let text = PrintedText::new(alloc, &after)?;
+        let batches = whole_batches(press.alloc, sides)?;
+        let (pipeline, after) = Pipeline::start(press.alloc, batches.as_slice(), &before, stages)?;
+        let text = Printing::new(press, &after)?;
         Ok(MainStream {
             before,
             pipeline,
@@ -79,7 +83,7 @@ impl<'a> MainStream<'a> {
     }
 
     /// The text of the frame of all that the operators have passed on, and of what is left; or the fault in which it ends.
-    pub(crate) fn finish(self, alloc: Global) -> Result<PrintedText, Fault>
+    pub(crate) fn finish<T: Threads>(self, press: &Press<'_, T>) -> Result<PrintedText, Fault>
         ensures { (w : Transforming) (taken out : List Row) → HasRun self.entry.operators w taken out → self.entry.text ≡ printed (record { fields = w.after; rows = out }) →
             Prints (frame_or_fault w.after (whole_all w.transforms (done taken))) result }
     {
@@ -89,14 +93,17 @@ impl<'a> MainStream<'a> {
             text,
         } = self;
         let mut pipeline = pipeline;
-        let mut text = text;
-        let passed = pipeline.finish(alloc)?;
-        add(alloc, &mut text, passed)?;
-        Ok(text)
+        let passed = pipeline.finish(press.alloc);
+        let text = print_passed(press, text, passed)?;
+        Ok(text.finish(press)?)
     }
 
     /// Takes a worked item, and keeps what the operators pass on of it; or answers the final fault.
-    pub(crate) fn take(self, alloc: Global, item: Worked) -> Result<MainStream<'a>, Fault>
+    pub(crate) fn take<T: Threads>(
+        self,
+        press: &Press<'_, T>,
+        item: Worked,
+    ) -> Result<MainStream<'a>, Fault>
         ensures goes_on { IfOk result (λ s. (w : Transforming) (taken out : List Row) → HasRun self.entry.operators w taken out → w.before ≡ self.entry.before → HasGoneOn self.entry item w taken out s) }
         ensures ends { IfErr result (λ f. (f ≡ fault.Memory) ⊎ ((w : Transforming) (taken out : List Row) → HasRun self.entry.operators w taken out → w.before ≡ self.entry.before →
             (rest : Stream AnyFault) → (whole_all w.transforms (then_stream (then_stream (done taken) (added_stream self.entry.before item)) rest)).fault ≡ Some f)) }
@@ -107,29 +114,61 @@ impl<'a> MainStream<'a> {
             text,
         } = self;
         let mut pipeline = pipeline;
-        let mut text = text;
         let input = Passed::from_worked(item, &before);
-        let passed = pipeline.push(alloc, input)?;
-        add(alloc, &mut text, passed)?;
+        let passed = pipeline.push(press.alloc, input);
+        let text = print_passed(press, text, passed)?;
         Ok(MainStream {
             before,
             pipeline,
             text,
         })
     }
+
+    /// Ends before all rows have come.
+    pub(crate) fn stop<T: Threads>(self, rt: &T) {
+        let MainStream {
+            before: _,
+            pipeline: _,
+            text,
+        } = self;
+        text.stop(rt);
+    }
+}
+
+// Prints the rows that were passed on, or answers the fault that ends them, once no thread prints any more.
+fn print_passed<T: Threads>(
+    press: &Press<'_, T>,
+    text: Printing,
+    passed: Result<Passed, Memory>,
+) -> Result<Printing, Fault>
+    ensures printed { IfOk result (λ more. (piece : Piece) × (passed ≡ Ok piece) × (piece.fault ≡ None) × (whole_text more ≡ whole_text text ++ printed_rows (rows_in piece.batch))) }
+    ensures fault { IfErr result (λ f. ((piece : Piece) × (passed ≡ Ok piece) × (piece.fault ≡ Some f)) ⊎ (f ≡ fault.Memory)) }
+{
+    let mut text = text;
+    match add(press, &mut text, passed) {
+        Ok(()) => Ok(text),
+        Err(fault) => {
+            text.stop(press.rt);
+            Err(fault)
+        }
+    }
 }
 
 // Prints the rows that were passed on, or answers the fault that ends them.
-fn add(alloc: Global, text: &mut PrintedText, passed: Passed) -> Result<(), Fault>
-    ensures none { OnOk result (passed.fault ≡ None) }
-    ensures text { OnOk result (text_of text.new ≡ text_of text.old ++ printed_rows (rows_in passed.batch)) }
-    ensures fault { IfErr result (λ f. (passed.fault ≡ Some f) ⊎ (f ≡ fault.Memory)) }
+fn add<T: Threads>(
+    press: &Press<'_, T>,
+    text: &mut Printing,
+    passed: Result<Passed, Memory>,
+) -> Result<(), Fault>
+    ensures printed { OnOk result ((piece : Piece) × (passed ≡ Ok piece) × (piece.fault ≡ None) × (whole_text text.new ≡ whole_text text.old ++ printed_rows (rows_in piece.batch))) }
+    ensures fault { IfErr result (λ f. ((piece : Piece) × (passed ≡ Ok piece) × (piece.fault ≡ Some f)) ⊎ (f ≡ fault.Memory)) }
 {
-    if let Some(fault) = passed.fault {
+    let Passed { batch, fault } = passed?;
+    if let Some(fault) = fault {
         return Err(fault);
     }
-    if let Some(batch) = passed.batch {
-        text.print(alloc, &batch)?;
+    if let Some(batch) = batch {
+        text.print(press, batch)?;
     }
     Ok(())
 }

@@ -1,8 +1,8 @@
-//! The printed frame, as it grows.
+//! Printed text, in pieces.
 ghost use Rattle.std.specs.Prelude.{◌≡◌, ◌++◌, IfOk, IfErr, OnOk};
 ghost use Rattle.std.specs.Io.KnownBytes.{Appends};
-ghost use Rattle.fq_csv.specs.Printed.{printed_names, printed_rows};
-ghost use Rattle.fq_run.specs.PrintedText.{text_of};
+ghost use Rattle.fq_csv.specs.Printed.{printed_names};
+ghost use Rattle.fq_run.specs.PrintedText.{rows_text, text_of};
 ghost use Rattle.fq_run.specs.declared.faults.Fault.TheVariants as fault;
 
 use crate::faults::Fault;
@@ -19,7 +19,7 @@ pub(crate) struct PrintedText {
 
 impl PrintedText {
     /// The names of columns.
-    pub(crate) fn new(alloc: Global, schema: &Schema) -> Result<PrintedText, Memory>
+    pub(crate) fn of_names(alloc: Global, schema: &Schema) -> Result<PrintedText, Memory>
         ensures { IfOk result (λ text. text_of text ≡ printed_names schema.now) }
     {
         let mut pieces = Vec::new(alloc);
@@ -27,11 +27,24 @@ impl PrintedText {
         Ok(PrintedText { pieces })
     }
 
-    /// Adds the rows of a batch.
-    pub(crate) fn print(&mut self, alloc: Global, batch: &Batch) -> Result<(), Memory>
-        ensures { OnOk result (text_of self.new ≡ text_of self.old ++ printed_rows batch.now.rows) }
+    /// The rows of batches.
+    pub(crate) fn of_rows(alloc: Global, batches: Vec<Batch>) -> Result<PrintedText, Memory>
+        ensures { IfOk result (λ text. text_of text ≡ rows_text batches.items) }
     {
-        self.pieces.push(print_rows(alloc, batch)?)?;
+        let mut pieces = Vec::with_capacity(alloc, batches.len())?;
+        for batch in batches {
+            pieces.push(print_rows(alloc, &batch)?)?;
+        }
+        Ok(PrintedText { pieces })
+    }
+
+    /// Moves another text to the end of this one.
+    pub(crate) fn append(&mut self, more: PrintedText) -> Result<(), Memory>
+        ensures { OnOk result (text_of self.new ≡ text_of self.old ++ text_of more) }
+    {
+        let PrintedText { pieces } = more;
+        let mut pieces = pieces;
+        self.pieces.append(&mut pieces)?;
         Ok(())
     }
 

@@ -12,6 +12,7 @@ use crate::leading_steps::Worked;
 use crate::openings::{empty_sources, file_layouts, open_feeds};
 use crate::physical_plans::PhysicalPlan;
 use crate::printed_text::PrintedText;
+use crate::printing::Press;
 use crate::run_tail::RunTail;
 use crate::waiting::Waiting;
 use fq_csv::MAX_BATCH_SIZE;
@@ -90,15 +91,15 @@ impl PhysicalPlan {
     }
 
     // What free threads make of the files, as far as the tail took it, with their report.
-    fn gather<T: Threads + Wait + Sync, G: Gate<Worked> + Sync, R: Read + Drop + Send>(
-        &self,
-        rt: &T,
+    fn gather<'a, T: Threads + Wait + Sync, G: Gate<Worked> + Sync, R: Read + Drop + Send>(
+        &'a self,
+        rt: &'a T,
         alloc: Global,
         gate: &G,
         inputs: Vec<R>,
         batch_size: u32,
         workers: u16,
-    ) -> Result<(RunTail<'_>, Report), Fault>
+    ) -> Result<(RunTail<'a, T>, Report), Fault>
         requires inputs { vec_len inputs ≡ files_wanted self.now }
         requires batch_size { (1 ≤ batch_size) × (batch_size ≤ MAX_BATCH_SIZE) }
         requires workers { (1 ≤ workers) × (workers ≤ MAX_WORKERS) }
@@ -111,8 +112,19 @@ impl PhysicalPlan {
         let sources = empty_sources(alloc, sides)?;
         let before = self.after_leading.copy(alloc)?;
         let waiting = Waiting::new(sources, before, self.stages.as_slice());
-        let tail = RunTail::new(alloc, self.leading.side_files, waiting);
+        let press = Press {
+            rt,
+            alloc,
+            threads: workers as usize,
+        };
+        let tail = RunTail::new(press, self.leading.side_files, waiting);
         let (tail, outcome) = run_lanes(rt, alloc, feeds, &self.leading, gate, tail, workers);
-        Ok((tail, outcome?))
+        match outcome {
+            Ok(report) => Ok((tail, report)),
+            Err(fault) => {
+                tail.stop();
+                Err(fault.into())
+            }
+        }
     }
 }

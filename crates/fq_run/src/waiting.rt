@@ -13,10 +13,11 @@ use crate::faults::Fault;
 use crate::gathering::{Gathered, take_in};
 use crate::leading_steps::Worked;
 use crate::main_stream::MainStream;
+use crate::printing::Press;
 use crate::stages::Stage;
 use fq_column::{Memory, Schema};
-use std::alloc::Global;
 use std::marker::Model;
+use std::thread::Threads;
 
 /// Sources whose rows are gathered, and the steps that take the main source's rows once these are there.
 #[derive(Drop)]
@@ -77,7 +78,7 @@ impl<'a> Waiting<'a> {
     }
 
     /// The steps over the sources, which are whole; or the first fault of these.
-    pub(crate) fn start(self, alloc: Global) -> Result<MainStream<'a>, Fault>
+    pub(crate) fn start<T: Threads>(self, press: &Press<'_, T>) -> Result<MainStream<'a>, Fault>
         ensures started { IfOk result (λ s. (after : Fields) → Fit (map (λ g. g.batch.fields) self.entry.sides) self.entry.before self.entry.stages after →
             (first_fault (map gathered_stream self.entry.sides) ≡ None) × (HasRun s.operators (later_steps self.entry.stages self.entry.sides self.entry.before after) [] [] × ((s.before ≡ self.entry.before) × (s.text ≡ printed (record { fields = after; rows = [] }))))) }
         ensures refused { IfErr result (λ f. (first_fault (map gathered_stream self.entry.sides) ≡ Some f) ⊎ (f ≡ fault.Memory)) }
@@ -87,6 +88,6 @@ impl<'a> Waiting<'a> {
             before,
             stages,
         } = self;
-        MainStream::start(alloc, sides, before, stages)
+        MainStream::start(press, sides, before, stages)
     }
 }

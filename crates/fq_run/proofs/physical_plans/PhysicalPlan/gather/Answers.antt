@@ -4,7 +4,6 @@ use Rattle.std.proofs.Crossing.{crosses}
 use Rattle.fq_expr.proofs.expressions.Expr.TheLaws.TheKnot as knot
 use Rattle.fq_run.specs.contracts.leading_steps.LeadingSteps.{the_row}
 use Rattle.std.specs.Prelude.{All, IfOk}
-use Rattle.std.proofs.lemmas.Result.{err_from_is_err_and}
 use Rattle.fq_column.specs.Frame.{Fields}
 use Rattle.fq_lanes.specs.Engine.{Finishes}
 use Rattle.fq_lanes.specs.declared.faults.RunFault.{RunFault}
@@ -26,7 +25,7 @@ use Rattle.fq_run.proofs.LogLemmas.{Takes-one}
 use Rattle.fq_run.proofs.RunStartLemmas.{count-layouts, side-count, length-opened, opened-open}
 use Rattle.fq_run.proofs.physical_plans.PhysicalPlan.gather.Given.{Over}
 use Rattle.fq_run.proofs.physical_plans.PhysicalPlan.gather.Goals as goal
-use Rattle.fq_run.proofs.physical_plans.PhysicalPlan.gather.Goals.{After-as_slice, In_ok-outcome}
+use Rattle.fq_run.proofs.physical_plans.PhysicalPlan.gather.Goals.{After-as_slice, In-Ok}
 
 pub open_feeds-requires-clause-one_each : goal.open_feeds-requires-clause-one_each
 open_feeds-requires-clause-one_each g c =
@@ -53,16 +52,16 @@ run_lanes-tail-requires-clause-open g c κs within =
     (opened-open (g.R.Read.remaining) c.args.batch_size 0 c.in_ok-layouts.layouts.items c.args.inputs.items)
 
 -- what the threads did
-finished : (g : Over) (c : In_ok-outcome g) →
+finished : (g : Over) (c : In-Ok g) →
     Finishes MayCome (λ file item out. out ≡ work_on c.self.inside.leading.front (c.self.inside.inputs - c.self.inside.main.files) file item) (Takes-one (λ t. t.side_files) (λ t. t.state))
-    c.in_ok-feeds.feeds.items c.new-tail.result c.in_ok-outcome.field-0.trace.items c.run_lanes-tail.result.0
+    c.in_ok-feeds.feeds.items c.new-tail.result c.in-Ok.report.trace.items c.run_lanes-tail.result.0
 finished g c =
     let s = c.self.inside in
     let sides-are = c.self.invariant.1 ∙ sym (side-count (s.sides.items ++ s.main ∷ []) s.leading.front s.stages.items s.inputs c.self.invariant.0 c.self.inside.sides.items c.self.inside.main refl) in
     let Done : ℕ → Report → Type 0 = λ sides report. Finishes MayCome (λ file item out. out ≡ work_on c.self.inside.leading.front sides file item) (Takes-one (λ t. t.side_files) (λ t. t.state))
     c.in_ok-feeds.feeds.items c.new-tail.result report.trace.items c.run_lanes-tail.result.0 in
-    subst (λ sides. Done sides c.in_ok-outcome.field-0) sides-are
-    (subst (λ (r : Result Report RunFault). IfOk r (Done s.leading.side_files)) c.in_ok-outcome.was c.run_lanes-tail.ensures.done)
+    subst (λ sides. Done sides c.in-Ok.report) sides-are
+    (subst (λ (r : Result Report RunFault). IfOk r (Done s.leading.side_files)) c.in-Ok.is c.run_lanes-tail.ensures.done)
 
 -- the sources before the main one, of which nothing was taken
 sources-are : (g : Over) (c : After-as_slice g) → c.in_ok-sources.sources.items ≡ map (λ (s : SourceFiles). no_rows s.files s.layout.schema) c.self.inside.sides.items
@@ -80,21 +79,21 @@ new-waiting-requires g c =
           (fit-over (s.sides.items ++ s.main ∷ []) s.leading.front s.stages.items s.inputs runnable sides main refl),
     )
 
-pub returns-clause-gathered : goal.returns-clause-gathered
-returns-clause-gathered g c =
+pub returns-in-Ok-clause-gathered : goal.returns-in-Ok-clause-gathered
+returns-in-Ok-clause-gathered g c =
     let s = c.self.inside in
     let runnable = c.self.invariant.0 in
     let sides = s.sides.items in
     let main = s.main in
     let count : length c.args.inputs.items ≡ files_wanted (physical_of (s.sides.items ++ s.main ∷ []) s.leading.front s.stages.items) = omega (arith, c.args.inputs.ok.0, c.requires.inputs, ap files_wanted c.self.view_is) in
-    subst (λ (p : Physical). HasGathered g.R.Read.remaining c.args.inputs.items p c.args.batch_size c.run_lanes-tail.result.0.state c.in_ok-outcome.field-0.trace.items) c.self.view_is
+    subst (λ (p : Physical). HasGathered g.R.Read.remaining c.args.inputs.items p c.args.batch_size c.run_lanes-tail.result.0.state c.in-Ok.report.trace.items) c.self.view_is
     (has-gathered (s.sides.items ++ s.main ∷ []) s.leading.front s.stages.items s.inputs runnable sides main refl (λ t. t.side_files) (λ t. t.state) g.R.Read.remaining c.args.inputs.items c.args.batch_size c.in_ok-feeds.feeds.items
-    c.new-tail.result c.run_lanes-tail.result.0 c.in_ok-outcome.field-0.trace.items
+    c.new-tail.result c.run_lanes-tail.result.0 c.in-Ok.report.trace.items
     (omega (arith, c.requires.batch_size.0)) count
     (c.in_ok-feeds.ensures ∙ ap (λ fss. opened (g.R.Read.remaining) c.args.batch_size 0 fss c.args.inputs.items) (c.in_ok-layouts.ensures ∙ ap (λ (js : List SourceFiles). flat_map (λ (s : SourceFiles). replicate s.files s.layout) (js ++ c.self.inside.main ∷ [])) c.as_slice-sides.ensures.value))
     (c.new-tail.ensures.files ∙ c.self.invariant.1)
     (c.new-tail.ensures.waits s.stages.items _ _ (record {
-      sources = c.new-waiting.ensures ∙ (λ i. record { sides = sources-are g (goal.at.returns-clause-gathered g c).After-as_slice i; before = (c.in_ok-before.ensures ∙ c.self.invariant.2) i; stages = c.as_slice.ensures.value i });
+      sources = c.new-waiting.ensures ∙ (λ i. record { sides = sources-are g (goal.at.returns-in-Ok-clause-gathered g c).After-as_slice i; before = (c.in_ok-before.ensures ∙ c.self.invariant.2) i; stages = c.as_slice.ensures.value i });
       nothing = refl;
     }))
     (finished g c))
@@ -109,7 +108,5 @@ engine-fault : (f : RunFault) → IsEngineFault (engine_fault f)
 engine-fault engine.Memory = tt
 engine-fault (engine.Read file) = tt
 
-pub returns-in_err-outcome-clause-fault : goal.returns-in_err-outcome-clause-fault
-returns-in_err-outcome-clause-fault g c =
-    let exit = err_from_is_err_and c.from_residual-in_err-outcome.result c.from_residual-in_err-outcome.ensures.1 in
-    rw (exit.1, exit.2) (engine-fault c.in_err-outcome.field-0.0)
+pub returns-in-Err-clause-fault : goal.returns-in-Err-clause-fault
+returns-in-Err-clause-fault g c = rw c.into.ensures (engine-fault c.in-Err.fault)

@@ -8,7 +8,7 @@ use Rattle.fq_run.proofs.StandingLemmas.{settled-outcome, streaming-outcome}
 use Rattle.fq_run.proofs.run_tail.TailState.finish.Goals as goal
 
 pub returns-in_err-stream : goal.returns-in_err-stream
-returns-in_err-stream c stages after sides main fits stands =
+returns-in_err-stream g c stages after sides main fits stands =
     let f = c.in_err-stream.field-0.0 in
     let exit = err_from_is_err_and c.from_residual.result c.from_residual.ensures.1 in
     rw (exit.1, exit.2) (elim (c.in_err-stream.ensures.settled stages after sides main fits stands) [
@@ -17,7 +17,7 @@ returns-in_err-stream c stages after sides main fits stands =
     ])
 
 pub returns : goal.returns
-returns c stages after sides main fits stands =
+returns g c stages after sides main fits stands =
     let s = c.in_ok-stream.stream in
     let i = c.in_ok-stream.ensures.streaming stages after sides main fits stands in
     subst (λ (r : Result Frame Fault). Prints r c.finish.result) (sym (streaming-outcome stages after sides main fits s i))

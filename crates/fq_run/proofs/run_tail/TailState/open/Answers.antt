@@ -1,5 +1,5 @@
-use Rattle.std.proofs.Common.{◌≡◌, List, [], map, Result, Ok, Err, None, ap, sym, subst}
-use Rattle.std.specs.Prelude.{IfOk}
+use Rattle.std.proofs.Common.{◌≡◌, List, [], map, None, ap, sym, subst}
+use Rattle.std.proofs.lemmas.Result.{IfOk-weaker}
 use Rattle.fq_column.specs.Frame.{Fields, Row}
 use Rattle.fq_column.specs.Stream.{Stream}
 use Rattle.fq_csv.specs.Printed.{printed}
@@ -16,10 +16,6 @@ use Rattle.fq_run.specs.declared.gathering.Gathered.{Gathered}
 use Rattle.fq_run.specs.declared.run_tail.TailState.{TailState}
 use Rattle.fq_run.specs.declared.stages.Stage.{Stage}
 use Rattle.fq_run.proofs.run_tail.TailState.open.Goals as goal
-
-on-ok : {A B : Type 0} {P Q : A → Type 0} (r : Result A B) → ((x : A) → P x → Q x) → IfOk r P → IfOk r Q
-on-ok (Ok x) f h = f x h
-on-ok (Err e) f h = tt
 
 -- the main source's rows on their way, which have taken no row
 abbrev HasStarted : Fields → WaitingSources → Streaming → Type 0
@@ -39,6 +35,6 @@ streams stages after sides main w s fits i has =
     }
 
 pub returns-in-Waiting-clause-streaming : goal.returns-in-Waiting-clause-streaming
-returns-in-Waiting-clause-streaming c =
-    on-ok c.start.result (λ s has stages after sides main fits stands.
+returns-in-Waiting-clause-streaming g c =
+    IfOk-weaker c.start.result _ _ (λ s has stages after sides main fits stands.
     streams stages after sides main c.in-Waiting.waiting s fits (subst (λ (t : TailState). Stands stages after sides main t) c.in-Waiting.is stands) (has after)) c.start.ensures.started

@@ -5,7 +5,7 @@ use Rattle.fq_run.proofs.StandingLemmas.{settled-by, settled-on, streams-on}
 use Rattle.fq_run.proofs.run_tail.TailState.pass.Goals as goal
 
 pub returns-in_err-stream-clause-settled : goal.returns-in_err-stream-clause-settled
-returns-in_err-stream-clause-settled c =
+returns-in_err-stream-clause-settled g c =
     let f = c.in_err-stream.field-0.0 in
     let exit = err_from_is_err_and c.from_residual.result c.from_residual.ensures.1 in
     rw (exit.1, exit.2) (λ stages after sides main fits stands. elim (c.in_err-stream.ensures.settled stages after sides main fits stands) [
@@ -14,7 +14,7 @@ returns-in_err-stream-clause-settled c =
     ])
 
 pub returns-in_err-take-clause-settled : goal.returns-in_err-take-clause-settled
-returns-in_err-take-clause-settled c =
+returns-in_err-take-clause-settled g c =
     let f = c.in_err-take.field-0.0 in
     let s = c.in_ok-stream.stream in
     let exit = err_from_is_err_and c.from_residual-in_err-take.result c.from_residual-in_err-take.ensures.1 in
@@ -26,7 +26,7 @@ returns-in_err-take-clause-settled c =
     ])
 
 pub returns-clause-streaming : goal.returns-clause-streaming
-returns-clause-streaming c stages after sides main fits stands =
+returns-clause-streaming g c stages after sides main fits stands =
     let s = c.in_ok-stream.stream in
     let i = c.in_ok-stream.ensures.streaming stages after sides main fits stands in
     streams-on stages after sides main c.args.item s c.in_ok-take.field-0 i (c.in_ok-take.ensures.goes_on (later_steps stages sides main.batch.fields after) main.batch.rows i.out i.run (sym i.before))

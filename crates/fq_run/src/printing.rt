@@ -1,0 +1,195 @@
+//! Printing beside the caller's thread.
+ghost use Rattle.std.specs.Prelude.{◌≡◌, ◌++◌, flat_map, Ok, IfOk, OnOk};
+ghost use Rattle.fq_csv.specs.Printed.{printed_names, printed_rows};
+ghost use Rattle.fq_run.specs.PrintedText.{rows_text, text_of};
+ghost use Rattle.fq_run.specs.Printing.{part_text, whole_text};
+
+use crate::printed_text::PrintedText;
+use fq_column::{Batch, Memory, Schema};
+use std::alloc::Global;
+use std::collections::VecDeque;
+use std::snapshot::Snapshot;
+use std::thread::{Promise, PromisedHandle, Threads};
+use std::{mem, thread};
+
+/// How many rows are gathered before a thread is started that prints them. It prints them in a few milliseconds, some
+/// hundred times as long as its start takes.
+pub(crate) const ROWS_AT_ONCE: usize = 8_192;
+
+/// What a thread promises that prints batches.
+#[derive(Drop)]
+pub(crate) struct PrintPromise {
+    batches: Snapshot<Vec<Batch>>,
+}
+
+impl Promise<Result<PrintedText, Memory>> for PrintPromise {
+    ghost kept_by = { λ p r. IfOk r (λ text. text_of text ≡ rows_text p.batches.value.items) };
+}
+
+/// A part of the text.
+#[derive(Drop)]
+pub(crate) enum Part {
+    /// It is printed.
+    Text(PrintedText),
+    /// A thread prints it.
+    Thread(PromisedHandle<Result<PrintedText, Memory>, PrintPromise>),
+}
+
+impl Part {
+    // The part, once it is printed.
+    fn wait<T: Threads>(self, rt: &T) -> Result<PrintedText, Memory>
+        ensures { IfOk result (λ text. text_of text ≡ part_text self) }
+    {
+        match self {
+            Part::Text(text) => Ok(text),
+            Part::Thread(thread) => thread.join(rt),
+        }
+    }
+}
+
+/// What batches are printed by.
+#[derive(Drop)]
+pub(crate) struct Press<'r, T> {
+    pub(crate) rt: &'r T,
+    pub(crate) alloc: Global,
+    /// The most threads that print at once. If it is one, none is started, and the caller's prints.
+    pub(crate) threads: usize,
+}
+
+impl<'r, T: Threads> Press<'r, T> {
+    // How many rows are gathered before they are printed.
+    fn rows_at_once(&self) -> usize {
+        if self.threads > 1 { ROWS_AT_ONCE } else { 0 }
+    }
+
+    // Starts a thread that prints batches, or prints them here if none may be started.
+    fn print(&self, batches: Vec<Batch>) -> Result<Part, Memory>
+        ensures { IfOk result (λ part. part_text part ≡ rows_text batches.items) }
+    {
+        let alloc = self.alloc;
+        if self.threads <= 1 {
+            return Ok(Part::Text(PrintedText::of_rows(alloc, batches)?));
+        }
+        let promise = PrintPromise {
+            batches: Snapshot::of(&batches),
+        };
+        match thread::spawn_with(
+            self.rt,
+            promise,
+            move || PrintedText::of_rows(alloc, batches),
+        ) {
+            Ok(thread) => Ok(Part::Thread(thread)),
+            Err(refused) => Ok(Part::Text((refused.value)()?)),
+        }
+    }
+}
+
+/// The printed frame, as it grows.
+#[derive(Drop)]
+pub(crate) struct Printing {
+    text: PrintedText,
+    /// What follows the text, in order.
+    parts: VecDeque<Part>,
+    /// What follows the parts, and is not printed yet.
+    batches: Vec<Batch>,
+    /// How many rows may still come before the batches are printed.
+    room: usize,
+}
+
+impl Printing {
+    /// The names of columns, and no rows.
+    pub(crate) fn new<T: Threads>(press: &Press<'_, T>, schema: &Schema) -> Result<Printing, Memory>
+        ensures { IfOk result (λ p. whole_text p ≡ printed_names schema.now) }
+    {
+        Ok(Printing {
+            text: PrintedText::of_names(press.alloc, schema)?,
+            parts: VecDeque::new(press.alloc),
+            batches: Vec::new(press.alloc),
+            room: press.rows_at_once(),
+        })
+    }
+
+    /// Takes the rows of a batch, to be printed after those before.
+    pub(crate) fn print<T: Threads>(
+        &mut self,
+        press: &Press<'_, T>,
+        batch: Batch,
+    ) -> Result<(), Memory>
+        ensures { OnOk result (whole_text self.new ≡ whole_text self.old ++ printed_rows batch.rows) }
+    {
+        if batch.rows() == 0 {
+            return Ok(());
+        }
+        self.room = self.room.saturating_sub(batch.rows());
+        self.batches.push(batch)?;
+        if self.room > 0 {
+            return Ok(());
+        }
+        self.hand_on(press)
+    }
+
+    // Makes a part of the gathered batches.
+    fn hand_on<T: Threads>(&mut self, press: &Press<'_, T>) -> Result<(), Memory>
+        ensures { OnOk result (whole_text self.new ≡ whole_text self.old) }
+    {
+        if self.parts.len() >= press.threads {
+            self.settle_first(press.rt)?;
+        }
+        let batches = mem::replace(&mut self.batches, Vec::new(press.alloc));
+        self.room = press.rows_at_once();
+        match self.parts.push_back(press.print(batches)?) {
+            Ok(()) => Ok(()),
+            Err(refused) => {
+                drop(refused.value.wait(press.rt));
+                Err(Memory)
+            }
+        }
+    }
+
+    // Moves the first part, once it is printed, to the end of the text.
+    fn settle_first<T: Threads>(&mut self, rt: &T) -> Result<(), Memory>
+        ensures { OnOk result (whole_text self.new ≡ whole_text self.old) }
+    {
+        match self.parts.pop_front() {
+            Some(part) => self.text.append(part.wait(rt)?),
+            None => Ok(()),
+        }
+    }
+
+    /// The text of all rows, once no thread prints any more. `Memory` if an allocation failed, also in one of these.
+    pub(crate) fn finish<T: Threads>(self, press: &Press<'_, T>) -> Result<PrintedText, Memory>
+        ensures { IfOk result (λ text. text_of text ≡ whole_text self) }
+    {
+        let Printing {
+            text,
+            parts,
+            batches,
+            room: _,
+        } = self;
+        let last = PrintedText::of_rows(press.alloc, batches);
+        let mut all = Ok(text);
+        for part in parts {
+            all = followed_by(all, part.wait(press.rt));
+        }
+        followed_by(all, last)
+    }
+
+    /// Drops the text, once no thread prints any more.
+    pub(crate) fn stop<T: Threads>(self, rt: &T) {
+        for part in self.parts {
+            drop(part.wait(rt));
+        }
+    }
+}
+
+// A text, and then another, if there are both.
+fn followed_by(
+    text: Result<PrintedText, Memory>,
+    more: Result<PrintedText, Memory>,
+) -> Result<PrintedText, Memory>
+    ensures { IfOk result (λ all. (first : PrintedText) × (second : PrintedText) × (text ≡ Ok first) × (more ≡ Ok second) × (text_of all ≡ text_of first ++ text_of second)) }
+{
+    let mut text = text?;
+    text.append(more?)?;
+    Ok(text)
+}
