@@ -393,13 +393,13 @@ def csv_file(draw, columns, most_rows, care, nulls):
     return mark + b"".join(one + draw.choice(ends) for one in lines) + last
 
 
-def files_of(draw, value):
-    """Files for all sources. Seldom the main source is large, with more rows than a batch has by default."""
+def files_of(draw, value, rows):
+    """Files for all sources. Seldom the main source is large, with more rows than a batch has by default, unless the most rows are given."""
     care = Care(edges=draw.choice([0, 0, 2, 25]), long=draw.choice([0] * 29 + [8]), wrong=draw.choice([0, 0, 0, 0.5, 4]))
     files = []
     for place, one in enumerate(value["sources"]):
         is_main = place == len(value["sources"]) - 1
-        most_rows = 1500 if is_main and draw.often(1) else 12
+        most_rows = (rows or (1500 if draw.often(1) else 12)) if is_main else 12
         columns, nulls = one["columns"] or [["a", "int"]], one.get("null_values", [])
         files += [csv_file(draw, columns, most_rows, care, nulls) for _ in range(one["files"])]
     if draw.often(2):
@@ -409,11 +409,11 @@ def files_of(draw, value):
 
 # ---- cases
 
-def case(seed, number, versions=(1, 2)):
-    """Case `number` of a seed, with a plan of one of these versions."""
+def case(seed, number, versions=(1, 2), rows=None):
+    """Case `number` of a seed, with a plan of one of these versions, and at most so many rows in each file of the last source."""
     draw = Draw(f"{seed}, {number}")
     value = plan(draw, versions)
-    files = files_of(draw, value)
+    files = files_of(draw, value, rows)
     text = wrong_plan_text(draw, value) if draw.often(10) else text_of(draw, value)
     batch = draw.choice([1, 2, 3, 7, 64, 1000, 65536])
     workers = 16 if len(files) == MOST_FILES else draw.randint(1, 16)

@@ -1,7 +1,7 @@
 #!/usr/bin/env python3
 """Compares frameq with a second implementation of its definitions, on random plans and files.
 
-    differential/compare.py [--cases N] [--seed S] [--version V] [--program PATH]
+    differential/compare.py [--cases N] [--seed S] [--version V] [--rows N] [--program PATH]
 
 Each case runs at five settings, one of them random, and, if it has one file, also without arguments. If it has 16 files, the
 random setting has 16 workers. Output, exit status and the line on standard error are compared byte by byte. At the first
@@ -110,6 +110,7 @@ def arguments():
     parser.add_argument("--cases", type=int, default=1000, help="how many cases [1000]")
     parser.add_argument("--seed", type=int, default=1, help="another seed, other cases [1]")
     parser.add_argument("--version", type=int, choices=[1, 2], help="the version of all plans [each with even odds]")
+    parser.add_argument("--rows", type=int, help="the most rows of each file of the last source [12, seldom 1500]")
     parser.add_argument("--program", help="the frameq to compare [the one that tools/build builds]")
     return parser.parse_args()
 
@@ -122,7 +123,7 @@ def main():
     with tempfile.TemporaryDirectory() as folder:
         for number in range(given.cases):
             try:
-                answers = compare(program, folder, cases.case(given.seed, number, versions))
+                answers = compare(program, folder, cases.case(given.seed, number, versions, given.rows))
             except Difference as difference:
                 sys.exit(f"seed {given.seed}, case {number}: the answers differ; the case is in {difference}")
             endings[ending_of(answers[0])] += 1

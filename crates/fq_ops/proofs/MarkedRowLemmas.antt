@@ -51,9 +51,6 @@ module _ {X : Type 0} where
   keep-whole (true ∷ marks) (x ∷ xs) h = ap (λ l. x ∷ l) (keep-whole marks xs (omega (arith, h)))
   keep-whole (false ∷ marks) (x ∷ xs) h = absurd (omega (arith, h, keep-le marks xs))
 
-pub marks-none : AreMarks [] []
-marks-none = record { kept = λ rows low. refl }
-
 pub marks-more : (marks after : List Bool) (places : List ℕ) (i p m : ℕ) → i < length places → get_or places i 0 ≡ p → p ≡ length marks + m → after ≡ (marks ++ replicate m false) ++ true ∷ [] →
     AreMarks marks (take i places) → AreMarks after (take (i + 1) places)
 marks-more marks after places i p m low here gap e so_far =

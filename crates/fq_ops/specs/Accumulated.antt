@@ -44,7 +44,7 @@ grown_and_stepped groups numbers cells f states = stepped_along (padded groups (
 abbrev pub accumulated : ℕ → List ℕ → List Row → Accumulated → Accumulated
 accumulated groups numbers rows a = record a { states = grown_and_stepped groups numbers (column_at a.column rows) a.function a.states }
 
--- running values that are those of n rows are, after so many more, those of n and so many rows
+-- running values that are within the bounds of n rows are, after so many more, within those of n and so many
 pub record HaveTaken (count : ℕ) (old new : List Running) : Type 0 where
   pub bounded : (n : ℕ) → All (IsBoundedBy n) old → All (IsBoundedBy (n + count)) new
 

@@ -104,7 +104,7 @@ impl Accumulator {
 
     /// The column of the groups' values, with null where a value does not fit 64 bits or is of another kind.
     pub fn column(&self, alloc: Global, kind: Kind) -> Result<Column, Memory>
-        requires { All (IsBoundedBy (MAX_GROUPED_ROWS)) self.now.states }
+        requires { All (IsBoundedBy MAX_GROUPED_ROWS) self.now.states }
         ensures { IfOk result (λ column. column ≡ column_of (numbers (length self.now.states)) (value_pick kind self.now)) }
     {
         for_each_function!(&self.states, states => gather(alloc, kind, states))
@@ -207,7 +207,7 @@ fn step_all<S: State>(
 
 // The column of the groups' values, with null where a value does not fit 64 bits or is of another kind.
 fn gather<S: State>(alloc: Global, kind: Kind, states: &Vec<S>) -> Result<Column, Memory>
-    requires { All (IsBoundedBy (MAX_GROUPED_ROWS)) (map S.running states.now.items) }
+    requires { All (IsBoundedBy MAX_GROUPED_ROWS) (map S.running states.now.items) }
     ensures { IfOk result (λ column. column ≡ column_of (numbers (length states.now.items)) (running_pick kind (map S.running states.now.items))) }
 {
     let mut column = Column::with_capacity(alloc, kind, states.len())?;

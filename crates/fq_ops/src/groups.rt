@@ -305,7 +305,7 @@ fn gather(
 ) -> Result<Vec<Column>, Memory>
     requires width { length accumulators.now ≤ length output.now }
     requires beside { All (λ a. length a.states ≡ length keys.now) accumulators.now }
-    requires bounded { All (λ a. All (IsBoundedBy (MAX_GROUPED_ROWS)) a.states) accumulators.now }
+    requires bounded { All (λ a. All (IsBoundedBy MAX_GROUPED_ROWS) a.states) accumulators.now }
     ensures { IfOk result (λ columns. columns.items ≡ columns_of
         (group_picks (length output.now - length accumulators.now) keys.now accumulators.now (kinds_of output.now) (length output.now)) (numbers (length keys.now))) }
 {

@@ -9,7 +9,8 @@ use fq_column::Memory;
 use indexmap::IndexSet;
 use std::alloc::Global;
 
-/// The number of a key in the order of first appearance: one lookup, and a copy of the key only if it is new.
+/// The number of a key in the order of first appearance, with a lookup and, if it is new, a copy and one more lookup. Where keys are
+/// mostly new, [`insert_copy`] looks up less.
 pub fn number_of(alloc: Global, seen: &mut IndexSet<Key>, key: &Key) -> Result<usize, Memory>
     ensures keys { OnOk result (seen.new.keys ≡ insert_key same_key seen.old.keys key.now) }
     ensures index { IfOk result (λ i. i ≡ position_or_len (same_key key.now) seen.old.keys) }
@@ -19,6 +20,16 @@ pub fn number_of(alloc: Global, seen: &mut IndexSet<Key>, key: &Key) -> Result<u
     if let Some(i) = seen.get_index_of(key) {
         return Ok(i);
     }
+    insert_copy(alloc, seen, key)
+}
+
+/// The number of a key in the order of first appearance, with a copy and one lookup.
+pub fn insert_copy(alloc: Global, seen: &mut IndexSet<Key>, key: &Key) -> Result<usize, Memory>
+    ensures keys { OnOk result (seen.new.keys ≡ insert_key same_key seen.old.keys key.now) }
+    ensures index { IfOk result (λ i. i ≡ position_or_len (same_key key.now) seen.old.keys) }
+    ensures within { IfOk result (λ i. i < length seen.new.keys) }
+{
+    key_law();
     let own = key.copy(alloc)?;
     let (i, _) = seen.insert_full(own)?;
     Ok(i)

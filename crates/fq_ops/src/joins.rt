@@ -14,7 +14,7 @@ ghost use Rattle.fq_ops.specs.Picks.{Pick, columns_of, picks_from};
 ghost use Rattle.fq_ops.specs.Pairs.{IsIndex, Pair, can_match, join_picks, left_value, matches_of, pairs_of, pairs_within, right_value};
 
 use crate::field_lists::positions;
-use crate::index::number_of;
+use crate::index::insert_copy;
 use crate::keys::{Key, key_law};
 use crate::output_schemas::{contains, join_schema};
 use crate::pairs::Pairs;
@@ -134,8 +134,8 @@ impl JoinTable {
         JoinTable::build_from(alloc, right, on, nulls_equal)
     }
 
-    /// The table of a right batch, which it keeps with no copy: one lookup for each row, and a copy of each key if it is
-    /// new. If an allocation fails, nothing is handed back.
+    /// The table of a right batch, which it keeps with no copy: a copy of each row's key and one lookup, with room for as many
+    /// keys as rows. If an allocation fails, nothing is handed back.
     pub fn build_from(
         alloc: Global,
         right: Batch,
@@ -146,8 +146,8 @@ impl JoinTable {
         ensures { IfOk result (λ t. t ≡ record { fields = right.fields; rows = right.rows; on = map string_bytes on.items; nulls_equal = nulls_equal }) }
     {
         let places = positions(alloc, right.schema(), on.as_slice())?;
-        let mut seen = IndexSet::new(alloc);
-        let mut groups = Vec::new(alloc);
+        let mut seen = IndexSet::with_capacity(alloc, right.rows())?;
+        let mut groups = Vec::with_capacity(alloc, right.rows())?;
         index_rows(
             alloc,
             &mut seen,
@@ -310,7 +310,7 @@ fn add_place(
         groups.new.items ≡ replaced i (get_or groups.old.items i [] ++ row ∷ []) groups.old.items) }
     ensures beside { OnOk result (length groups.new.items ≡ length seen.new.keys) }
 {
-    let i = number_of(alloc, seen, key)?;
+    let i = insert_copy(alloc, seen, key)?;
     if i == groups.len() && groups.push(Places::new(alloc)).is_err() {
         return Err(Memory);
     }

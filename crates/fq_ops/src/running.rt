@@ -28,13 +28,13 @@ pub trait State: Drop {
         scratch: &mut Cell,
     ) -> Result<(), Memory>
         requires row { row < length column.now.cells }
-        requires few { IsBoundedBy (MAX_GROUPED_ROWS) (running self.old) }
+        requires few { IsBoundedBy MAX_GROUPED_ROWS (running self.old) }
         ensures stepped { OnOk result (running self.new ≡ stepped (running self.old) (value_at row column.now.cells)) }
         ensures bounded { OnOk result ((n : ℕ) → IsBoundedBy n (running self.old) → IsBoundedBy (n + 1) (running self.new)) };
 
     /// Appends the aggregate to a column, or null if it does not fit 64 bits or is of another kind.
     fn push_to(&self, column: &mut Column) -> Result<(), Memory>
-        requires { IsBoundedBy (MAX_GROUPED_ROWS) (running self.now) }
+        requires { IsBoundedBy MAX_GROUPED_ROWS (running self.now) }
         ensures { OnOk result (column.new ≡ record column.old { cells = column.old.cells ++ of_kind column.old.kind (outcome (running self.now)) ∷ [] }) };
 }
 
