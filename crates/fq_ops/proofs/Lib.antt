@@ -7,6 +7,7 @@ pub mod GroupLemmas
 pub mod GroupedLemmas
 pub mod JoinLemmas
 pub mod KeyLemmas
+pub mod KeySetLemmas
 pub mod MarkedRowLemmas
 pub mod AggregateLemmas
 pub mod PairLemmas

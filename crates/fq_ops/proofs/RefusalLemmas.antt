@@ -357,10 +357,16 @@ module _ (how : How) (left right : Fields) (on : List Name) (ok : IsOk (join_sch
   join-parts : (first_refusal (flat_map (key_checks left right) on) ≡ None) × (first_refusal (join_ending how left right on) ≡ None)
   join-parts = none-both (flat_map (key_checks left right) on) (join_ending how left right on) join-begins.1
 
-  key-parts : (k : ℕ) (d : Name) → k < length on → ((not (has_name (names_of left) (get_or on k d)) ≡ false) × (not (has_name (names_of right) (get_or on k d)) ≡ false))
+  key-parts : (k : ℕ) (d : Name) → k < length on →
+      (not (has_name (names_of left) (get_or on k d)) ≡ false) × (not (has_name (names_of right) (get_or on k d)) ≡ false) × (kinds_differ (kind_named left (get_or on k d)) (kind_named right (get_or on k d)) ≡ false)
   key-parts k d low =
       let at_left = none-first (not (has_name (names_of left) (get_or on k d))) NoSuchColumn _ (none-each (key_checks left right) on join-parts.0 k d low) in
-      (at_left.0, (none-first (not (has_name (names_of right) (get_or on k d))) NoSuchColumn _ at_left.1).0)
+      let at_right = none-first (not (has_name (names_of right) (get_or on k d))) NoSuchColumn _ at_left.1 in
+      (at_left.0, at_right.0, (none-first (kinds_differ (kind_named left (get_or on k d)) (kind_named right (get_or on k d))) WrongKind [] at_right.1).0)
+
+  -- the kinds of a key on both sides agree
+  pub join-agree : (k : ℕ) (d : Name) → k < length on → kinds_differ (kind_named left (get_or on k d)) (kind_named right (get_or on k d)) ≡ false
+  join-agree k d low = (key-parts k d low).2
 
   pub join-some : 1 ≤ length on
   join-some = some-of on join-begins.0

@@ -1,5 +1,5 @@
 -- What a grouper has taken and no longer holds.
-use Rattle.std.specs.Prelude.{◌≡◌, ℕ, ◌+◌, ◌≤◌, ◌<◌, All, Bool, false, IsOk, List, [], length, map, unwrap_or, fold, Result, Err}
+use Rattle.std.specs.Prelude.{◌≡◌, ℕ, ◌+◌, ◌≤◌, ◌<◌, All, Bool, true, false, IsOk, List, [], length, map, unwrap_or, fold, Result, Err}
 use Rattle.std.specs.List.{AllPass}
 use Rattle.fq_column.specs.declared.cells.Cell.{Cell}
 use Rattle.fq_column.specs.Frame.{Fields, Name, Row, column_at, names_of, position_of, row_fits}
@@ -12,6 +12,7 @@ use Rattle.fq_ops.specs.Accumulated.{Accumulated, IsAccumulator}
 use Rattle.fq_ops.specs.Aggregate.{Aggregate, Output, len, over}
 use Rattle.fq_ops.specs.Fields.{AreAt}
 use Rattle.fq_ops.specs.Group.{group_of, group_schema, grouped_fields, keys_of_rows}
+use Rattle.fq_ops.specs.KeySets.{IsWholeAt}
 use Rattle.fq_ops.specs.Running.{Running, start_of, stepped}
 
 -- what contracts see of a grouper: the columns that it takes and those that it gives, how many rows it has taken, whether
@@ -23,6 +24,7 @@ pub record Gathered : Type 0 where
   pub failed : Bool
   pub places : List ℕ
   pub seen : List (List Cell)
+  pub is_whole : Bool
   pub accumulators : List Accumulated
 
 -- the function of an aggregate
@@ -69,6 +71,7 @@ pub record HasTakenRows (g : Gathered) (keys : List Name) (outputs : List Output
 pub record IsReady (g : Gathered) : Type 0 where
   pub some : 1 ≤ length g.places
   pub places : All (λ p. p < length g.fields) g.places
+  pub whole : g.is_whole ≡ true → IsWholeAt g.fields g.places
   pub few : g.taken ≤ MAX_GROUPED_ROWS
   pub width : length g.output ≡ length g.places + length g.accumulators
   pub accumulators : g.failed ≡ false → All (IsAccumulator (length g.fields) (length g.seen) g.taken) g.accumulators

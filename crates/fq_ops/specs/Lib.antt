@@ -8,6 +8,7 @@ pub mod Group
 pub mod Grouping
 pub mod Indexed
 pub mod Join
+pub mod KeySets
 pub mod AggregateData
 pub mod Pairs
 pub mod Picks

@@ -9,6 +9,7 @@ ghost use Rattle.fq_ops.specs.Aggregate.{Output};
 ghost use Rattle.fq_ops.specs.Gathered.{HasTakenRows, IsFaultOf, fresh, function_of, place_of as place_in};
 ghost use Rattle.fq_ops.specs.Group.{aggregate_kind, group_schema as judged_grouping, grouped, grouped_fields, same_key};
 ghost use Rattle.fq_ops.specs.Grouping.{key_at};
+ghost use Rattle.fq_ops.specs.KeySets.{IsWholeAt};
 ghost use Rattle.fq_ops.specs.AggregateData.{aggregate_of, outputs_of};
 ghost use Rattle.fq_ops.specs.Picks.{column_of, columns_of};
 ghost use Rattle.fq_ops.specs.Running.{IsBoundedBy};
@@ -16,12 +17,10 @@ ghost use Rattle.fq_ops.specs.Running.{IsBoundedBy};
 use crate::accumulators::Accumulator;
 use crate::aggregates::{Agg, Function, What};
 use crate::field_lists::{place_of, positions};
-use crate::index::number_of;
-use crate::keys::Key;
+use crate::key_sets::{KeySet, RowKey, is_whole_key};
 use crate::output_schemas::group_schema;
 use crate::running::push_cell;
 use fq_column::{Batch, Column, Kind, Memory, Schema};
-use indexmap::IndexSet;
 use std::alloc::Global;
 use std::marker::Model;
 use thiserror::Error;
@@ -63,7 +62,7 @@ pub struct Grouper {
     schema: Schema,
     output: Schema,
     places: Vec<usize>,
-    seen: IndexSet<Key>,
+    seen: KeySet,
     accumulators: Vec<Accumulator>,
     rows_taken: u64,
     failed: bool,
@@ -76,9 +75,9 @@ impl Model for Grouper {
 
     ghost use Rattle.fq_ops.specs.Gathered.{IsReady};
 
-    ghost view = { λ g. record { fields = g.schema; output = g.output; taken = g.rows_taken; failed = g.failed; places = g.places.items; seen = g.seen.keys; accumulators = g.accumulators.items } };
+    ghost view = { λ g. record { fields = g.schema; output = g.output; taken = g.rows_taken; failed = g.failed; places = g.places.items; seen = g.seen.keys; is_whole = g.seen.is_whole; accumulators = g.accumulators.items } };
 
-    ghost invariant = { λ g. IsReady (record { fields = g.schema; output = g.output; taken = g.rows_taken; failed = g.failed; places = g.places.items; seen = g.seen.keys; accumulators = g.accumulators.items }) };
+    ghost invariant = { λ g. IsReady (record { fields = g.schema; output = g.output; taken = g.rows_taken; failed = g.failed; places = g.places.items; seen = g.seen.keys; is_whole = g.seen.is_whole; accumulators = g.accumulators.items }) };
 }
 
 impl Grouper {
@@ -101,12 +100,13 @@ impl Grouper {
             return Err(Memory);
         };
         let places = positions(alloc, &schema, keys)?;
+        let is_whole = is_whole_key(&schema, keys);
         let accumulators = accumulators_of(alloc, &schema, aggs)?;
         Ok(Grouper {
             schema,
             output,
             places,
-            seen: IndexSet::new(alloc),
+            seen: KeySet::new(alloc, is_whole),
             accumulators,
             rows_taken: 0,
             failed: false,
@@ -181,7 +181,7 @@ impl Grouper {
             return Err(GroupFault::Memory);
         }
         let output = self.output.copy(alloc)?;
-        let keys = self.seen.as_slice();
+        let keys = &self.seen;
         if let Some(item) = first_unfit(self.accumulators.as_slice(), keys.len()) {
             return Err(GroupFault::SumRange { item: item as u16 });
         }
@@ -222,12 +222,14 @@ fn resolve(schema: &Schema, what: &What) -> (Function, usize)
 // The numbers of the groups of rows, in the order of first appearance; copies each new key.
 fn number_rows(
     alloc: Global,
-    seen: &mut IndexSet<Key>,
+    seen: &mut KeySet,
     places: &[usize],
     batch: &Batch,
 ) -> Result<Vec<usize>, Memory>
     requires some { 1 ≤ length places.now }
     requires places { All (λ p. p < length batch.now.fields) places.now }
+    requires whole { seen.old.is_whole ≡ true → IsWholeAt batch.now.fields places.now }
+    ensures whole { seen.new.is_whole ≡ seen.old.is_whole }
     ensures seen { OnOk result (seen.new.keys ≡ insert_all same_key seen.old.keys (map (key_at places.now) batch.now.rows)) }
     ensures numbers { IfOk result (λ numbers. numbers.items ≡ numbers_along seen.old.keys (map (key_at places.now) batch.now.rows)) }
     ensures beside { IfOk result (λ numbers. length numbers.items ≡ length batch.now.rows) }
@@ -235,11 +237,11 @@ fn number_rows(
     ensures grown { OnOk result (length seen.old.keys ≤ length seen.new.keys) }
     ensures frame { OnOk result (IsFrame batch.now) }
 {
-    let mut key = Key::nulls(alloc, places.len())?;
+    let mut key = RowKey::nulls(alloc, seen.is_whole(), places.len())?;
     let mut numbers = Vec::with_capacity(alloc, batch.rows())?;
     for row in 0..batch.rows() {
         key.read(alloc, batch, places, row)?;
-        numbers.push(number_of(alloc, seen, &key)?)?;
+        numbers.push(seen.number_of(alloc, &key)?)?;
     }
     Ok(numbers)
 }
@@ -300,39 +302,25 @@ fn unfit_in(accumulators: &[Accumulator], group: usize) -> Option<usize>
 fn gather(
     alloc: Global,
     output: &Schema,
-    keys: &[Key],
+    keys: &KeySet,
     accumulators: &[Accumulator],
 ) -> Result<Vec<Column>, Memory>
     requires width { length accumulators.now ≤ length output.now }
-    requires beside { All (λ a. length a.states ≡ length keys.now) accumulators.now }
+    requires beside { All (λ a. length a.states ≡ length keys.now.keys) accumulators.now }
     requires bounded { All (λ a. All (IsBoundedBy MAX_GROUPED_ROWS) a.states) accumulators.now }
     ensures { IfOk result (λ columns. columns.items ≡ columns_of
-        (group_picks (length output.now - length accumulators.now) keys.now accumulators.now (kinds_of output.now) (length output.now)) (numbers (length keys.now))) }
+        (group_picks (length output.now - length accumulators.now) keys.now.keys accumulators.now (kinds_of output.now) (length output.now)) (numbers (length keys.now.keys))) }
 {
     let width = output.len() - accumulators.len();
     let mut columns = Vec::with_capacity(alloc, output.len())?;
     for i in 0..output.len() {
         let kind = output.kind(i);
         let column = if i < width {
-            key_column(alloc, kind, keys, i)?
+            keys.column(alloc, kind, i)?
         } else {
             accumulators[i - width].column(alloc, kind)?
         };
         columns.push(column)?;
     }
     Ok(columns)
-}
-
-// The column of the keys' cells at a place, with null where a cell is of another kind.
-fn key_column(alloc: Global, kind: Kind, keys: &[Key], place: usize) -> Result<Column, Memory>
-    ensures { IfOk result (λ column. column ≡ column_of (numbers (length keys.now)) (key_pick kind place keys.now)) }
-{
-    let mut column = Column::with_capacity(alloc, kind, keys.len())?;
-    for i in 0..keys.len() {
-        match keys[i].cell(place) {
-            Some(cell) => push_cell(&mut column, cell)?,
-            None => column.push_null()?,
-        }
-    }
-    Ok(column)
 }

@@ -9,17 +9,16 @@ ghost use Rattle.fq_column.specs.Stream.{then_stream, rename_fault};
 ghost use Rattle.fq_ops.specs.Group.{same_key};
 ghost use Rattle.fq_ops.specs.Grouping.{replaced, key_at};
 ghost use Rattle.fq_ops.specs.Join.{AreKeys, join_schema as judged_join, joined_fields, join_rows};
+ghost use Rattle.fq_ops.specs.KeySets.{IsWholeAt};
 ghost use Rattle.fq_ops.specs.PlainJoin.{plain_fields, plain_how, plain_join};
 ghost use Rattle.fq_ops.specs.Picks.{Pick, columns_of, picks_from};
 ghost use Rattle.fq_ops.specs.Pairs.{IsIndex, Pair, can_match, join_picks, left_value, matches_of, pairs_of, pairs_within, right_value};
 
 use crate::field_lists::positions;
-use crate::index::insert_copy;
-use crate::keys::{Key, key_law};
+use crate::key_sets::{KeySet, RowKey, is_whole_key};
 use crate::output_schemas::{contains, join_schema};
 use crate::pairs::Pairs;
 use fq_column::{Batch, Column, Memory, Piece, copy_strings};
-use indexmap::IndexSet;
 use smallvec::SmallVec;
 use std::alloc::Global;
 use std::marker::Model;
@@ -99,7 +98,7 @@ pub struct JoinTable {
     right: Batch,
     on: Vec<String>,
     nulls_equal: bool,
-    seen: IndexSet<Key>,
+    seen: KeySet,
     groups: Vec<Places>,
 }
 
@@ -113,7 +112,7 @@ impl Model for JoinTable {
 
     ghost view = { λ t. record { fields = t.right.fields; rows = t.right.rows; on = map string_bytes t.on.items; nulls_equal = t.nulls_equal } };
 
-    ghost invariant = { λ t. IsIndexed t.right (map string_bytes t.on.items) t.nulls_equal t.seen.keys t.groups.items };
+    ghost invariant = { λ t. IsIndexed t.right (map string_bytes t.on.items) t.nulls_equal t.seen t.groups.items };
 }
 
 impl JoinTable {
@@ -145,8 +144,10 @@ impl JoinTable {
         requires { AreKeys right.fields (map string_bytes on.items) }
         ensures { IfOk result (λ t. t ≡ record { fields = right.fields; rows = right.rows; on = map string_bytes on.items; nulls_equal = nulls_equal }) }
     {
-        let places = positions(alloc, right.schema(), on.as_slice())?;
-        let mut seen = IndexSet::with_capacity(alloc, right.rows())?;
+        let (schema, names) = (right.schema(), on.as_slice());
+        let places = positions(alloc, schema, names)?;
+        let is_whole = is_whole_key(schema, names);
+        let mut seen = KeySet::with_capacity(alloc, is_whole, right.rows())?;
         let mut groups = Vec::with_capacity(alloc, right.rows())?;
         index_rows(
             alloc,
@@ -266,7 +267,7 @@ fn gather_right(
 // Notes the places of the rows of a batch by their keys, if these can match.
 fn index_rows(
     alloc: Global,
-    seen: &mut IndexSet<Key>,
+    seen: &mut KeySet,
     groups: &mut Vec<Places>,
     on: &[usize],
     right: &Batch,
@@ -275,11 +276,13 @@ fn index_rows(
     requires empty { (seen.old.keys ≡ []) × (groups.old.items ≡ []) }
     requires some { 1 ≤ length on.now }
     requires places { All (λ p. p < length right.now.fields) on.now }
+    requires whole { seen.old.is_whole ≡ true → IsWholeAt right.now.fields on.now }
+    ensures whole { seen.new.is_whole ≡ seen.old.is_whole }
     ensures beside { OnOk result (length groups.new.items ≡ length seen.new.keys) }
     ensures frame { OnOk result (IsFrame right.now) }
     ensures index { OnOk result (IsIndex nulls_equal (λ n. key_at on.now (slice_index_or right.now.rows n [])) (length right.now.rows) seen.new.keys groups.new.items) }
 {
-    let mut key = Key::nulls(alloc, on.len())?;
+    let mut key = RowKey::nulls(alloc, seen.is_whole(), on.len())?;
     for row in 0..right.rows() {
         key.read(alloc, right, on, row)?;
         if may_match(&key, nulls_equal) {
@@ -290,8 +293,8 @@ fn index_rows(
 }
 
 // Whether a key can match any key.
-fn may_match(key: &Key, nulls_equal: bool) -> bool
-    ensures { result ≡ can_match nulls_equal key.now }
+fn may_match(key: &RowKey, nulls_equal: bool) -> bool
+    ensures { result ≡ can_match nulls_equal key.now.cells }
 {
     nulls_equal || !key.has_null()
 }
@@ -299,18 +302,20 @@ fn may_match(key: &Key, nulls_equal: bool) -> bool
 // Adds a place to those of its key.
 fn add_place(
     alloc: Global,
-    seen: &mut IndexSet<Key>,
+    seen: &mut KeySet,
     groups: &mut Vec<Places>,
-    key: &Key,
+    key: &RowKey,
     row: usize,
 ) -> Result<(), Memory>
-    requires { length groups.old.items ≡ length seen.old.keys }
-    ensures seen { OnOk result (seen.new.keys ≡ insert_key same_key seen.old.keys key.now) }
-    ensures groups { OnOk result (let i = position_or_len (same_key key.now) seen.old.keys in
+    requires beside { length groups.old.items ≡ length seen.old.keys }
+    requires whole { key.now.is_whole ≡ seen.old.is_whole }
+    ensures whole { seen.new.is_whole ≡ seen.old.is_whole }
+    ensures seen { OnOk result (seen.new.keys ≡ insert_key same_key seen.old.keys key.now.cells) }
+    ensures groups { OnOk result (let i = position_or_len (same_key key.now.cells) seen.old.keys in
         groups.new.items ≡ replaced i (get_or groups.old.items i [] ++ row ∷ []) groups.old.items) }
     ensures beside { OnOk result (length groups.new.items ≡ length seen.new.keys) }
 {
-    let i = insert_copy(alloc, seen, key)?;
+    let i = seen.insert(alloc, key)?;
     if i == groups.len() && groups.push(Places::new(alloc)).is_err() {
         return Err(Memory);
     }
@@ -319,13 +324,13 @@ fn add_place(
 }
 
 // The places of the rows that match a key.
-fn places_of<'a>(seen: &IndexSet<Key>, groups: &'a Vec<Places>, key: &Key) -> &'a [usize]
-    requires { length groups.now.items ≡ length seen.now.keys }
+fn places_of<'a>(seen: &KeySet, groups: &'a Vec<Places>, key: &RowKey) -> &'a [usize]
+    requires beside { length groups.now.items ≡ length seen.now.keys }
+    requires whole { key.now.is_whole ≡ seen.now.is_whole }
     ensures { (nulls_equal : Bool) (key_at_place : ℕ → List Value) (count : ℕ) → IsIndex nulls_equal key_at_place count seen.now.keys groups.now.items →
-        result.now ≡ matches_of nulls_equal key_at_place count key.now }
+        result.now ≡ matches_of nulls_equal key_at_place count key.now.cells }
 {
-    key_law();
-    match seen.get_index_of(key) {
+    match seen.find(key) {
         Some(i) => groups[i].as_slice(),
         None => &[],
     }
@@ -378,7 +383,7 @@ fn push_matches(pairs: &mut Pairs, left: usize, matches: &[usize]) -> Result<(),
 // The pairs of places of a join, up to the left row whose pairs would pass the room.
 fn pair_rows(
     alloc: Global,
-    seen: &IndexSet<Key>,
+    seen: &KeySet,
     groups: &Vec<Places>,
     on: &[usize],
     left: &Batch,
@@ -388,11 +393,12 @@ fn pair_rows(
     requires beside { length groups.now.items ≡ length seen.now.keys }
     requires some { 1 ≤ length on.now }
     requires places { All (λ p. p < length left.now.fields) on.now }
+    requires whole { seen.now.is_whole ≡ true → IsWholeAt left.now.fields on.now }
     ensures frame { OnOk result (IsFrame left.now) }
     ensures pairs { IfOk result (λ r. (nulls_equal : Bool) (key_at_place : ℕ → List Value) (right_count : ℕ) → IsIndex nulls_equal key_at_place right_count seen.now.keys groups.now.items →
         (r.0, r.1) ≡ pairs_within (λ l. pairs_of how l (matches_of nulls_equal key_at_place right_count (key_at on.now (slice_index_or left.now.rows l [])))) room (numbers (length left.now.rows))) }
 {
-    let mut key = Key::nulls(alloc, on.len())?;
+    let mut key = RowKey::nulls(alloc, seen.is_whole(), on.len())?;
     let mut pairs = Pairs::with_capacity(alloc, left.rows())?;
     let mut room_left = room;
     for row in 0..left.rows() {

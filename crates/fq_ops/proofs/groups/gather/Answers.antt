@@ -12,7 +12,7 @@ use Rattle.fq_ops.proofs.groups.gather.Goals.{then-i-width+in_ok-column, else-i-
 
 pub loop-i-preserved : goal.loop-i-preserved
 loop-i-preserved c =
-    let keys = c.args.keys.now in
+    let keys = c.args.keys.now.keys in
     let accumulators = c.args.accumulators.now in
     let kinds = kinds_of c.args.output.now in
     let width = c.len.result - length accumulators in

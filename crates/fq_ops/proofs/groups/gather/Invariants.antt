@@ -6,4 +6,4 @@ use Rattle.fq_ops.specs.Picks.{columns_of}
 use Rattle.fq_ops.proofs.groups.gather.Given as goal
 
 abbrev pub invariant-loop-i : goal.invariant-loop-i
-invariant-loop-i l = l.columns.items ≡ columns_of (group_picks l.width l.keys l.accumulators (kinds_of l.output) l.i) (numbers (length l.keys))
+invariant-loop-i l = l.columns.items ≡ columns_of (group_picks l.width l.keys.keys l.accumulators (kinds_of l.output) l.i) (numbers (length l.keys.keys))

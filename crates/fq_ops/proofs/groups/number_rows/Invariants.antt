@@ -8,7 +8,9 @@ use Rattle.fq_ops.proofs.groups.number_rows.Given as goal
 
 abbrev pub invariant-loop-row : goal.invariant-loop-row
 invariant-loop-row l = record {
-  size : length l.key ≡ length l.places;
+  size : length l.key.cells ≡ length l.places;
+  form : l.key.is_whole ≡ l.seen.is_whole;
+  whole : l.seen.is_whole ≡ l.fn.seen.is_whole;
   seen : l.seen.keys ≡ insert_all same_key l.fn.seen.keys (map (key_at l.places) (take l.row l.batch.rows));
   numbers : l.numbers.items ≡ numbers_along l.fn.seen.keys (map (key_at l.places) (take l.row l.batch.rows));
   beside : length l.numbers.items ≡ l.row;

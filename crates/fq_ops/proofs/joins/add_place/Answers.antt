@@ -10,7 +10,7 @@ use Rattle.fq_ops.proofs.joins.add_place.Goals.{else-i-len-via-then-i-len+else-i
 grown : (c : goal.After-groups-1) → Grown c.args.groups.now.items c.else-i-len.groups.items c.in_ok-i.i []
 grown c =
     let xs = c.args.groups.now.items in
-    let low = position-within (same_key c.args.key.now) c.args.seen.now.keys in
+    let low = position-within (same_key c.args.key.now.cells) c.args.seen.now.keys in
     elim c.else-i-len.branch [
       | else-i-len-via-then-i-len+else-is_err w ↦ inl (omega arith, ap (λ v. v.items) w.groups-is ∙ w.push.ensures.items ∙ ap (λ b. if b then xs ++ w.new.result ∷ [] else xs) (w.if-is_err.ensures).negation ∙ ap (λ g. xs ++ g ∷ []) w.new.ensures)
       | else-i-len-via-else-i-len w ↦ inr (omega (arith, low, c.in_ok-i.ensures.index), ap (λ v. v.items) w.groups-is)
@@ -24,11 +24,11 @@ pub returns-clause-beside : goal.returns-clause-beside
 returns-clause-beside c =
     let xs = c.args.groups.now.items in
     let gs = c.else-i-len.groups.items in
-    let grows = length-insert_key same_key c.args.key.now c.args.seen.now.keys in
+    let grows = length-insert_key same_key c.args.key.now.cells c.args.seen.now.keys in
     let at = c.in_ok-i.ensures.index in
-    let keys : length c.insert_copy.new.seen.keys ≡ length (insert_key same_key c.args.seen.now.keys c.args.key.now) = ap length c.in_ok-i.ensures.keys in
-    let same : length gs ≡ length c.insert_copy.new.seen.keys = elim (grown c) [
-      | inl (e, h) ↦ ap length h ∙ length-append xs ([] ∷ []) ∙ omega (arith, keys, grows.0 (sym at ∙ e ∙ c.requires), c.requires)
-      | inr (e, h) ↦ ap length h ∙ omega (arith, keys, grows.1 (omega (arith, at, e, c.requires)), c.requires)
+    let keys : length c.insert.new.self.keys ≡ length (insert_key same_key c.args.seen.now.keys c.args.key.now.cells) = ap length c.in_ok-i.ensures.keys in
+    let same : length gs ≡ length c.insert.new.self.keys = elim (grown c) [
+      | inl (e, h) ↦ ap length h ∙ length-append xs ([] ∷ []) ∙ omega (arith, keys, grows.0 (sym at ∙ e ∙ c.requires.beside), c.requires.beside)
+      | inr (e, h) ↦ ap length h ∙ omega (arith, keys, grows.1 (omega (arith, at, e, c.requires.beside)), c.requires.beside)
     ] in
     on_ok_weaker c.push-2.result (λ _. length-set gs c.in_ok-i.i c.push-2.new.self ∙ same) c.push-2.ensures

@@ -26,6 +26,7 @@ returns-then-wanted-room_left-clause-pairs c = λ nulls_equal key n h.
 pub loop-row-preserved : goal.loop-row-preserved
 loop-row-preserved c = record {
   size = c.in_ok-read.ensures.size;
+  form = c.in_ok-read.ensures.whole ∙ c.loop-row.invariant.form;
   pairs = λ nulls_equal key n h.
       let on = c.args.on.now in
       let rows = c.args.left.now.rows in

@@ -15,14 +15,14 @@ returns-in-Some-clause-fault c = λ names outputs rows h.
     let own = subst (λ (g : Gathered). HasTakenRows g names outputs rows) (sym c.self.view_is) h in
     let inside = c.self.inside in
     let found : first_found (out_of_range_in inside.accumulators.items) (numbers (length inside.seen.keys)) ≡ Some c.in-Some.item =
-    (λ i. first_found (out_of_range_in (sym c.as_slice.ensures.value i)) (numbers (length (sym c.as_slice-keys.ensures.keys i)))) ∙ sym c.in-Some.ensures.found in
+    (λ i. first_found (out_of_range_in (sym c.as_slice.ensures.value i)) (numbers (sym c.len.ensures i))) ∙ sym c.in-Some.ensures.found in
     ap (λ (g : Gathered). grouped g.fields names outputs rows) (sym c.self.view_is) ∙ taken-not _ names outputs rows own c.in-Some.item found
 
 pub new-requires-clause-kinds : goal.new-requires-clause-kinds
 new-requires-clause-kinds c =
     let output = c.self.inside.output in
     let accumulators = c.as_slice-2.result.now in
-    let seen = c.as_slice-keys.result.now in
+    let seen = c.self.inside.seen.keys in
     let places = length output - length accumulators in
     let picks = group_picks places seen accumulators (kinds_of output) (length output) in
     ap (map kind_of_cells) c.in_ok-columns.ensures ∙ kinds-of-picks (numbers (length seen)) picks
@@ -32,7 +32,7 @@ pub new-requires-clause-lengths : goal.new-requires-clause-lengths
 new-requires-clause-lengths c =
     let output = c.self.inside.output in
     let accumulators = c.as_slice-2.result.now in
-    let seen = c.as_slice-keys.result.now in
+    let seen = c.self.inside.seen.keys in
     let places = length output - length accumulators in
     let picks = group_picks places seen accumulators (kinds_of output) (length output) in
     let some : 0 < length picks = omega (arith, picks-count places seen accumulators output, c.self.invariant.width, c.self.invariant.some) in
@@ -49,9 +49,9 @@ returns-clause-rows c = λ names outputs rows h.
     let picks = group_picks places seen accumulators (kinds_of output) (length output) in
     let some : 0 < length picks = omega (arith, picks-count places seen accumulators output, c.self.invariant.width, c.self.invariant.some) in
     let none : first_found (out_of_range_in accumulators) (numbers (length seen)) ≡ None =
-    (λ i. first_found (out_of_range_in (sym c.as_slice.ensures.value i)) (numbers (length (sym c.as_slice-keys.ensures.keys i)))) ∙ sym c.in_default.ensures.found in
+    (λ i. first_found (out_of_range_in (sym c.as_slice.ensures.value i)) (numbers (sym c.len.ensures i))) ∙ sym c.in_default.ensures.found in
     let columns : c.in_ok-columns.columns.items ≡ columns_of picks (numbers (length seen)) =
-    c.in_ok-columns.ensures ∙ (λ i. columns_of (group_picks (length output - length (c.as_slice-2.ensures.value i)) (c.as_slice-keys.ensures.keys i) (c.as_slice-2.ensures.value i) (kinds_of output) (length output)) (numbers (length (c.as_slice-keys.ensures.keys i)))) in
+    c.in_ok-columns.ensures ∙ (λ i. columns_of (group_picks (length output - length (c.as_slice-2.ensures.value i)) seen (c.as_slice-2.ensures.value i) (kinds_of output) (length output)) (numbers (length seen))) in
     ap (λ (g : Gathered). grouped g.fields names outputs rows) (sym c.self.view_is)
     ∙ taken-fits _ names outputs rows own none
     ∙ ap Ok (sym (ap (λ (f : Frame). f.rows) c.new.ensures

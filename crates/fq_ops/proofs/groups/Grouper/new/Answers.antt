@@ -10,6 +10,7 @@ use Rattle.fq_ops.specs.Group.{group_schema, grouped_fields}
 use Rattle.fq_ops.specs.AggregateData.{outputs_of}
 use Rattle.fq_ops.proofs.AcceptedLemmas.{aggregate-kinds, group-known, group-output, group-some, length-grouped, some-column}
 use Rattle.fq_ops.proofs.GatherLemmas.{all-fresh, fresh-empty}
+use Rattle.fq_ops.proofs.KeySetLemmas.{whole-places}
 use Rattle.fq_ops.proofs.PlaceLemmas.{length-places}
 use Rattle.fq_ops.proofs.groups.Grouper.new.Goals as goal
 
@@ -37,9 +38,10 @@ invariant_of-result c =
     record {
       some = omega (arith, places, group-some fields keys outputs c.requires);
       places = c.in_ok-places.ensures.within;
+      whole = λ e. whole-places fields keys c.in_ok-places.places.items c.in_ok-places.ensures.at (c.is_whole_key-is_whole.ensures (sym c.new.ensures.whole ∙ e));
       few = omega arith;
       width = ap length out ∙ length-grouped fields keys outputs ∙ omega (arith, places, count);
-      accumulators = λ _. subst (λ n. All (IsAccumulator (length fields) n 0) c.in_ok-accumulators.accumulators.items) (sym (ap length c.new.ensures.empty))
+      accumulators = λ _. subst (λ n. All (IsAccumulator (length fields) n 0) c.in_ok-accumulators.accumulators.items) (sym (ap length c.new.ensures.keys))
           (all-fresh (length fields) c.in_ok-accumulators.accumulators.items c.in_ok-accumulators.ensures.columns
           (subst (All (λ (a : Accumulated). a.states ≡ [])) (sym c.in_ok-accumulators.ensures.made) (fresh-empty fields outputs)));
     }
@@ -60,6 +62,6 @@ returns-clause-taken c =
       taken = refl;
       fit = λ k d low. absurd (omega (arith, low));
       places = c.in_ok-places.ensures.at;
-      seen = c.new.ensures.empty;
+      seen = c.new.ensures.keys;
       accumulators = c.in_ok-accumulators.ensures.made;
     }

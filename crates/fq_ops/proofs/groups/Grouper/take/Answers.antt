@@ -19,6 +19,7 @@ invariant_of-self-in_err-accumulate c =
     record {
       some = ready.some;
       places = ready.places;
+      whole = λ e. ready.whole (sym c.number_rows.ensures.whole ∙ e);
       few = ready.few;
       width = omega (arith, ready.width, c.in_err-accumulate.ensures.size);
       accumulators = λ e. absurd (true≢false e);
@@ -34,10 +35,11 @@ invariant_of-self-2 c =
     record {
       some = ready.some;
       places = ready.places;
+      whole = λ e. ready.whole (sym c.number_rows.ensures.whole ∙ e);
       few = omega (arith, c.requires.room, ap (λ (g : Gathered). g.taken) c.self.view_is, c.len.ensures, c.in_ok-numbers.ensures.beside);
       width = omega (arith, ready.width, c.in_ok-accumulate.ensures.size);
       accumulators = λ e. subst (λ n. All (IsAccumulator (length c.self.inside.schema) (length c.number_rows.new.seen.keys) n) c.accumulate.new.accumulators.items) count
-          (subst (λ n. All (IsAccumulator (length c.self.inside.schema) n (taken + length c.as_slice-2.result.now)) c.accumulate.new.accumulators.items) c.len-groups.ensures.len
+          (subst (λ n. All (IsAccumulator (length c.self.inside.schema) n (taken + length c.as_slice-2.result.now)) c.accumulate.new.accumulators.items) c.len-groups.ensures
           (subst (λ (fs : Fields). All (IsAccumulator (length fs) c.len-groups.result (taken + length c.as_slice-2.result.now)) c.accumulate.new.accumulators.items) fields all));
     }
 
@@ -54,7 +56,7 @@ returns-clause-taken c = λ names outputs rows h.
     c.in_ok-numbers.ensures.seen ∙ (λ i. insert_all same_key (old.seen i) (map (named i) more)) ∙ keys-more_rows fields names rows more in
     let numbers : c.as_slice-2.result.now ≡ numbers_along before (map key more) =
     c.as_slice-2.ensures.value ∙ c.in_ok-numbers.ensures.numbers ∙ (λ i. numbers_along (old.seen i) (map (named i) more)) in
-    let groups : c.len-groups.result ≡ length (keys_of_rows fields names (rows ++ more)) = c.len-groups.ensures.len ∙ ap length seen in
+    let groups : c.len-groups.result ≡ length (keys_of_rows fields names (rows ++ more)) = c.len-groups.ensures ∙ ap length seen in
     record {
       accepted = old.accepted;
       output = old.output;

@@ -12,8 +12,10 @@ use Rattle.fq_ops.specs.Fields.{AreAt}
 use Rattle.fq_ops.specs.Join.{join_schema, joined_fields, join_rows}
 use Rattle.fq_ops.specs.Pairs.{Pair, matches_of, named_key, pairs_of, pairs_within, pair_row, join_pairs, join_picks}
 use Rattle.fq_ops.specs.Picks.{columns_of, row_of}
+use Rattle.fq_ops.specs.KeySets.{IsWholeAt}
 use Rattle.fq_ops.specs.Table.{Table}
 use Rattle.fq_ops.proofs.JoinLemmas.{join-by_place}
+use Rattle.fq_ops.proofs.KeySetLemmas.{whole-left, whole-places}
 use Rattle.fq_ops.proofs.PickLemmas.{OneLength, frame-picked, kinds-of-picks, lengths-picked}
 use Rattle.fq_ops.proofs.PlaceLemmas.{keys-named}
 use Rattle.fq_ops.proofs.ProbeLemmas.{AllIn, map-in, ArePlaces, pairs-inside, join-kinds, pair-row, picks-some}
@@ -36,6 +38,17 @@ positions-requires c =
     let ok = subst (λ (t : Table). IsOk (join_schema c.args.how left.fields t.fields t.on)) (sym c.self.view_is) c.requires in
     subst (λ fields. AllPass (has_name (names_of fields)) (map string_bytes c.as_slice-on.result.now)) (sym c.schema-3.ensures)
     (subst (λ names. AllPass (has_name (names_of left.fields)) (map string_bytes names)) (sym c.as_slice-on.ensures.value) (join-known c.args.how left.fields right.fields on ok))
+
+pub pair_rows-requires-clause-whole : goal.pair_rows-requires-clause-whole
+pair_rows-requires-clause-whole c e =
+    let left = c.args.left in
+    let right = c.self.inside.right in
+    let on = map string_bytes c.self.inside.on.items in
+    let ok = subst (λ (t : Table). IsOk (join_schema c.args.how left.fields t.fields t.on)) (sym c.self.view_is) c.requires in
+    let names : map string_bytes c.as_slice-on.result.now ≡ on = ap (map string_bytes) c.as_slice-on.ensures.value in
+    let places = c.in_ok-places.places.items in
+    let at : AreAt places on left.fields = subst (λ fs. AreAt places on fs) c.schema-3.ensures (subst (λ ns. AreAt places ns c.schema-3.result.now) names c.in_ok-places.ensures.at) in
+    subst (IsWholeAt left.fields) (sym c.as_slice-places.ensures.value) (whole-places left.fields on places at (whole-left c.args.how left.fields right.fields on ok (c.self.invariant.whole e)))
 
 pub new-requires-clause-kinds : goal.new-requires-clause-kinds
 new-requires-clause-kinds c =

@@ -3,8 +3,8 @@ use Rattle.std.proofs.lemmas.List.{get_or_default}
 use Rattle.std.proofs.lemmas.Option.{unwrap_or-slice_get}
 use Rattle.fq_column.specs.declared.cells.Cell.TheVariants.{Null}
 use Rattle.fq_ops.proofs.FinishLemmas.{key-more}
-use Rattle.fq_ops.proofs.groups.key_column.Goals as goal
-use Rattle.fq_ops.proofs.groups.key_column.Goals.{in-Some+in_ok-push_cell-in-Some, in-None+in_ok-push_null-in-None}
+use Rattle.fq_ops.proofs.key_sets.key_column.Goals as goal
+use Rattle.fq_ops.proofs.key_sets.key_column.Goals.{in-Some+in_ok-push_cell-in-Some, in-None+in_ok-push_null-in-None}
 
 pub loop-i-preserved : goal.loop-i-preserved
 loop-i-preserved c =
