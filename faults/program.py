@@ -64,7 +64,7 @@ ROWS = [
         ["i,v\n1,1\n2,\n", "i,v\n3,4\n4,\n5,\n6,7\n"], frame("i,v,r\n1,1,\n2,,\n3,4,5\n4,,\n5,,\n6,7,\n"), ("--batch", "1")),
     Row("a bad cell", plan([source(1, "x int")], ""), ["x\n9223372036854775808\n"],
         fault(4, "file 0, row 1, column 0: bad cell")),
-    Row("printed in parts", plan([source(1, "v int")], ""), ["v\n" + "12345\n" * 20000], frame("v\n" + "12345\n" * 20000), ("--batch", "8192")),
+    Row("printed in parts", plan([source(1, "v int")], ""), ["v\n" + "12345\n" * 5000], frame("v\n" + "12345\n" * 5000), ("--batch", "2048")),
     Row("no such column", plan([source(1, "id int")], OVER_TEN), ["id\n1\n"], fault(3, "plan: step 0: no such column")),
     Row("standard input", plan([source(1, "id int", "v int")], OVER_TEN), ["id,v\n1,5\n2,\n3,20\n"], frame("id,v\n3,20\n"), None),
     Row("a bad cell on standard input", plan([source(1, "x int")], ""), ["x\n9223372036854775808\n"],
@@ -333,7 +333,7 @@ def try_settings(count, program, library, room):
             return program.run([], stdin=input, **how)
 
     try_setting(count, "standard input", run_alone, library, "thread", 3, 3)
-    # a thread prints each whole 8,192 rows, unless there is one worker
+    # a thread prints each whole 2,048 rows, unless there is one worker
     in_parts = lambda workers: lambda **how: program.run([*program.arguments["printed in parts"], "--workers", workers], **how)
     for workers, threads in (("1", 2), ("2", 5), ("16", 19)):
         try_setting(count, f"printed in parts, {workers} workers", in_parts(workers), library, "thread", threads, threads)

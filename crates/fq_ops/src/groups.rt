@@ -17,7 +17,7 @@ ghost use Rattle.fq_ops.specs.Running.{IsBoundedBy};
 use crate::accumulators::Accumulator;
 use crate::aggregates::{Agg, Function, What};
 use crate::field_lists::{place_of, positions};
-use crate::key_sets::{KeySet, RowKey, is_whole_key};
+use crate::key_sets::{KeySet, Mostly, RowKey, is_whole_key};
 use crate::output_schemas::group_schema;
 use crate::running::push_cell;
 use fq_column::{Batch, Column, Kind, Memory, Schema};
@@ -101,12 +101,13 @@ impl Grouper {
         };
         let places = positions(alloc, &schema, keys)?;
         let is_whole = is_whole_key(&schema, keys);
+        let seen = KeySet::with_capacity(alloc, is_whole, 0)?;
         let accumulators = accumulators_of(alloc, &schema, aggs)?;
         Ok(Grouper {
             schema,
             output,
             places,
-            seen: KeySet::new(alloc, is_whole),
+            seen,
             accumulators,
             rows_taken: 0,
             failed: false,
@@ -241,7 +242,7 @@ fn number_rows(
     let mut numbers = Vec::with_capacity(alloc, batch.rows())?;
     for row in 0..batch.rows() {
         key.read(alloc, batch, places, row)?;
-        numbers.push(seen.number_of(alloc, &key)?)?;
+        numbers.push(seen.number_of(alloc, &key, Mostly::Known)?)?;
     }
     Ok(numbers)
 }

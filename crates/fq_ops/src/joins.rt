@@ -15,7 +15,7 @@ ghost use Rattle.fq_ops.specs.Picks.{Pick, columns_of, picks_from};
 ghost use Rattle.fq_ops.specs.Pairs.{IsIndex, Pair, can_match, join_picks, left_value, matches_of, pairs_of, pairs_within, right_value};
 
 use crate::field_lists::positions;
-use crate::key_sets::{KeySet, RowKey, is_whole_key};
+use crate::key_sets::{KeySet, Mostly, RowKey, is_whole_key};
 use crate::output_schemas::{contains, join_schema};
 use crate::pairs::Pairs;
 use fq_column::{Batch, Column, Memory, Piece, copy_strings};
@@ -315,7 +315,7 @@ fn add_place(
         groups.new.items ≡ replaced i (get_or groups.old.items i [] ++ row ∷ []) groups.old.items) }
     ensures beside { OnOk result (length groups.new.items ≡ length seen.new.keys) }
 {
-    let i = seen.insert(alloc, key)?;
+    let i = seen.number_of(alloc, key, Mostly::New)?;
     if i == groups.len() && groups.push(Places::new(alloc)).is_err() {
         return Err(Memory);
     }

@@ -1,22 +1,20 @@
 //! Sets of keys, numbered in the order of first appearance.
-ghost use Rattle.std.specs.Prelude.{◌≡◌, ◌<◌, ◌≤◌, ◌∷◌, ◌++◌, Bool, true, List, [], All, is_some, length, map, position, slice_index_or, string_bytes, Option as Optional, ℤ, IfOk, OnOk};
+ghost use Rattle.std.specs.Prelude.{◌≡◌, ◌<◌, ◌≤◌, ◌∷◌, ◌++◌, ◌↔◌, Bool, IsTrue, true, List, [], All, is_some, length, map, position, replicate, slice_index_or, string_bytes, Option as Optional, ℤ, IfOk, OnOk};
 ghost use Rattle.std.specs.List.{list_any, position_or_len};
 ghost use Rattle.indexmap.specs.IndexSet.{insert_key};
 ghost use Rattle.fq_column.specs.Cell.{is_null};
 ghost use Rattle.fq_column.specs.Column.{nullable};
 ghost use Rattle.fq_column.specs.declared.cells.Cell.{Cell as Value};
-ghost use Rattle.fq_column.specs.Frame.{value_at};
 ghost use Rattle.fq_column.specs.Lists.{numbers};
 ghost use Rattle.fq_ops.specs.Accumulated.{key_pick};
 ghost use Rattle.fq_ops.specs.Group.{same_key};
 ghost use Rattle.fq_ops.specs.Grouping.{key_at};
 ghost use Rattle.fq_ops.specs.KeySets.{IsWholeAt, IsWholeNamed, whole_key};
 ghost use Rattle.fq_ops.specs.Picks.{column_of};
-ghost use Rattle.fq_ops.specs.Running.{of_kind};
 
 use crate::keys::{Key, key_law};
 use crate::running::push_cell;
-use fq_column::{Batch, Column, Kind, Memory, Schema, Values};
+use fq_column::{Batch, Cell, Column, Kind, Memory, Schema, Values};
 use indexmap::IndexSet;
 use std::alloc::Global;
 use std::marker::Model;
@@ -48,7 +46,7 @@ impl RowKey {
         requires some { 1 ≤ count }
         requires whole { is_whole ≡ true → count ≡ 1 }
         ensures whole { IfOk result (λ key. key.is_whole ≡ is_whole) }
-        ensures size { IfOk result (λ key. length key.cells ≡ count) }
+        ensures cells { IfOk result (λ key. key.cells ≡ replicate count Value.Null) }
     {
         let form = if is_whole {
             Form::Whole(None)
@@ -110,7 +108,7 @@ fn read_whole(batch: &Batch, places: &[usize], row: usize) -> Option<i64>
 
 /// Whether the key of these columns is one whole number or null.
 pub fn is_whole_key(schema: &Schema, names: &[String]) -> bool
-    ensures { result ≡ true → IsWholeNamed schema.now (map string_bytes names.now) }
+    ensures { IsTrue result ↔ IsWholeNamed schema.now (map string_bytes names.now) }
 {
     names.len() == 1 && matches!(schema.kind_of(names[0].as_str()), Ok(Kind::Whole))
 }
@@ -120,7 +118,16 @@ pub fn whole_law()
     ensures { (a b : Optional ℤ) → ⟦<Option<i64> as PartialEq>⟧.eq a b ≡ same_key (whole_key a) (whole_key b) }
 {}
 
-/// Distinct keys, numbered in the order of first appearance. One whole number is kept as it is, in a third of the memory.
+/// What the keys that come are expected to be, which decides what costs less.
+#[derive(Clone, Copy)]
+pub enum Mostly {
+    /// In the set: a key is looked up first, and copied if it is new.
+    Known,
+    /// New: a key is copied at once, for one lookup.
+    New,
+}
+
+/// Distinct keys, numbered in the order of first appearance. One whole number is kept as it is.
 #[derive(Drop)]
 pub struct KeySet {
     form: Form<IndexSet<Option<i64>>, IndexSet<Key>>,
@@ -135,19 +142,6 @@ impl Model for KeySet {
 }
 
 impl KeySet {
-    /// No key.
-    pub fn new(alloc: Global, is_whole: bool) -> KeySet
-        ensures keys { result.keys ≡ [] }
-        ensures whole { result.is_whole ≡ is_whole }
-    {
-        let form = if is_whole {
-            Form::Whole(IndexSet::new(alloc))
-        } else {
-            Form::Any(IndexSet::new(alloc))
-        };
-        KeySet { form }
-    }
-
     /// No key, with room for this many.
     pub fn with_capacity(alloc: Global, is_whole: bool, capacity: usize) -> Result<KeySet, Memory>
         ensures keys { IfOk result (λ set. set.keys ≡ []) }
@@ -178,9 +172,13 @@ impl KeySet {
         matches!(&self.form, Form::Whole(_))
     }
 
-    /// The number of a key, which is inserted if it is new, and then copied. Where keys are mostly new, [`KeySet::insert`] looks up
-    /// less.
-    pub fn number_of(&mut self, alloc: Global, key: &RowKey) -> Result<usize, Memory>
+    /// The number of a key, which is inserted if it is new, as a copy.
+    pub fn number_of(
+        &mut self,
+        alloc: Global,
+        key: &RowKey,
+        mostly: Mostly,
+    ) -> Result<usize, Memory>
         requires whole { key.now.is_whole ≡ self.old.is_whole }
         ensures keys { OnOk result (self.new.keys ≡ insert_key same_key self.old.keys key.now.cells) }
         ensures index { IfOk result (λ i. i ≡ position_or_len (same_key key.now.cells) self.old.keys) }
@@ -189,22 +187,10 @@ impl KeySet {
     {
         match (&mut self.form, &key.form) {
             (Form::Whole(seen), Form::Whole(value)) => insert_whole(seen, *value),
-            (Form::Any(seen), Form::Any(key)) => number_of(alloc, seen, key),
-            _ => unreachable!(),
-        }
-    }
-
-    /// The number of a key, which is copied at once and inserted if it is new.
-    pub fn insert(&mut self, alloc: Global, key: &RowKey) -> Result<usize, Memory>
-        requires whole { key.now.is_whole ≡ self.old.is_whole }
-        ensures keys { OnOk result (self.new.keys ≡ insert_key same_key self.old.keys key.now.cells) }
-        ensures index { IfOk result (λ i. i ≡ position_or_len (same_key key.now.cells) self.old.keys) }
-        ensures within { IfOk result (λ i. i < length self.new.keys) }
-        ensures whole { self.new.is_whole ≡ self.old.is_whole }
-    {
-        match (&mut self.form, &key.form) {
-            (Form::Whole(seen), Form::Whole(value)) => insert_whole(seen, *value),
-            (Form::Any(seen), Form::Any(key)) => insert_copy(alloc, seen, key),
+            (Form::Any(seen), Form::Any(key)) => match mostly {
+                Mostly::Known => number_of(alloc, seen, key),
+                Mostly::New => insert_copy(alloc, seen, key),
+            },
             _ => unreachable!(),
         }
     }
@@ -299,18 +285,19 @@ fn whole_column(
     let mut column = Column::with_capacity(alloc, kind, values.len())?;
     for i in 0..values.len() {
         let value = if place == 0 { values[i] } else { None };
-        push_value(&mut column, value)?;
+        let cell = whole_cell(value);
+        push_cell(&mut column, &cell)?;
     }
     Ok(column)
 }
 
-// Appends a whole number to a column, or null if there is none or the column is of another kind.
-fn push_value(column: &mut Column, value: Option<i64>) -> Result<(), Memory>
-    ensures { OnOk result (column.new ≡ record column.old { cells = column.old.cells ++ of_kind column.old.kind (nullable Value.Whole value) ∷ [] }) }
+// The cell of a whole number, or null.
+fn whole_cell(value: Option<i64>) -> Cell
+    ensures { result ≡ nullable Value.Whole value }
 {
     match value {
-        Some(number) if column.kind() == Kind::Whole => column.push_whole(number),
-        _ => column.push_null(),
+        Some(number) => Cell::Whole(number),
+        None => Cell::Null,
     }
 }
 

@@ -12,9 +12,9 @@ use std::snapshot::Snapshot;
 use std::thread::{Promise, PromisedHandle, Threads};
 use std::{mem, thread};
 
-/// How many rows are gathered before a thread is started that prints them. It prints them in a few milliseconds, some
-/// hundred times as long as its start takes.
-pub(crate) const ROWS_AT_ONCE: usize = 8_192;
+/// How many rows are gathered before a thread is started that prints them: by half as many the starts cost more than is gained, and by
+/// more of them the rows have left the caches, and the run waits longer for the last of them.
+pub(crate) const ROWS_AT_ONCE: usize = 2_048;
 
 /// What a thread promises that prints batches.
 #[derive(Drop)]

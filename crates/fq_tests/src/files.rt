@@ -1,5 +1,6 @@
 //! How files are read and rows are printed.
 use crate::cases::{fails, gives};
+use std::alloc::Global;
 use std::test::Fail;
 
 #[test]
@@ -62,6 +63,27 @@ fn sixteen_files(rt: HostRuntime) -> Result<(), Fail> {
             "v\n3\n4\n",
         ],
         "v\n3\n4\n3\n4\n3\n4\n3\n4\n3\n4\n3\n4\n3\n4\n3\n4\n3\n4\n3\n4\n3\n4\n3\n4\n3\n4\n3\n4\n3\n4\n3\n4\n",
+    )
+}
+
+// A file of one column, which holds the numbers below a count.
+fn counted(alloc: Global, count: usize) -> Result<String, Fail> {
+    let mut text = String::from_str(alloc, "v\n")?;
+    for number in 0..count {
+        text.push_str(format!(in alloc; "{number}\n")?.as_str())?;
+    }
+    Ok(text)
+}
+
+#[test]
+fn a_long_file_is_printed_in_several_parts(rt: HostRuntime) -> Result<(), Fail> {
+    let text = counted(rt.alloc(), 20_000)?;
+    gives(
+        &rt,
+        rt.alloc(),
+        r#"{"version":1,"sources":[{"files":1,"columns":[["v","int"]]}],"steps":[]}"#,
+        &[text.as_str()],
+        text.as_str(),
     )
 }
 

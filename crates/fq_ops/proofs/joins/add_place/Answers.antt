@@ -26,8 +26,8 @@ returns-clause-beside c =
     let gs = c.else-i-len.groups.items in
     let grows = length-insert_key same_key c.args.key.now.cells c.args.seen.now.keys in
     let at = c.in_ok-i.ensures.index in
-    let keys : length c.insert.new.self.keys ≡ length (insert_key same_key c.args.seen.now.keys c.args.key.now.cells) = ap length c.in_ok-i.ensures.keys in
-    let same : length gs ≡ length c.insert.new.self.keys = elim (grown c) [
+    let keys : length c.number_of.new.self.keys ≡ length (insert_key same_key c.args.seen.now.keys c.args.key.now.cells) = ap length c.in_ok-i.ensures.keys in
+    let same : length gs ≡ length c.number_of.new.self.keys = elim (grown c) [
       | inl (e, h) ↦ ap length h ∙ length-append xs ([] ∷ []) ∙ omega (arith, keys, grows.0 (sym at ∙ e ∙ c.requires.beside), c.requires.beside)
       | inr (e, h) ↦ ap length h ∙ omega (arith, keys, grows.1 (omega (arith, at, e, c.requires.beside)), c.requires.beside)
     ] in

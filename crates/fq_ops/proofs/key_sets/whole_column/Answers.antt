@@ -18,4 +18,4 @@ loop-i-preserved c =
       | then-place-eq0 w ↦ whole-at values i c.args.place c.if-place-eq0.value _ low (omega (arith, w.if-place-eq0.true)) w.value-is
       | else-place-eq0 w ↦ ap (nullable Whole) w.value-is ∙ none-at values i c.args.place low (omega (arith, w.if-place-eq0.false))
     ] in
-    key-more c.args.kind keys c.args.place i c.loop-i.column c.push_value.new.column (get_or keys i []) (nullable Whole c.if-place-eq0.value) c.loop-i.invariant refl value c.in_ok-push_value.ensures
+    key-more c.args.kind keys c.args.place i c.loop-i.column c.push_cell.new.column (get_or keys i []) c.whole_cell-cell.result c.loop-i.invariant refl (c.whole_cell-cell.ensures ∙ value) c.in_ok-push_cell.ensures

@@ -38,10 +38,10 @@ invariant_of-result c =
     record {
       some = omega (arith, places, group-some fields keys outputs c.requires);
       places = c.in_ok-places.ensures.within;
-      whole = λ e. whole-places fields keys c.in_ok-places.places.items c.in_ok-places.ensures.at (c.is_whole_key-is_whole.ensures (sym c.new.ensures.whole ∙ e));
+      whole = λ e. whole-places fields keys c.in_ok-places.places.items c.in_ok-places.ensures.at (c.is_whole_key-is_whole.ensures.0 (sym c.in_ok-seen.ensures.whole ∙ e));
       few = omega arith;
       width = ap length out ∙ length-grouped fields keys outputs ∙ omega (arith, places, count);
-      accumulators = λ _. subst (λ n. All (IsAccumulator (length fields) n 0) c.in_ok-accumulators.accumulators.items) (sym (ap length c.new.ensures.keys))
+      accumulators = λ _. subst (λ n. All (IsAccumulator (length fields) n 0) c.in_ok-accumulators.accumulators.items) (sym (ap length c.in_ok-seen.ensures.keys))
           (all-fresh (length fields) c.in_ok-accumulators.accumulators.items c.in_ok-accumulators.ensures.columns
           (subst (All (λ (a : Accumulated). a.states ≡ [])) (sym c.in_ok-accumulators.ensures.made) (fresh-empty fields outputs)));
     }
@@ -62,6 +62,6 @@ returns-clause-taken c =
       taken = refl;
       fit = λ k d low. absurd (omega (arith, low));
       places = c.in_ok-places.ensures.at;
-      seen = c.new.ensures.keys;
+      seen = c.in_ok-seen.ensures.keys;
       accumulators = c.in_ok-accumulators.ensures.made;
     }

@@ -18,7 +18,7 @@ placed c =
 formed : (c : After-as_slice) → c.in_ok-seen.seen.is_whole ≡ true → IsWholeNamed c.args.right.fields (map string_bytes c.args.on.items)
 formed c e =
     subst (λ fs. IsWholeNamed fs (map string_bytes c.args.on.items)) c.schema-schema.ensures
-    (subst (λ xs. IsWholeNamed c.schema-schema.result.now (map string_bytes xs)) c.as_slice-names.ensures.value (c.is_whole_key-is_whole.ensures (sym c.in_ok-seen.ensures.whole ∙ e)))
+    (subst (λ xs. IsWholeNamed c.schema-schema.result.now (map string_bytes xs)) c.as_slice-names.ensures.value (c.is_whole_key-is_whole.ensures.0 (sym c.in_ok-seen.ensures.whole ∙ e)))
 
 pub index_rows-requires-clause-whole : goal.index_rows-requires-clause-whole
 index_rows-requires-clause-whole c e =
