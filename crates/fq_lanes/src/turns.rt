@@ -129,25 +129,29 @@ where
     Ok(found)
 }
 
-/// Polls each worker once. Answers whether there was an answer.
-fn poll_workers<X, S: Tail>(
+/// A turn: polls each worker once, and each feed before that, so that a worker has its next job while the tail works. Answers
+/// whether there was something.
+fn take_turn<R: Wait, X: Drop, S: Tail>(
+    rt: &R,
+    lanes: &mut Vec<FeedLane<'_, X>>,
     workers: &mut Vec<WorkerLanes<'_, X, S::Out>>,
     hub: &mut Hub<S, S::Out>,
 ) -> Result<bool, RunFault>
 where
     S::Out: Drop,
-    requires turn { (first : S) × (vs : List (FeedView X)) × (events : List (Event S.Out)) × InTurn S.takes first vs (worker_views workers.old.items) hub.old events }
-    ensures size { length workers.new.items ≡ length workers.old.items }
+    requires few { length lanes.old.items ≤ MAX_FEEDS }
+    requires turn { (first : S) × (events : List (Event S.Out)) × InTurn S.takes first (feed_views lanes.old.items) (worker_views workers.old.items) hub.old events }
+    ensures sizes { (length lanes.new.items ≡ length lanes.old.items) × (length workers.new.items ≡ length workers.old.items) }
+    ensures lanes { feed_names lanes.new.items ≡ feed_names lanes.old.items }
     ensures workers { worker_names workers.new.items ≡ worker_names workers.old.items }
-    ensures turn { (first : S) (vs : List (FeedView X)) (events : List (Event S.Out)) → InTurn S.takes first vs (worker_views workers.old.items) hub.old events →
-        Turns S.takes S.refuses first vs (worker_views workers.new.items) hub.new result }
+    ensures turn { (first : S) (events : List (Event S.Out)) → InTurn S.takes first (feed_views lanes.old.items) (worker_views workers.old.items) hub.old events →
+        Turns S.takes S.refuses first (feed_views lanes.new.items) (worker_views workers.new.items) hub.new result }
 {
     let mut found = false;
     for worker in 0..workers.len() {
-        match poll_worker(workers, hub, worker) {
-            Ok(one) => found = found || one,
-            Err(fault) => return Err(fault),
-        }
+        let of_feeds = poll_feeds(rt, lanes, workers, hub)?;
+        let of_worker = poll_worker(workers, hub, worker)?;
+        found = found || of_feeds || of_worker;
     }
     Ok(found)
 }
@@ -186,12 +190,11 @@ where
         RunDone S.takes S.refuses first (told_in (feed_views lanes.new.items)) (worker_views workers.new.items) hub.new result }
 {
     for _ in rt.forever() {
-        let of_feeds = poll_feeds(rt, lanes, workers, hub)?;
-        let of_workers = poll_workers(workers, hub)?;
+        let found = take_turn(rt, lanes, workers, hub)?;
         if have_ended(lanes) && are_idle(workers) {
             return Ok(());
         }
-        if !of_feeds && !of_workers {
+        if !found {
             sleep(rt, parker);
         }
     }
