@@ -1,7 +1,7 @@
 -- What a reader of records has left.
-use Rattle.std.specs.Prelude.{◌≡◌, ◌+◌, ℕ, List, Option, length, Some}
+use Rattle.std.specs.Prelude.{◌≡◌, ◌+◌, ℕ, true, List, Option, length, Some}
 use Rattle.std.specs.Borrow.{Bor}
-use Rattle.csv.specs.Reading.{Ready, default_config, reader_config, reader_state, reader_trim, records_from, source_of}
+use Rattle.csv.specs.Reading.{Ready, default_config, is_flexible, reader_config, reader_state, reader_trim, records_from, source_of}
 use Rattle.csv.specs.declared.parser.State.{State}
 use Rattle.csv.specs.declared.reader.Trim.TheVariants as trim
 use Rattle.fq_csv.specs.File.{Record}
@@ -12,9 +12,9 @@ use Rattle.fq_csv.specs.declared.retrying.Retrying.{Retrying}
 abbrev pub records_left : State → List ℕ → List Record
 records_left s bytes = records_from default_config (length bytes + 1) s bytes
 
--- a reader with the crate's defaults whose next read is of one record
+-- a reader with the crate's defaults, but for records of different widths, whose next read is of one record
 abbrev pub IsPlain : {R : Type 0} → RecordReader R → Type 0
-IsPlain r = (reader_trim r.reader ≡ trim.None) × Ready r.reader × (reader_config r.reader ≡ default_config)
+IsPlain r = (reader_trim r.reader ≡ trim.None) × Ready r.reader × (reader_config r.reader ≡ default_config) × (is_flexible r.reader ≡ true)
 
 -- by what a source has left
 module _ {R : Type 0} (remaining : R → Option (List ℕ)) where

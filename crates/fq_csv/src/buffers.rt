@@ -1,6 +1,6 @@
 //! The bytes of a file, from which runs of records are taken.
 //!
-//! Bytes that were not taken move to the front only before the next read, so each is copied once, into the text of its run. A record
+//! Bytes that were not taken move to the front only before the next read; all others are copied once, into the text of their run. A record
 //! that is not whole is passed over again once twice as many bytes of it are there, so a long one is passed over twice in all.
 ghost use Rattle.std.specs.Prelude.{◌≡◌, ◌≤◌, ◌<◌, ◌∷◌, take, false, true, length, IfOk, IfErr, OnErr, OnOk};
 ghost use Rattle.std.specs.Io.KnownBytes.{Keeps};
@@ -70,7 +70,9 @@ impl<R: Read> Buffer<R> {
         ensures text { self.new.text.items ≡ rest_of self.old }
     {
         if self.at > 0 {
-            self.text.drain(..self.at);
+            let left = self.text.len() - self.at;
+            self.text.copy_within(self.at.., 0);
+            self.text.truncate(left);
             self.at = 0;
         }
     }

@@ -1,6 +1,6 @@
 //! The records of a file, one after another.
-ghost use Rattle.std.specs.Prelude.{◌≡◌, IfOk, List, MatchBool, OnOk, Some, [], ◌∷◌, ℕ};
-ghost use Rattle.csv.specs.Reading.{default_config, records, strip_bom};
+ghost use Rattle.std.specs.Prelude.{◌≡◌, IfErr, IfOk, true, List, MatchBool, OnOk, Some, [], ◌∷◌, ℕ};
+ghost use Rattle.csv.specs.Reading.{default_config, error_kind, records, stops_reader, strip_bom};
 ghost use Rattle.csv.specs.Records.{fields_of};
 ghost use Rattle.fq_csv.specs.File.{Record};
 ghost use Rattle.fq_csv.specs.Readers.{HasLeft, IsPlain, TextHasLeft};
@@ -11,8 +11,7 @@ use fq_column::Memory;
 use std::alloc::Global;
 use std::io::Read;
 
-/// A reader of the records of a file, each with as many fields as it has. The header is the first of them. A read that a signal interrupts is
-/// tried again.
+/// A reader of the records of a file, of any width. The header is the first of them. A read that a signal interrupts is tried again.
 #[derive(Drop)]
 pub struct RecordReader<R> {
     reader: Reader<Retrying<R>>,
@@ -39,6 +38,7 @@ impl<R: Read> RecordReader<R> {
     pub fn read(&mut self, row: &mut ByteRecord) -> Result<bool, Error>
         requires { IsPlain self.old }
         ensures plain { OnOk result (IsPlain self.new) }
+        ensures stops { IfErr result (λ e. stops_reader (error_kind e) ≡ true) }
         ensures reads { IfOk result (λ found. (rs : List Record) → HasLeft R.remaining self.old rs →
             MatchBool found ((rest : List Record) × (rs ≡ fields_of row.new ∷ rest) × HasLeft R.remaining self.new rest) (rs ≡ [])) }
     {

@@ -17,7 +17,9 @@ ghost use Rattle.fq_expr.specs.Value.{value_of};
 use crate::expressions::Expr;
 use crate::operands::{AnyOperand, Operand};
 use crate::steps::{RowStep, select_schema};
-use fq_column::{Batch, Column, Kind, MAX_COLUMNS, Memory, Piece, Schema, cut_columns, put_column};
+use fq_column::{
+    Batch, Column, Kind, MAX_COLUMNS, Memory, Piece, Schema, StepFault, cut_columns, put_column,
+};
 use std::alloc::Global;
 use std::vec::IntoIter;
 
@@ -142,8 +144,10 @@ fn project(alloc: Global, items: &[(String, Expr)], batch: Batch) -> Result<Piec
         IfOk result (λ p. p.fault ≡ u.fault) }
 {
     let outputs = evaluate_items(alloc, items, &batch)?;
-    let Ok(schema) = select_schema(alloc, items, batch.schema()) else {
-        return Err(Memory);
+    let schema = match select_schema(alloc, items, batch.schema()) {
+        Ok(schema) => schema,
+        Err(StepFault::Memory) => return Err(Memory),
+        Err(_) => unreachable!(),
     };
     let Outputs { columns, item, .. } = outputs;
     Ok(Piece {

@@ -8,7 +8,7 @@ returns-clause-plain g c =
     let fr = c.from_reader-reader.ensures in
     let e = c.has_headers.ensures in
     let f = c.flexible.ensures in
-    (rw (f, e) at fr.trim ∙ c.new.ensures.trim, inr (inr (rw (f, e) at fr.has_headers, fr.headers)), rw (f, e) at fr.config ∙ c.new.ensures.config)
+    (rw (f, e) at fr.trim ∙ c.new.ensures.trim, inr (inr (rw (f, e) at fr.has_headers, fr.headers)), rw (f, e) at fr.config ∙ c.new.ensures.config, rw f at fr.flexible)
 
 pub returns-clause-left : goal.returns-clause-left
 returns-clause-left g c all known =
