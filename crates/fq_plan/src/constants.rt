@@ -1,9 +1,11 @@
 //! Comparisons of constants, which are allowed and seldom meant.
 use crate::plans::{Plan, Step};
 use crate::words::binary_word;
+use fq_column::Memory;
 use fq_csv::kind_word;
 use fq_expr::{Binary, Expr, RowStep};
 use fq_places::Quoted;
+use std::alloc::Global;
 use std::fmt;
 use std::fmt::{Display, Formatter, Write};
 
@@ -18,21 +20,24 @@ pub struct ConstantComparison<'a> {
 }
 
 impl Plan {
-    /// The first comparison of two constants in a step of this number or a later one; and the number of the step after it.
-    pub fn constant_comparison(&self, from: usize) -> Option<(ConstantComparison<'_>, usize)> {
-        for (step, it) in self.steps.iter().enumerate().skip(from) {
-            let found = match it {
-                Step::Rows(RowStep::Filter(condition)) => comparison_in(step, condition),
-                Step::Rows(RowStep::WithColumns(outputs) | RowStep::Select(outputs)) => outputs
-                    .iter()
-                    .find_map(|output| comparison_in(step, &output.1)),
-                _ => None,
-            };
-            if let Some(found) = found {
-                return Some((found, step.saturating_add(1)));
+    /// The comparisons of two constants in the steps, in order. `Memory` if an allocation fails.
+    pub fn constant_comparisons(
+        &self,
+        alloc: Global,
+    ) -> Result<Vec<ConstantComparison<'_>>, Memory> {
+        let mut found = Vec::new(alloc);
+        for (step, it) in self.steps.iter().enumerate() {
+            match it {
+                Step::Rows(RowStep::Filter(condition)) => find_in(step, condition, &mut found)?,
+                Step::Rows(RowStep::WithColumns(outputs) | RowStep::Select(outputs)) => {
+                    for (_, expression) in outputs.iter() {
+                        find_in(step, expression, &mut found)?;
+                    }
+                }
+                Step::Join { .. } | Step::GroupBy { .. } | Step::RollingSum { .. } => {}
             }
         }
-        None
+        Ok(found)
     }
 }
 
@@ -65,23 +70,29 @@ fn write_constant<W: Write>(f: &mut Formatter<W>, constant: &Expr) -> fmt::Resul
     }
 }
 
-// The first comparison of two constants in an expression of a step.
-fn comparison_in(step: usize, expression: &Expr) -> Option<ConstantComparison<'_>> {
+// Finds the comparisons of two constants in an expression of a step.
+fn find_in<'a>(
+    step: usize,
+    expression: &'a Expr,
+    found: &mut Vec<ConstantComparison<'a>>,
+) -> Result<(), Memory> {
     match expression {
         Expr::Two(op, left, right) if compares(*op) && is_constant(left) && is_constant(right) => {
-            Some(ConstantComparison {
+            let op = *op;
+            found.push(ConstantComparison {
                 step,
-                op: *op,
+                op,
                 left,
                 right,
-            })
+            })?;
+            Ok(())
         }
-        Expr::Two(_, left, right) => match comparison_in(step, left) {
-            None => comparison_in(step, right),
-            found => found,
-        },
-        Expr::One(_, part) => comparison_in(step, part),
-        _ => None,
+        Expr::Two(_, left, right) => {
+            find_in(step, left, found)?;
+            find_in(step, right, found)
+        }
+        Expr::One(_, part) => find_in(step, part, found),
+        _ => Ok(()),
     }
 }
 

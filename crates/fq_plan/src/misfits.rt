@@ -31,7 +31,7 @@ pub struct Misfit {
 
 /// Why a text spells no plan; `None` if it spells one. `Memory` if an allocation fails.
 ///
-/// Parts are judged in the order of the language, each as often as there are parts that it is in.
+/// Parts are judged in the order of the language. A part is read again for each part that encloses it.
 pub fn misfit_of(alloc: Global, text: &[u8]) -> Result<Option<Misfit>, Memory>
     ensures { IfOk result (λ misfit. (misfit ≡ None) ↔ IsOk (read_as_plan text.now)) }
 {

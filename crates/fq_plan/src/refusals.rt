@@ -1,6 +1,6 @@
 //! What a refusal of the check is about, for people.
 use crate::plans::{Plan, Source};
-use crate::reasons::{Fit, Reason, Unfit};
+use crate::reasons::{Fit, Unfit};
 use fq_column::{Memory, Schema};
 use std::alloc::Global;
 use std::fmt;
@@ -14,10 +14,10 @@ mod steps;
 use columns::explain_columns;
 use steps::schema_after;
 
-/// What a refusal of the check is about: the names, the kinds or the numbers that it is over, without its place.
+/// What a refusal of the check is about: the names, the kinds or the numbers that it is over, without its step.
 #[derive(Drop)]
 pub struct Refusal {
-    reason: Reason,
+    text: String,
 }
 
 impl Plan {
@@ -27,7 +27,7 @@ impl Plan {
     pub fn refusal(&self, alloc: Global) -> Result<Option<Refusal>, Memory> {
         match judge(alloc, self) {
             Ok(()) => Ok(None),
-            Err(Unfit::Because(reason)) => Ok(Some(Refusal { reason })),
+            Err(Unfit::Because(reason)) => Ok(Some(Refusal { text: reason.text })),
             Err(Unfit::Memory) => Err(Memory),
         }
     }
@@ -35,7 +35,7 @@ impl Plan {
 
 impl Display for Refusal {
     fn fmt<W: Write>(&self, f: &mut Formatter<W>) -> fmt::Result {
-        f.write_str(self.reason.text.as_str())
+        f.write_str(self.text.as_str())
     }
 }
 

@@ -1,5 +1,5 @@
 -- The program without arguments: a plan's line, then one CSV file.
-use Rattle.std.specs.Prelude.{ℕ, ◌+◌, ◌==◌, not, List, [], ◌∷◌, length, drop, take_while, Result, Ok, Err, if◌then◌else◌}
+use Rattle.std.specs.Prelude.{◌≡◌, ℕ, ◌+◌, ◌==◌, not, None, List, [], ◌∷◌, length, drop, take_while, Result, Ok, Err, if◌then◌else◌}
 use Rattle.std.specs.Result.{result_map_both}
 use Rattle.fq_column.specs.Frame.{Frame}
 use Rattle.fq_plan.specs.Judged.{checked}
@@ -7,6 +7,7 @@ use Rattle.fq_plan.specs.Meaning.{meaning}
 use Rattle.fq_plan.specs.Plan.{Query, files_wanted}
 use Rattle.fq_plan.specs.Plan.{file_streams}
 use Rattle.fq_plan.specs.Spelling.{read_as_plan}
+use Rattle.fq_run.specs.Run.{start_refusal}
 use Rattle.fq_run.specs.declared.faults.Fault.TheVariants.{Inputs}
 use Rattle.fq_program.specs.declared.failures.Failure.{Failure}
 use Rattle.fq_program.specs.declared.failures.Failure.TheVariants.{Plan, Check, Run}
@@ -28,6 +29,10 @@ abbrev pub frame_of : Query → List (List ℕ) → Result Frame Failure
 frame_of plan files =
     if not (length files == files_wanted plan) then Err (Run (Inputs (files_wanted plan) (length files)))
     else result_map_both (λ frame. frame) Run (meaning plan (file_streams plan files))
+
+-- a batch size and a number of workers with which a run starts, even over no file
+abbrev pub AreSettings : ℕ → ℕ → Type 0
+AreSettings batch_size workers = start_refusal 0 0 batch_size workers ≡ None
 
 -- the frame that an input comes to, or why it comes to none
 abbrev pub program : List ℕ → Result Frame Failure

@@ -11,7 +11,7 @@ use crate::files::{OpenFault, Opener};
 use crate::inputs::{open, read_whole};
 use crate::options::Options;
 use crate::outputs::{Noted, Output};
-use crate::program::checked_plan;
+use crate::program::{checked_plan, run_over};
 use crate::reviews::{check_files, draft_plan};
 use crate::status::Status;
 use crate::usage::write_refusal;
@@ -191,8 +191,9 @@ fn run_plan<T: Threads + Wait + Sync, O: Opener, W: Write>(
     let names = options.files();
     count_files(plan, names)?;
     let inputs = open_all(alloc, files, names)?;
+    let (batch_size, workers) = (options.batch_size(), options.workers());
     match options.output() {
-        None => run_to(rt, alloc, plan, options, inputs, out),
+        None => run_over(rt, alloc, plan, inputs, out, batch_size, workers),
         Some(name) => match files.output_of(alloc, name) {
             Ok(output) => run_to_file(rt, alloc, plan, options, inputs, output, learned),
             Err(fault) => Err(learned.failure_of_write(fault)),
@@ -212,28 +213,6 @@ fn count_files(plan: &Checked, names: &[&str]) -> Result<(), Failure>
     Ok(())
 }
 
-// Writes the frame of the plan over inputs.
-fn run_to<T: Threads + Wait + Sync, R: Read + Drop + Send, W: Write>(
-    rt: &T,
-    alloc: Global,
-    plan: &Checked,
-    options: &Options<'_>,
-    inputs: Vec<R>,
-    out: &mut W,
-) -> Result<(), Failure>
-    ensures unwritten { IfErr result (λ f. f ≢ failure.Run fault.Write → Keeps (W.contents out.old) (W.contents out.new)) }
-{
-    plan.run(
-        rt,
-        alloc,
-        inputs,
-        out,
-        options.batch_size(),
-        options.workers(),
-    )?;
-    Ok(())
-}
-
 // Writes the frame of the plan over inputs in the place of a file, which stays as it was if there is no frame.
 fn run_to_file<T: Threads + Wait + Sync, R: Read + Drop + Send, O: Output>(
     rt: &T,
@@ -245,7 +224,8 @@ fn run_to_file<T: Threads + Wait + Sync, R: Read + Drop + Send, O: Output>(
     learned: &mut Learned,
 ) -> Result<(), Failure> {
     let mut output = Noted::new(output);
-    let answer = run_to(rt, alloc, plan, options, inputs, &mut output);
+    let (batch_size, workers) = (options.batch_size(), options.workers());
+    let answer = run_over(rt, alloc, plan, inputs, &mut output, batch_size, workers);
     let Noted { writer, error } = output;
     if answer.is_err() {
         learned.write = error;

@@ -60,6 +60,7 @@ pub fn write_details<O: Opener, E: Write>(
         Failure::Plan(_) => write_misfit(alloc, options.plan().unwrap_or_default(), text, err),
         Failure::Check(_) => write_refusal(alloc, text, err),
         Failure::Run(Fault::Write) => write_write(options, learned.write, err),
+        Failure::Run(Fault::Read { file }) => write_unread(options.files(), file, files, err),
         Failure::Run(fault) => write_run(alloc, fault, options.files(), text, files, err),
     };
 }
@@ -83,6 +84,16 @@ fn write_cause<O: Opener, E: Write>(files: &mut O, name: &str, err: &mut E) -> O
         Some(cause) => writeln!(err, "  {name}: {cause}").ok(),
         None => writeln!(err, "  {name}: it can be read now").ok(),
     }
+}
+
+// Why the file of a number cannot be read.
+fn write_unread<O: Opener, E: Write>(
+    names: &[&str],
+    file: u16,
+    files: &mut O,
+    err: &mut E,
+) -> Option<()> {
+    write_cause(files, names.get(usize::from(file))?, err)
 }
 
 // Why a file cannot be read, if that is so.
@@ -138,7 +149,6 @@ fn write_run<O: Opener, E: Write>(
         Fault::JoinRows { step } | Fault::RollRange { step } => {
             writeln!(err, "  {}", plan.step_text(step, 0)).ok()
         }
-        Fault::Read { file } => write_cause(files, names.get(usize::from(file))?, err),
         Fault::Header { file } => FileDetails::of(&plan, names, file)?.write_header(
             alloc, files, err,
         ),
@@ -149,7 +159,7 @@ fn write_run<O: Opener, E: Write>(
             FileDetails::of(&plan, names, file)?.write_cell(alloc, row, column, files, err)
         }
         Fault::TooLong { file } => FileDetails::of(&plan, names, file)?.write_length(err),
-        Fault::Setting | Fault::Memory | Fault::Write => None,
+        Fault::Setting | Fault::Memory | Fault::Read { .. } | Fault::Write => None,
     }
 }
 

@@ -14,7 +14,7 @@ pub const STANDARD_INPUT: &str = "-";
 pub const STANDARD_OUTPUT: &str = "-";
 
 /// Goes back to the start of a terminal's line and clears it (ECMA-48, EL).
-pub const CLEAR_LINE: &[u8] = b"\r\x1b[K";
+pub const CLEAR_LINE: &str = "\r\x1b[K";
 
 /// Why a file is not opened.
 #[derive(Clone, Copy, Debug)]
@@ -143,7 +143,7 @@ where
 
     fn clear_progress(&mut self) {
         if let Some(log) = &mut self.log {
-            let _ = log.write_all(CLEAR_LINE);
+            let _ = log.write_all(CLEAR_LINE.as_bytes());
         }
     }
 }

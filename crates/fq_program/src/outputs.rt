@@ -1,5 +1,5 @@
 //! The file that takes the frame: it is written whole, or stays as it was.
-ghost use Rattle.std.specs.Prelude.{◌≡◌};
+ghost use Rattle.std.specs.Prelude.{◌≡◌, None, Some, IfErr, OnOk};
 
 use std::alloc::Global;
 use std::fs::{File, Files, OpenFile, Permissions};
@@ -20,7 +20,8 @@ pub struct Noted<W: Write> {
 impl<W: Write> Noted<W> {
     /// This writer, of which no write failed.
     pub fn new(writer: W) -> Noted<W>
-        ensures { result.writer ≡ writer }
+        ensures writer { result.writer ≡ writer }
+        ensures error { result.error ≡ None }
     {
         let error = None;
         Noted { writer, error }
@@ -30,6 +31,8 @@ impl<W: Write> Noted<W> {
     fn note<T>(&mut self, answer: io::Result<T>) -> io::Result<T>
         ensures same { result ≡ answer }
         ensures writer { self.new.writer ≡ self.old.writer }
+        ensures failed { IfErr answer (λ e. self.new.error ≡ Some e) }
+        ensures written { OnOk answer (self.new.error ≡ self.old.error) }
     {
         if let Err(error) = &answer {
             self.error = Some(*error);
@@ -90,7 +93,8 @@ impl<'a, F: Files> SystemOutput<'a, F> {
                     SystemOutput::beside(alloc, files, place, None)
                 }
             }
-            _ => SystemOutput::as_it_is(files, PathBuf::from_str(alloc, name)?),
+            Ok(_) => SystemOutput::as_it_is(files, PathBuf::from_str(alloc, name)?),
+            Err(error) => Err(error),
         }
     }
 

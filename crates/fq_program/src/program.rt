@@ -4,9 +4,11 @@ ghost use Rattle.std.specs.Io.KnownBytes.{Appends, Keeps};
 ghost use Rattle.fq_column.specs.Frame.{Frame};
 ghost use Rattle.fq_csv.specs.Printed.{printed};
 ghost use Rattle.fq_run.specs.declared.faults.Fault.TheVariants as fault;
-ghost use Rattle.fq_program.specs.Ending.{code_of, done, bad_device, no_memory, IsOutside};
-ghost use Rattle.fq_program.specs.Program.{program, checked_plan as checked_plan_of, frame_of};
+ghost use Rattle.fq_run.specs.Run.{Tell};
+ghost use Rattle.fq_program.specs.Ending.{code_of, done, bad_device, no_memory, status_of, IsOutside};
+ghost use Rattle.fq_program.specs.Program.{AreSettings, program, checked_plan as checked_plan_of, frame_of};
 ghost use Rattle.fq_program.specs.declared.failures.Failure.TheVariants as failure;
+ghost use Rattle.fq_program.specs.declared.status.Status.TheVariants.{NoMemory};
 
 use crate::failures::{Failure, report};
 use crate::inputs::{read_whole, split_line};
@@ -90,13 +92,32 @@ fn run_file<T: Threads + Wait + Sync, W: Write>(
     ensures unwritten { IfErr result (λ f. f ≢ failure.Run fault.Write → Keeps (W.contents out.old) (W.contents out.new)) }
 {
     let inputs = vec![in alloc; file]?;
-    plan.run(rt, alloc, inputs, out, BATCH_SIZE, WORKERS)?;
+    run_over(rt, alloc, plan, inputs, out, BATCH_SIZE, WORKERS)
+}
+
+/// Writes the frame of a plan over inputs, by batches of so many rows and so many workers.
+pub fn run_over<T: Threads + Wait + Sync, R: Read + Drop + Send, W: Write>(
+    rt: &T,
+    alloc: Global,
+    plan: &Checked,
+    inputs: Vec<R>,
+    out: &mut W,
+    batch_size: u32,
+    workers: u16,
+) -> Result<(), Failure>
+    ensures printed { (files : List (List ℕ)) → Tell R.remaining inputs.items files →
+        OnOk result ((frame : Frame) × (frame_of plan.now files ≡ Ok frame) × Appends (W.contents out.old) (W.contents out.new) (printed frame)) }
+    ensures failed { (files : List (List ℕ)) → Tell R.remaining inputs.items files → AreSettings batch_size workers →
+        IfErr result (λ f. (frame_of plan.now files ≡ Err f) ⊎ IsOutside f) }
+    ensures unwritten { IfErr result (λ f. f ≢ failure.Run fault.Write → Keeps (W.contents out.old) (W.contents out.new)) }
+{
+    plan.run(rt, alloc, inputs, out, batch_size, workers)?;
     Ok(())
 }
 
 /// The plan that a text spells, if the check does not refuse it.
 pub fn checked_plan(alloc: Global, text: &[u8]) -> Result<Checked, Failure>
-    ensures { MatchResult result (λ plan. checked_plan_of text.now ≡ Ok plan) (λ f. (checked_plan_of text.now ≡ Err f) ⊎ IsOutside f) }
+    ensures { MatchResult result (λ plan. checked_plan_of text.now ≡ Ok plan) (λ f. (checked_plan_of text.now ≡ Err f) ⊎ (status_of f ≡ NoMemory)) }
 {
     Ok(read_plan(alloc, text)?.check(alloc)?)
 }

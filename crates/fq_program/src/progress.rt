@@ -27,7 +27,10 @@ impl<R: Read, L: Write> Read for Watched<R, L> {
     fn read(&mut self, buffer: &mut [u8]) -> io::Result<usize> {
         let count = self.reader.read(buffer)?;
         if let Some(line) = &mut self.line {
-            line.add(count as u64);
+            match count {
+                0 => line.clear(),
+                _ => line.add(count as u64),
+            }
         }
         Ok(count)
     }
@@ -55,14 +58,19 @@ impl<L: Write> Line<L> {
         let megabytes = self.progress.read / MEGABYTE;
         self.progress.read = self.progress.read.saturating_add(bytes);
         if self.progress.read / MEGABYTE != megabytes {
+            // (in one write, since other files' lines are written beside it)
             let text: InlineText<96> = InlineText::of(self.progress);
-            let _ = self.log.write_all(CLEAR_LINE);
             let _ = self.log.write_all(text.as_str().as_bytes());
         }
     }
+
+    // The file is at its end.
+    fn clear(&mut self) {
+        let _ = self.log.write_all(CLEAR_LINE.as_bytes());
+    }
 }
 
-// How many bytes of a file are read, and its size, if it is known.
+// How many bytes of a file are read, and its size, if it is known. Its text takes the place of the line before it.
 #[derive(Clone, Copy)]
 struct Progress {
     file: usize,
@@ -72,7 +80,8 @@ struct Progress {
 
 impl Display for Progress {
     fn fmt<W: fmt::Write>(&self, f: &mut Formatter<W>) -> fmt::Result {
-        write!(f, "frameq: file {}: {} ", self.file, self.read / MEGABYTE)?;
+        let (file, megabytes) = (self.file, self.read / MEGABYTE);
+        write!(f, "{CLEAR_LINE}frameq: file {file}: {megabytes} ")?;
         if let Some(size) = self.size {
             write!(f, "of {} ", size / MEGABYTE)?;
         }

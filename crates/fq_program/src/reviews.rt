@@ -12,7 +12,7 @@ use crate::program::checked_plan;
 use fq_column::Memory;
 use fq_csv::NullValues;
 use fq_places::Unread;
-use fq_plan::{Fault, MAX_FILES, MAX_NULL_VALUES, MAX_SOURCES, MAX_STEPS, Plan, Source};
+use fq_plan::{Fault, MAX_FILES, MAX_NULL_VALUES, MAX_SOURCES, Plan, Source};
 use fq_review::{Check, Draft, DraftFault, Expected};
 use std::alloc::Global;
 use std::io::Write;
@@ -28,7 +28,7 @@ pub fn check_files<O: Opener, E: Write>(
 ) -> Result<(), Failure>
     ensures failed { IfErr result (λ f. f ≢ failure.Run fault.Write) }
 {
-    write_warnings(plan, options.plan().unwrap_or_default(), err);
+    write_warnings(alloc, plan, options.plan().unwrap_or_default(), err)?;
     let mut check = Check::new(alloc, options.limit());
     let mut names = options.files().iter();
     let mut number = 0u16;
@@ -46,15 +46,16 @@ pub fn check_files<O: Opener, E: Write>(
 }
 
 // Writes each comparison of constants in a plan's steps.
-fn write_warnings<E: Write>(plan: &Plan, name: &str, err: &mut E) {
-    let mut from = 0;
-    for _ in 0..MAX_STEPS {
-        let Some((found, next)) = plan.constant_comparison(from) else {
-            return;
-        };
+fn write_warnings<E: Write>(
+    alloc: Global,
+    plan: &Plan,
+    name: &str,
+    err: &mut E,
+) -> Result<(), Memory> {
+    for found in plan.constant_comparisons(alloc)? {
         let _ = writeln!(err, "{name}: warning: {found}");
-        from = next;
     }
+    Ok(())
 }
 
 // Checks a file of a source.

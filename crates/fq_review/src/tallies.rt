@@ -1,5 +1,5 @@
 //! How often texts occur.
-ghost use Rattle.std.specs.Prelude.{◌≡◌, ◌<◌, OnOk};
+ghost use Rattle.std.specs.Prelude.{◌≡◌, ◌+◌, ◌-◌, ◌^◌, min, OnOk};
 
 use fq_column::Memory;
 use indexmap::IndexMap;
@@ -39,7 +39,7 @@ impl Tally {
 
     /// Counts a text on a line of a file. `Memory` if an allocation fails.
     pub fn add(&mut self, alloc: Global, text: &[u8], place: (u16, u64)) -> Result<(), Memory>
-        ensures { OnOk result (0 < self.new.total) }
+        ensures counted { OnOk result (self.new.total ≡ min (self.old.total + 1) (2 ^ 64 - 1)) }
     {
         self.total = self.total.saturating_add(1);
         if let Some(seen) = self.texts.get_mut(text) {

@@ -380,6 +380,73 @@ fn forms_of_version_2_in_version_1(rt: HostRuntime) -> Result<(), Fail> {
 }
 
 #[test]
+fn joins_that_the_check_refuses(rt: HostRuntime) -> Result<(), Fail> {
+    let alloc = rt.alloc();
+    let side =
+        r#"{"files":1,"columns":[["id","int"],["t","int"],["u","text"],["u_right","text"]]}"#;
+    let main = r#"{"files":1,"columns":[["id","int"],["t","text"],["u","text"]]}"#;
+    let rows = [
+        (
+            r#"{"source":1,"on":["id"],"how":"left"}"#,
+            "no such source\n  1; only source 0 can be joined",
+        ),
+        (
+            r#"{"source":0,"on":["u_right"],"how":"left"}"#,
+            "no such column\n  \"u_right\" is not on the left; there are \"id\", \"t\", \"u\"",
+        ),
+        (
+            r#"{"source":0,"on":["t"],"how":"left"}"#,
+            "wrong kind\n  \"t\" is text on the left, int on the right",
+        ),
+        (
+            r#"{"source":0,"on":["id"],"how":"left"}"#,
+            "double name\n  \"u_right\"",
+        ),
+        (
+            r#"{"source":0,"on":[],"how":"left"}"#,
+            "no column\n  on is empty",
+        ),
+    ];
+    for (join, said) in rows {
+        let plan = format!(in alloc;
+            "{{\"version\":1,\"sources\":[{side},{main}],\"steps\":[{{\"join\":{join}}}]}}"
+        )?;
+        let fault = format!(in alloc; "plan: step 0: {said}")?;
+        let line = "--plan plan --details 0 1";
+        fails_by(&rt, alloc, line, plan.as_str(), &[], "", 3, fault.as_str())?;
+    }
+    Ok(())
+}
+
+#[test]
+fn a_source_that_the_check_refuses(rt: HostRuntime) -> Result<(), Fail> {
+    let alloc = rt.alloc();
+    let rows = [
+        ("[]", "no column\n  source 0 has no columns"),
+        (
+            r#"[["v","int"],["w","int"],["v","text"]]"#,
+            "double name\n  \"v\"",
+        ),
+    ];
+    for (columns, said) in rows {
+        let plan = format!(in alloc;
+            "{{\"version\":1,\"sources\":[{{\"files\":1,\"columns\":{columns}}}],\"steps\":[]}}"
+        )?;
+        let fault = format!(in alloc; "plan: source 0: {said}")?;
+        let line = "--plan plan --details 0";
+        fails_by(&rt, alloc, line, plan.as_str(), &[], "", 3, fault.as_str())?;
+    }
+    Ok(())
+}
+
+#[test]
+fn a_draft_of_a_missing_file(rt: HostRuntime) -> Result<(), Fail> {
+    let line = "--draft --details nowhere";
+    let fault = "read failed: file 0\n  nowhere: entity not found";
+    fails_by(&rt, rt.alloc(), line, "", &[], "", 5, fault)
+}
+
+#[test]
 fn steps_that_the_check_refuses(rt: HostRuntime) -> Result<(), Fail> {
     let alloc = rt.alloc();
     let rows = [
@@ -410,7 +477,15 @@ fn steps_that_the_check_refuses(rt: HostRuntime) -> Result<(), Fail> {
         ),
         (
             r#"{"group_by":{"keys":["t"],"aggs":[["n","len"],["s","sum","t"]]}}"#,
-            "wrong kind\n  sum: \"t\" is text",
+            "wrong kind\n  \"s\": sum: \"t\" is text",
+        ),
+        (
+            r#"{"with_columns":[["v",1],["w",["not",{"col":"id"}]]]}"#,
+            "wrong kind\n  \"w\": not: int",
+        ),
+        (
+            r#"{"group_by":{"keys":[],"aggs":[["s","sum","v"]]}}"#,
+            "no column\n  keys is empty",
         ),
         (
             r#"{"rolling_sum":{"column":"id","window":0,"name":"r"}}"#,

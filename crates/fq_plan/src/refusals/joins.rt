@@ -21,10 +21,9 @@ pub fn explain_join<T>(
         explain_right(alloc, left, right, on)?;
     }
     let names: Vec<&str> = on.iter().map(|name| name.as_str()).collect(alloc)?;
-    let count = left
-        .len()
-        .saturating_add(right.len())
-        .saturating_sub(on.len());
+    let is_key = |column: &usize| on.iter().any(|key| key.as_str() == right.name(*column));
+    let keys = (0..right.len()).filter(is_key).count();
+    let count = left.len().saturating_add(right.len()).saturating_sub(keys);
     explain_columns(alloc, &names, count, "on is empty", fault)
 }
 

@@ -1,6 +1,6 @@
 //! What a refusal of a step is about.
 use crate::plans::Step;
-use crate::reasons::{Fit, Segment, bail, within};
+use crate::reasons::{Fit, Unfit, bail};
 use crate::refusals::columns::{explain_column, explain_columns, explain_fault, explain_sum};
 use crate::refusals::expressions::explain_kind;
 use crate::refusals::joins::explain_join;
@@ -8,6 +8,7 @@ use fq_column::{Kind, Schema, StepFault};
 use fq_csv::kind_word;
 use fq_expr::{Expr, RowStep};
 use fq_ops::{Agg, Function, MAX_WINDOW, What, group_schema, join_schema, roll_schema};
+use fq_places::Quoted;
 use std::alloc::Global;
 
 /// The schema after a step. The sides are the schemas of the sources before the last.
@@ -76,9 +77,9 @@ fn explain_outputs<T>(
     count: usize,
     fault: StepFault,
 ) -> Fit<T> {
-    for (number, (_, expression)) in outputs.iter().enumerate() {
+    for (name, expression) in outputs {
         let fits = explain_kind(alloc, schema, expression);
-        within(Segment::Item(number), fits)?;
+        of_output(alloc, name.as_str(), fits)?;
     }
     let names: Vec<&str> = outputs
         .iter()
@@ -104,17 +105,30 @@ fn explain_grouping<T>(
     aggs: &[Agg],
     fault: StepFault,
 ) -> Fit<T> {
+    if keys.is_empty() {
+        bail!(alloc, "keys is empty")
+    }
     for key in keys {
         explain_column(alloc, schema, key.as_str(), "")?;
     }
-    for (number, agg) in aggs.iter().enumerate() {
+    for agg in aggs {
         let fits = explain_aggregate(alloc, schema, &agg.what);
-        within(Segment::Item(number), fits)?;
+        of_output(alloc, agg.name.as_str(), fits)?;
     }
     let names = keys.iter().map(|key| key.as_str());
     let names = names.chain(aggs.iter().map(|agg| agg.name.as_str()));
     let names: Vec<&str> = names.collect(alloc)?;
-    explain_columns(alloc, &names, names.len(), "keys is empty", fault)
+    explain_columns(alloc, &names, names.len(), "", fault)
+}
+
+// What fits, or why the output of this name does not.
+fn of_output(alloc: Global, name: &str, fits: Fit) -> Fit {
+    match fits {
+        Err(Unfit::Because(reason)) => {
+            bail!(alloc, "{}: {}", Quoted(name.as_bytes()), reason.text)
+        }
+        fits => fits,
+    }
 }
 
 // Nothing if an aggregate has a kind.
