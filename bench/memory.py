@@ -118,6 +118,7 @@ def main():
     if not given.program:
         subprocess.run([os.path.join(ROOT, "tools", "build")], check=True)
         given.program = os.path.join(ROOT, "crates", "frameq", "out", "frameq")
+    program = os.path.abspath(given.program)
     exceeded = 0
     with tempfile.TemporaryDirectory() as folder:
         make_products(os.path.join(folder, "products.csv"))
@@ -128,7 +129,7 @@ def main():
                 plan = os.path.join(folder, "plan.json")
                 with open(plan, "w", encoding="ascii") as file:
                     file.write(task.plan())
-                command = [given.program, "--plan", plan, "--workers", given.workers] + task.files
+                command = [program, "--plan", plan, "--workers", given.workers] + task.files
                 seconds, processor, memory, printed = zip(*(run(command, folder) for _ in range(given.runs)))
                 bound = task.bound(printed[0])
                 exceeded += max(memory) > bound

@@ -198,7 +198,7 @@ def terminal(count, program, room):
     """A terminal as standard input, without arguments, and as standard error, which shows how much is read."""
     text = "v\n" + "1234567\n" * 300_000
     watched = ["--progress", "--plan", write(f"{room}/megabytes.json", plan([source(1, "v int")], "")), write(f"{room}/megabytes.csv", text)]
-    shown = "\r\x1b[K".join(["", "frameq: file 0: 1 of 2 MB", "frameq: file 0: 2 of 2 MB", ""])
+    shown = "\r\x1b[K".join(["", "frameq: file 0: 1 of 2 MB", "frameq: file 0: 2 of 2 MB", "", ""])  # at the file's end, and the run's
     controller, terminal = pty.openpty()
     answer = program.run([], stdin=terminal)
     check(count, "terminal", "no argument", answer, lambda it: it.status == 2 and not it.out and "Usage: frameq" in it.err)

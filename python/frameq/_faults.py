@@ -182,7 +182,8 @@ def _columns_of_file(plan: dict, file: int) -> List[str]:
 
 def fault(said: str, status: int, plan: Optional[dict], files: Sequence[str], calls: Sequence[str]) -> FrameqError:
     """The exception of a run that ended with this status and said this on standard error."""
-    line = next((it for it in said.splitlines() if it.startswith(("frameq: ", "error: "))), said.strip())
+    # (the last such line: a program that is not built yet says so before)
+    line = next((it for it in reversed(said.splitlines()) if it.startswith(("frameq: ", "error: "))), said.strip())
     text = line[len("frameq: "):] if line.startswith("frameq: ") else line
     for pattern, kind in _LINES:
         found = re.fullmatch(pattern, text)

@@ -104,6 +104,13 @@ class Runs(unittest.TestCase):
         with self.assertRaises(fq.ProgramNotFoundError):
             self.scan("n\n", n=INT).collect(program=os.path.join(self.room, "frameq"))
 
+    def test_program_that_is_not_built(self):
+        """It says so before its fault."""
+        program = self.file("frameq", "#!/bin/sh\necho 'frameq: not proved' >&2\necho 'frameq: file 0: header differs' >&2\nexit 4\n")
+        os.chmod(program, 0o755)
+        fault = self.faulted(fq.HeaderError, lambda: self.scan("m\n", n=INT).collect(program=program))
+        self.assertEqual(fault.line, "frameq: file 0: header differs")
+
     def faulted(self, error, run):
         with self.assertRaises(error) as raised:
             run()
