@@ -1,16 +1,26 @@
--- Answers that are taken and dropped after a fault.
+-- What is taken and dropped after a fault.
 use Rattle.std.specs.Prelude.{◌||◌, drop, if◌then◌else◌, is_err}
 use Rattle.std.specs.List.{list_any, slice_get}
-use Rattle.std.proofs.Common.{◌≡◌, ◌≤◌, ◌∙◌, ◌++◌, ℕ, zero, suc, Bool, true, false, List, [], ◌∷◌, Result, Some, length, length-append, set, refl, sym, ap, arith}
+use Rattle.std.proofs.Common.{◌≡◌, ◌≤◌, ◌∙◌, ◌++◌, ℕ, zero, suc, Bool, true, false, List, [], ◌∷◌, Result, Option, Some, None, IfSome, length, length-append, set, refl, sym, ap, arith}
 use Rattle.std.proofs.Math.Bool.{or-false, or_assoc}
 use Rattle.std.proofs.Math.Seq.{drop-length}
 use Rattle.std.proofs.lemmas.List.{drop-append-le}
 use Rattle.std.proofs.lemmas.List.Folds.{list_any-append}
 use mathlib.Core.List.{IsPrefix}
-use Rattle.fq_lanes.specs.HubView.{WorkerView, any_refused, refused_between}
+use Rattle.fq_lanes.specs.HubView.{Tells, WorkerView, any_refused, refused_between}
+use Rattle.fq_lanes.specs.declared.faults.FeedFault.{FeedFault}
 use Rattle.fq_lanes.specs.declared.faults.Memory.{Memory}
 use Rattle.fq_lanes.specs.declared.faults.RunFault.{RunFault}
 use Rattle.fq_lanes.specs.declared.faults.RunFault.TheVariants as run_fault
+use Rattle.fq_lanes.specs.declared.messages.FromFeed.{FromFeed}
+use Rattle.fq_lanes.specs.declared.messages.FromFeed.TheVariants.{End}
+
+-- the fault that a drained feed ends with was told
+pub fault-told : {X : Type 0} (was : Bool) (told : List (FromFeed X)) (end : Option FeedFault) → (was ≡ true → end ≡ None) → (was ≡ false → Tells told (End end))
+    → IfSome end (λ e. Tells told (End (Some e)))
+fault-told was told None before after = tt
+fault-told true told (Some e) before after = let bad : ⊥ = cc (before refl) in absurd bad
+fault-told false told (Some e) before after = after refl
 
 or-flip : (a b : Bool) → (a || b) ≡ (b || a)
 or-flip true true = refl

@@ -1,5 +1,5 @@
 -- Which fault a run answers: `Memory` takes precedence over a failed read, and of failed reads that of the lowest file does.
-use Rattle.std.specs.Prelude.{ℕ, min, Option, Some, None}
+use Rattle.std.specs.Prelude.{◌≤◌, ⊤, ℕ, min, Option, Some, None}
 use Rattle.fq_lanes.specs.declared.faults.FeedFault.{FeedFault}
 use Rattle.fq_lanes.specs.declared.faults.FeedFault.TheVariants as feed
 use Rattle.fq_lanes.specs.declared.faults.RunFault.{RunFault}
@@ -16,3 +16,9 @@ first_of first None file = first
 first_of (Read earlier) (Some feed.Read) file = Read (min earlier file)
 first_of (Read earlier) (Some feed.Memory) file = Memory
 first_of Memory (Some other) file = Memory
+
+-- the one takes precedence over the other, or is the same
+abbrev pub Precedes : RunFault → RunFault → Type 0
+Precedes Memory other = ⊤
+Precedes (Read file) Memory = ⊥
+Precedes (Read file) (Read other) = file ≤ other

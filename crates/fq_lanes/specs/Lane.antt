@@ -1,6 +1,6 @@
 -- What a contract sees of the ends of a lane.
-use Rattle.std.specs.Prelude.{◌≡◌, List}
-use Rattle.rtrb.specs.Ring.{sent, received, known_items}
+use Rattle.std.specs.Prelude.{◌≡◌, ℕ, List}
+use Rattle.rtrb.specs.Ring.{sent, received, known_items, known_free}
 use Rattle.rtrb.specs.Shared.{Names}
 use denote.RawPtr.{Ptr}
 use Rattle.std.specs.declared.alloc.Global.{Global}
@@ -19,6 +19,10 @@ module _ {T : Type 0} where
   -- every item put so far, oldest first
   abbrev pub put_items : Put T → List T
   put_items p = sent p.producer
+
+  -- how many items it surely has room for
+  abbrev pub room : Put T → ℕ
+  room p = known_free p.producer
 
   -- every item taken so far, oldest first
   abbrev pub taken_items : Take T → List T

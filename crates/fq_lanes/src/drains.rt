@@ -1,12 +1,17 @@
 //! What still comes after a fault is taken and dropped.
-ghost use Rattle.std.specs.Prelude.{◌≡◌, ◌≤◌, List, [], All, length, if◌then◌else◌};
+ghost use Rattle.std.specs.Prelude.{◌≡◌, ◌≤◌, ℕ, List, [], Option, Some, All, IfSome, false, true, length, if◌then◌else◌};
+ghost use Rattle.std.specs.List.{slice_get};
 ghost use mathlib.Core.List.{IsPrefix};
 ghost use Rattle.fq_lanes.specs.WorkerLanes.{worker_names, worker_views};
-ghost use Rattle.fq_lanes.specs.FeedLane.{feed_names, feed_views};
-ghost use Rattle.fq_lanes.specs.HubView.{Grows, WorkerGrows, any_refused, told_in};
+ghost use Rattle.fq_lanes.specs.FeedLane.{feed_names, feed_views, told_of};
+ghost use Rattle.fq_lanes.specs.Faults.{Precedes, fault_at};
+ghost use Rattle.fq_lanes.specs.HubView.{Grows, Tells, WorkerGrows, any_refused, told_in};
 ghost use Rattle.fq_lanes.specs.Turns.{BlamesTold};
+ghost use Rattle.fq_lanes.specs.declared.faults.FeedFault.{FeedFault};
 ghost use Rattle.fq_lanes.specs.declared.faults.RunFault.TheVariants as run_fault;
+ghost use Rattle.fq_lanes.specs.declared.feed_lane.FeedLane.{FeedLane as Lane};
 ghost use Rattle.fq_lanes.specs.declared.messages.FromFeed.{FromFeed};
+ghost use Rattle.fq_lanes.specs.declared.messages.FromFeed.TheVariants.{End};
 
 use crate::faults::{RunFault, first_fault};
 use crate::feed_lane::FeedLane;
@@ -24,6 +29,10 @@ pub(crate) fn drain_lanes<R: Wait, X: Drop>(
     ensures size { length lanes.new.items ≡ length lanes.old.items }
     ensures names { feed_names lanes.new.items ≡ feed_names lanes.old.items }
     ensures grows { Grows IsPrefix (told_in (feed_views lanes.old.items)) (told_in (feed_views lanes.new.items)) }
+    ensures ended { All (λ lane. lane.ended ≡ true) lanes.new.items }
+    ensures given { Precedes result fault }
+    ensures theirs { (file : ℕ) (old new : Lane X) → slice_get lanes.old.items file ≡ Some old → slice_get lanes.new.items file ≡ Some new → old.ended ≡ false →
+        (end : Option FeedFault) × Tells (told_of new) (End end) × IfSome end (λ e. Precedes result (fault_at e file)) }
     ensures blames { BlamesTold (told_in (feed_views lanes.old.items)) fault → BlamesTold (told_in (feed_views lanes.new.items)) result }
 {
     let mut first = fault;

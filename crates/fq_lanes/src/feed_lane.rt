@@ -1,5 +1,5 @@
 //! The hub's end of a feed's lane.
-ghost use Rattle.std.specs.Prelude.{◌≡◌, false, IfSome, Some};
+ghost use Rattle.std.specs.Prelude.{◌≡◌, false, true, None};
 ghost use mathlib.Core.List.{IsPrefix};
 ghost use Rattle.fq_lanes.specs.Lane.{taken_items, take_name};
 ghost use Rattle.fq_lanes.specs.HubView.{Tells};
@@ -96,7 +96,9 @@ impl<'s, X> FeedLane<'s, X> {
         X: Drop,
         ensures name { take_name self.new.take ≡ take_name self.old.take }
         ensures told { IsPrefix (taken_items self.old.take) (taken_items self.new.take) }
-        ensures fault { IfSome result (λ e. Tells (taken_items self.new.take) (End (Some e))) }
+        ensures ended { self.new.ended ≡ true }
+        ensures before { self.old.ended ≡ true → result ≡ None }
+        ensures end { self.old.ended ≡ false → Tells (taken_items self.new.take) (End result) }
     {
         if self.ended {
             return None;

@@ -50,11 +50,13 @@ impl<F: Feed> Inlet<F> {
     where
         F::Item: Drop,
         requires { self.old.ended ≡ false → F.is_open self.old.feed }
-        ensures { IfSome result (λ e. (self.old.ended ≡ false) × (e ≡ Read → F.may_fail self.old.feed)) }
+        ensures ended { self.new.ended ≡ true }
+        ensures fault { IfSome result (λ e. (self.old.ended ≡ false) × (e ≡ Read → F.may_fail self.old.feed)) }
     {
         if self.ended {
             return None;
         }
+        self.ended = true;
         drain_feed(&mut self.feed)
     }
 }

@@ -1,6 +1,7 @@
 //! The engine by rounds of workers.
-ghost use Rattle.std.specs.Prelude.{◌≡◌, ◌≤◌, ◌<◌, ◌+◌, List, [], map, length, All, IfOk, IfErr, OnErr, MatchResult, false};
+ghost use Rattle.std.specs.Prelude.{◌≡◌, ◌≤◌, ◌<◌, ◌+◌, List, [], map, length, All, IfOk, IfErr, OnErr, MatchResult, false, true};
 ghost use Rattle.fq_lanes.specs.Engine.{Finishes, StopsEarly, BlamesFeed};
+ghost use Rattle.fq_lanes.specs.Faults.{Precedes};
 ghost use Rattle.fq_lanes.specs.Inlet.{opened, DrainsOne};
 ghost use Rattle.fq_lanes.specs.Ledger.{OffersWorked};
 ghost use Rattle.fq_lanes.specs.Beside.{Each};
@@ -57,7 +58,9 @@ where
     F::Item: Drop,
     requires few { length inlets.old.items ≤ MAX_FEEDS }
     requires open { All (λ inlet. inlet.ended ≡ false → F.is_open inlet.feed) inlets.old.items }
-    ensures { (feeds : List F) → Each (DrainsOne F.is_open F.may_fail) feeds inlets.old.items → BlamesFeed F.may_fail feeds fault → BlamesFeed F.may_fail feeds result }
+    ensures ended { All (λ inlet. inlet.ended ≡ true) inlets.new.items }
+    ensures given { Precedes result fault }
+    ensures blames { (feeds : List F) → Each (DrainsOne F.is_open F.may_fail) feeds inlets.old.items → BlamesFeed F.may_fail feeds fault → BlamesFeed F.may_fail feeds result }
 {
     let mut first = fault;
     for file in 0..inlets.len() {

@@ -1,11 +1,12 @@
 //! The steps of the hub: it hears of a feed, or of a worker.
-ghost use Rattle.std.specs.Prelude.{◌≡◌, ◌≤◌, ◌<◌, ◌==◌, List, length, IfSome};
+ghost use Rattle.std.specs.Prelude.{◌≡◌, ◌≤◌, ◌<◌, ◌==◌, ℕ, List, All, Some, length, IfNone, IfSome};
 ghost use Rattle.fq_lanes.specs.WorkerLanes.{worker_names, worker_views};
-ghost use Rattle.std.specs.List.{list_all};
+ghost use Rattle.std.specs.List.{list_all, slice_get};
 ghost use Rattle.fq_lanes.specs.FeedLane.{feed_names, feed_views};
 ghost use Rattle.fq_lanes.specs.HubView.{FeedView, told_in};
 ghost use Rattle.fq_lanes.specs.Turns.{InTurn, Turns, RunDone};
 ghost use Rattle.fq_lanes.specs.declared.events.Event.{Event};
+ghost use Rattle.fq_lanes.specs.declared.worker_lanes.WorkerLanes.{WorkerLanes as Lanes};
 
 use crate::faults::{RunFault, feed_fault};
 use crate::feed_lane::{FeedLane, Polled};
@@ -31,7 +32,7 @@ fn poll_feed<R: Wait, X: Drop, S: Tail>(
 where
     S::Out: Drop,
     requires file { file < length lanes.old.items }
-    requires worker { worker < length workers.old.items }
+    requires worker { (d : Lanes X S.Out) × (slice_get workers.old.items worker ≡ Some d) × (length d.outstanding.items < MOST_OUTSTANDING) }
     requires turn { (first : S) × (events : List (Event S.Out)) × InTurn S.takes first (feed_views lanes.old.items) (worker_views workers.old.items) hub.old events }
     ensures sizes { (length lanes.new.items ≡ length lanes.old.items) × (length workers.new.items ≡ length workers.old.items) }
     ensures lanes { feed_names lanes.new.items ≡ feed_names lanes.old.items }
@@ -85,7 +86,10 @@ where
 
 /// The worker with the fewest outstanding jobs, and the lowest of these, if it may have one more.
 fn free_worker<X, O>(workers: &Vec<WorkerLanes<'_, X, O>>) -> Option<usize>
-    ensures { IfSome result (λ w. w < length workers.now.items) }
+    ensures free { IfSome result (λ w. (d : Lanes X O) × (slice_get workers.now.items w ≡ Some d) × (length d.outstanding.items < MOST_OUTSTANDING)
+        × All (λ e. length d.outstanding.items ≤ length e.outstanding.items) workers.now.items
+        × ((j : ℕ) (e : Lanes X O) → j < w → slice_get workers.now.items j ≡ Some e → length d.outstanding.items < length e.outstanding.items)) }
+    ensures full { IfNone result (All (λ e. MOST_OUTSTANDING ≤ length e.outstanding.items) workers.now.items) }
 {
     let mut free = None;
     let mut fewest = MOST_OUTSTANDING;

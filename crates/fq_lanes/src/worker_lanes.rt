@@ -1,5 +1,5 @@
 //! The hub's side of a worker.
-ghost use Rattle.std.specs.Prelude.{◌≡◌, [], ◌∷◌, ◌++◌, OnOk, OnErr, MatchOption};
+ghost use Rattle.std.specs.Prelude.{◌≡◌, ◌<◌, [], ◌∷◌, ◌++◌, length, OnOk, OnErr, MatchOption};
 ghost use Rattle.fq_lanes.specs.Lane.{put_items, taken_items, SamePut};
 ghost use Rattle.fq_lanes.specs.declared.messages.ToWorker.TheVariants.{Do, Stop};
 
@@ -46,10 +46,11 @@ impl<'s, X, O> WorkerLanes<'s, X, O> {
         }
     }
 
-    /// Gives the worker a job.
+    /// Gives the worker a job, if it may have one more.
     pub(crate) fn give<R: Wait>(&mut self, rt: &R, job: Job<X>) -> Result<(), Memory>
     where
         X: Drop,
+        requires few { length self.old.outstanding.items < MOST_OUTSTANDING }
         ensures name { worker_name self.new ≡ worker_name self.old }
         ensures answers { taken_items self.new.answers ≡ taken_items self.old.answers }
         ensures ok { OnOk result ((put_items self.new.jobs ≡ put_items self.old.jobs ++ Do job ∷ []) × (self.new.outstanding.items ≡ self.old.outstanding.items ++ (job.file, job.serial) ∷ [])) }

@@ -1,6 +1,6 @@
 //! The calls on lanes.
-ghost use Rattle.std.specs.Prelude.{◌≡◌, ◌+◌, ◌<◌, ◌≤◌, [], ◌∷◌, ◌++◌, IfOk, OnOk, IfErr, MatchOption};
-ghost use Rattle.fq_lanes.specs.Lane.{put_items, taken_items, left_items, IsLane, SamePut, SameTake};
+ghost use Rattle.std.specs.Prelude.{◌≡◌, ◌+◌, ◌<◌, ◌≤◌, [], ◌∷◌, ◌++◌, IfOk, IsOk, OnOk, IfErr, MatchOption};
+ghost use Rattle.fq_lanes.specs.Lane.{put_items, taken_items, left_items, room, IsLane, SamePut, SameTake};
 
 use super::{Left, MAX_CAPACITY, Put, Take};
 use crate::faults::Memory;
@@ -11,6 +11,7 @@ use std::alloc::Global;
 pub fn lane<T: Drop>(alloc: Global, capacity: usize) -> Result<(Put<T>, Take<T>), Memory>
     requires { (1 ≤ capacity) × (capacity ≤ MAX_CAPACITY) }
     ensures pair { IfOk result (λ r. IsLane r.0 r.1) }
+    ensures room { IfOk result (λ r. room r.0 ≡ capacity) }
     ensures empty { IfOk result (λ r. (put_items r.0 ≡ []) × (taken_items r.1 ≡ [])) }
 {
     match RingBuffer::new(alloc, capacity) {
@@ -23,8 +24,9 @@ impl<T> Put<T> {
     /// Puts an item, or hands it back if the lane is full.
     pub fn put(&mut self, item: T) -> Result<(), T>
         ensures lane { SamePut self.old self.new }
-        ensures ok { OnOk result (put_items self.new ≡ put_items self.old ++ item ∷ []) }
+        ensures ok { OnOk result ((put_items self.new ≡ put_items self.old ++ item ∷ []) × (room self.old ≤ room self.new + 1)) }
         ensures full { IfErr result (λ back. (back ≡ item) × (put_items self.new ≡ put_items self.old)) }
+        ensures fits { 0 < room self.old → IsOk result }
     {
         match self.producer.push(item) {
             Ok(()) => Ok(()),

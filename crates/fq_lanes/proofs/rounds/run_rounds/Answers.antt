@@ -23,7 +23,7 @@ pub returns-in_default-clause-fault : goal.returns-in_default-clause-fault
 returns-in_default-clause-fault g c =
     let drains = gave_drains g.F.Feed.gives g.F.Feed.is_open g.F.Feed.may_fail g.F.Feed.most c.args.feeds.items (map (λ _. []) c.args.feeds.items) (map opened c.args.feeds.items)
     (gave_none g.F.Feed.gives g.F.Feed.is_open g.F.Feed.may_fail g.F.Feed.most c.args.feeds.items g.met.F.Feed.few c.requires.open) in
-    c.drain_inlets.ensures c.args.feeds.items (subst (λ l. Each (DrainsOne g.F.Feed.is_open g.F.Feed.may_fail) c.args.feeds.items l) (sym c.in-Ok.ensures) drains) tt
+    c.drain_inlets.ensures.blames c.args.feeds.items (subst (λ l. Each (DrainsOne g.F.Feed.is_open g.F.Feed.may_fail) c.args.feeds.items l) (sym c.in-Ok.ensures) drains) tt
 
 pub run_open-outcome-requires-clause-round : goal.run_open-outcome-requires-clause-round
 run_open-outcome-requires-clause-round g c _ _ =
@@ -70,4 +70,4 @@ returns-clause-fault g c =
     let ran = c.in-Err-outcome.ensures.runs c.args.feeds.items c.args.tail (map (λ _. []) c.args.feeds.items) []
     (begins g.F.Feed.gives g.F.Feed.is_open g.F.Feed.may_fail g.F.Feed.most g.S.Tail.takes c.args.feeds.items c.in-Ok.inlets.items hub g.met.F.Feed.few c.requires.open c.in-Ok.ensures c.in-Ok-new.ensures.made.1 files c.new-2.ensures.items)
     (no_offers (g.W.Work.gives c.args.work.now) (map (λ _. []) c.args.feeds.items)) in
-    c.drain_inlets-in-Err-outcome.ensures c.args.feeds.items ran.1.0 ran.1.1
+    c.drain_inlets-in-Err-outcome.ensures.blames c.args.feeds.items ran.1.0 ran.1.1

@@ -1,6 +1,15 @@
-use Rattle.std.proofs.Common.{◌<◌, length}
-use Rattle.std.specs.Option.{IfSome}
+use Rattle.std.specs.List.{slice_get}
+use Rattle.std.proofs.Common.{◌≡◌, ◌≤◌, ◌<◌, ℕ, Some, length}
+use Rattle.std.specs.Prelude.{MatchOption}
+use Rattle.fq_lanes.specs.declared.worker_lanes.TheConstants.{MOST_OUTSTANDING}
+use Rattle.fq_lanes.specs.declared.worker_lanes.WorkerLanes.{WorkerLanes}
 use Rattle.fq_lanes.proofs.turns.free_worker.Given as goal
 
 abbrev pub invariant-loop-worker : goal.invariant-loop-worker
-invariant-loop-worker g l = IfSome l.free (λ w. w < length l.workers.items)
+invariant-loop-worker g l = record {
+  few : l.fewest ≤ MOST_OUTSTANDING;
+  least : (j : ℕ) (e : WorkerLanes g.row.X.Denot g.row.O.Denot) → j < l.worker → slice_get l.workers.items j ≡ Some e → l.fewest ≤ length e.outstanding.items;
+  free : MatchOption l.free (l.fewest ≡ MOST_OUTSTANDING) (λ w. (d : WorkerLanes g.row.X.Denot g.row.O.Denot) × (slice_get l.workers.items w ≡ Some d) × (length d.outstanding.items ≡ l.fewest)
+      × (l.fewest < MOST_OUTSTANDING)
+      × ((j : ℕ) (e : WorkerLanes g.row.X.Denot g.row.O.Denot) → j < w → slice_get l.workers.items j ≡ Some e → l.fewest < length e.outstanding.items));
+}

@@ -1,5 +1,6 @@
 use Rattle.std.proofs.Common.{List, length, [], ◌∷◌, ◌++◌, set, refl, sym, subst, ap, ◌∙◌, arith}
 use Rattle.std.proofs.Math.Seq.{map-set_same}
+use Rattle.std.proofs.lemmas.Option.{slice_get_within}
 use Rattle.fq_lanes.specs.WorkerLanes.{worker_name, worker_view, worker_views}
 use Rattle.fq_lanes.specs.Due.{due, due_count}
 use Rattle.fq_lanes.specs.FeedLane.{feed_name, feed_view, feed_views}
@@ -52,7 +53,7 @@ returns-in-Ok-clause-turn g c first events t =
     let at = get_or_place ns c.args.file n (omega (arith, c.requires.file)) c.index_mut-lane.ensures.value in
     let ds = c.args.workers.now.items in
     let d = c.index_mut.result.now in
-    let atw = get_or_place ds c.args.worker d (omega (arith, c.requires.worker)) c.index_mut.ensures.value in
+    let atw = get_or_place ds c.args.worker d (slice_get_within c.args.workers.now.items c.args.worker c.requires.worker.0 c.requires.worker.1) c.index_mut.ensures.value in
     let job : Job g.row.X.Denot = record { file = c.args.file; serial = c.in-Item.serial; item = c.in-Item.item } in (
       events,
       step_item g.S.Tail.takes first ns ds c.args.hub.now events c.args.file c.in-Item.serial c.args.worker c.in-Item.item n c.next.new.self d c.give.new.self job t at c.in-Item.ensures.polled atw refl refl refl
@@ -76,7 +77,7 @@ returns-in-Err-clause-turn g c first events t =
     let at = get_or_place ns c.args.file n (omega (arith, c.requires.file)) c.index_mut-lane.ensures.value in
     let ds = c.args.workers.now.items in
     let d = c.index_mut.result.now in
-    let atw = get_or_place ds c.args.worker d (omega (arith, c.requires.worker)) c.index_mut.ensures.value in
+    let atw = get_or_place ds c.args.worker d (slice_get_within c.args.workers.now.items c.args.worker c.requires.worker.0 c.requires.worker.1) c.index_mut.ensures.value in
     let more = prefix_by (feed_view n).told (feed_view c.next.new.self).told (Item c.in-Item.item ∷ []) c.in-Item.ensures.polled.1 in
     let grow = worker_grows ds c.args.worker d c.give.new.self atw (prefix_is (worker_view d).jobs (worker_view c.give.new.self).jobs c.in-Err.ensures.err, prefix_is (worker_view d).answers (worker_view c.give.new.self).answers c.give.ensures.answers) in
     ((events, step_halts g.S.Tail.takes g.S.Tail.refuses first ns (worker_views ds) (worker_views (set ds c.args.worker c.give.new.self)) c.args.hub.now events c.args.file n c.next.new.self t at more grow), tt)
