@@ -18,6 +18,7 @@ pub mod OperatorLemmas
 pub mod PipelineStepLemmas
 pub mod TransformLemmas
 pub mod StageTransforms
+pub mod RightLemmas
 pub mod OutcomeOfPipeline
 pub mod StandingLemmas
 pub mod LogLemmas

@@ -73,7 +73,7 @@ impl<'a> MainStream<'a> {
         ensures refused { IfErr result (λ f. (first_fault (map gathered_stream sides.items) ≡ Some f) ⊎ (f ≡ fault.Memory)) }
     {
         let batches = whole_batches(press.alloc, sides)?;
-        let (pipeline, after) = Pipeline::start(press.alloc, batches.as_slice(), &before, stages)?;
+        let (pipeline, after) = Pipeline::start(press.alloc, batches, &before, stages)?;
         let text = Printing::new(press, &after)?;
         Ok(MainStream {
             before,

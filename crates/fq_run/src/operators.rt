@@ -1,10 +1,10 @@
 //! Operators, each in a file of its own: its form in a physical plan, and what runs it. A running operator takes a stream piece by piece,
 //! and passes on what it makes of a piece at once.
 ghost use Rattle.std.specs.Prelude.{◌≡◌, List, [], None, map, IfOk};
-ghost use Rattle.fq_column.specs.Frame.{Fields, Row};
+ghost use Rattle.fq_column.specs.Frame.{Fields, Frame, Row};
 ghost use Rattle.fq_run.specs.Transforms.{Transform, steps_transform};
 ghost use Rattle.fq_run.specs.Stages.{Accepts};
-ghost use Rattle.fq_run.specs.Starting.{transform_of};
+ghost use Rattle.fq_run.specs.Starting.{joins_source, right_of, transform_of};
 ghost use Rattle.fq_run.specs.RunningOperators.{HasEnded, HasPassed, HasTaken, IsUnder, Keeps, Takes};
 
 mod grouping;
@@ -46,6 +46,16 @@ impl Operator {
             Operator::RollingSum(_) => "rolling_sum",
         }
     }
+
+    /// Whether it is a join with a source.
+    pub(crate) fn joins(&self, source: usize) -> bool
+        ensures { result ≡ joins_source source self.now }
+    {
+        match self {
+            Operator::Join(join) => join.source == source,
+            Operator::Rows(_) | Operator::GroupBy(_) | Operator::RollingSum(_) => false,
+        }
+    }
 }
 
 /// The word of a row-wise step in the plan language.
@@ -71,22 +81,22 @@ pub(crate) enum Running<'a> {
 }
 
 impl<'a> Running<'a> {
-    /// The operator of a stage that has taken no row, on rows of a schema.
+    /// The operator of a stage that has taken no row, on rows of a schema; with its right rows, if it is a join.
     pub(crate) fn start(
         alloc: Global,
-        sides: &[Batch],
+        right: Option<Batch>,
         schema: &Schema,
         stage: &'a Stage,
     ) -> Result<Running<'a>, Memory>
-        requires { (after : Fields) × Accepts (map (λ f. f.fields) sides.now) schema.now stage.now.operator after }
-        ensures { IfOk result (λ r. (after : Fields) → Accepts (map (λ f. f.fields) sides.now) schema.now stage.entry.now.operator after →
-            HasTaken r (transform_of sides.now stage.entry.now.number schema.now stage.entry.now.operator) []) }
+        requires { (sides : List Frame) × (after : Fields) × Accepts (map (λ f. f.fields) sides) schema.now stage.now.operator after × (right ≡ right_of sides stage.now.operator) }
+        ensures { IfOk result (λ r. (sides : List Frame) (after : Fields) → Accepts (map (λ f. f.fields) sides) schema.now stage.entry.now.operator after →
+            right ≡ right_of sides stage.entry.now.operator → HasTaken r (transform_of sides stage.entry.now.number schema.now stage.entry.now.operator) []) }
     {
         let number = stage.number;
         match &stage.operator {
             Operator::Rows(front) => Ok(Running::Rows(front)),
             Operator::Join(join) => {
-                let right = &sides[join.source];
+                let Some(right) = right else { unreachable!() };
                 Ok(Running::Join(Joining::new(alloc, number, right, join)?))
             }
             Operator::GroupBy(group_by) => {

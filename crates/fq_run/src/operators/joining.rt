@@ -7,7 +7,7 @@ ghost use Rattle.fq_run.specs.RunningOperators.{HasJoined, Takes};
 
 use crate::faults::Fault;
 use crate::passed::Passed;
-use fq_column::{Batch, Memory};
+use fq_column::{Batch, Memory, copy_strings};
 use fq_ops::{How, JoinTable, Probed};
 use std::alloc::Global;
 
@@ -37,20 +37,22 @@ pub(crate) struct Joining {
 }
 
 impl Joining {
-    /// A join with the rows of its source that has taken no row, with room for all rows that a join gives.
+    /// A join with the rows of its source, which it keeps with no copy. It has taken no row, and has room for all rows that a join
+    /// gives.
     pub(crate) fn new(
         alloc: Global,
         number: u16,
-        right: &Batch,
+        right: Batch,
         join: &Join,
     ) -> Result<Joining, Memory>
-        requires { (left : Fields) × IsOk (join_schema join.now.how left right.now.fields (map string_bytes join.now.on.items)) }
-        ensures { IfOk result (λ j. (left : Fields) → IsOk (join_schema join.now.how left right.now.fields (map string_bytes join.now.on.items)) →
-            HasJoined j (join_transform number join.now.how (record { fields = right.now.fields; rows = right.now.rows; on = map string_bytes join.now.on.items; nulls_equal = join.now.nulls_equal }) left) []) }
+        requires { (left : Fields) × IsOk (join_schema join.now.how left right.fields (map string_bytes join.now.on.items)) }
+        ensures { IfOk result (λ j. (left : Fields) → IsOk (join_schema join.now.how left right.fields (map string_bytes join.now.on.items)) →
+            HasJoined j (join_transform number join.now.how (record { fields = right.fields; rows = right.rows; on = map string_bytes join.now.on.items; nulls_equal = join.now.nulls_equal }) left) []) }
     {
+        let on = copy_strings(alloc, join.on.as_slice())?;
         Ok(Joining {
             number,
-            table: JoinTable::build(alloc, right, join.on.as_slice(), join.nulls_equal)?,
+            table: JoinTable::build_from(alloc, right, on, join.nulls_equal)?,
             how: join.how,
             room: MAX_JOINED_ROWS,
         })

@@ -15,14 +15,14 @@ use Rattle.fq_run.proofs.main_stream.MainStream.start.Goals.{In_ok-text}
 pub start-requires : goal.start-requires
 start-requires g c =
     let r = c.requires in
-    (r.0, over-batches c.args.sides.items c.as_slice.result.now c.args.before r.0 c.args.stages.now (c.as_slice.ensures.value ∙ c.in_ok-batches.ensures.batches) r.1)
+    (r.0, over-batches c.args.sides.items c.in_ok-batches.batches.items c.args.before r.0 c.args.stages.now (c.in_ok-batches.ensures.batches) r.1)
 
 -- the operators have taken no row
 fresh : (g : Over) (c : In_ok-text g) (after : Fields) → Fit (map (λ (g : Gathered). g.batch.fields) c.args.sides.items) c.args.before c.args.stages.now after →
     HasRun c.in_ok-pipeline.pipeline.operators.items (later_steps c.args.stages.now c.args.sides.items c.args.before after) [] [] × (whole_text c.in_ok-text.text ≡ printed (record { fields = after; rows = [] }))
 fresh g c after fits =
-    let batches = c.as_slice.ensures.value ∙ c.in_ok-batches.ensures.batches in
-    let made = c.in_ok-pipeline.ensures after (over-batches c.args.sides.items c.as_slice.result.now c.args.before after c.args.stages.now batches fits) in (
+    let batches = c.in_ok-batches.ensures.batches in
+    let made = c.in_ok-pipeline.ensures after (over-batches c.args.sides.items c.in_ok-batches.batches.items c.args.before after c.args.stages.now batches fits) in (
       subst (λ (js : List Frame). HasRun c.in_ok-pipeline.pipeline.operators.items (let w : Transforming = record { before = c.args.before; transforms = transforms_of js c.args.before c.args.stages.now; after = after } in w) [] []) batches made.1,
       c.in_ok-text.ensures ∙ ap printed_names made.0 ∙ sym (append-nil (printed_names after)),
     )
