@@ -249,7 +249,10 @@ class LazyFrame:
         if maintain_order in ("right", "right_left"):
             raise UnsupportedError("a join keeps the order of the left rows")
         if other._steps:
-            raise UnsupportedError("the right side of a join is a scan: do its steps on the left, or join the result of another run")
+            raise UnsupportedError(
+                "the right side of a join is a scan: do its steps on the left, or write it to a file by sink_csv, and join "
+                "scan_csv(path, schema=other.collect_schema())"
+            )
         keys = _keys(on, left_on, right_on)
         schema = self._joined_schema(other, keys, how)
         rights = self._rights if other._main in self._rights else (*self._rights, other._main)
