@@ -28,6 +28,10 @@ module _ {T : Type 0} where
   abbrev pub taken_items : Take T → List T
   taken_items t = received t.consumer
 
+  -- the items that were seen and not taken, oldest first
+  abbrev pub seen_items : Take T → List T
+  seen_items t = known_items t.consumer
+
   -- the items that are still to be handed out
   abbrev pub left_items : Left T → List T
   left_items l = known_items l.take

@@ -41,15 +41,16 @@ impl Display for Refusal {
 
 // Nothing if the check does not refuse a plan.
 fn judge(alloc: Global, plan: &Plan) -> Fit {
-    let mut sides = Vec::with_capacity(alloc, plan.sources.len())?;
-    for (number, source) in plan.sources.iter().enumerate() {
-        sides.push(source_schema(alloc, number, source)?)?;
-    }
-    let Some(mut schema) = sides.pop() else {
-        return Ok(());
+    let Some((main, sides)) = plan.sources.split_last() else {
+        unreachable!()
     };
+    let mut schemas = Vec::with_capacity(alloc, sides.len())?;
+    for (number, source) in sides.iter().enumerate() {
+        schemas.push(source_schema(alloc, number, source)?)?;
+    }
+    let mut schema = source_schema(alloc, sides.len(), main)?;
     for step in plan.steps.iter() {
-        schema = schema_after(alloc, sides.as_slice(), &schema, step)?;
+        schema = schema_after(alloc, schemas.as_slice(), &schema, step)?;
     }
     Ok(())
 }

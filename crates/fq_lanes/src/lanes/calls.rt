@@ -1,6 +1,7 @@
 //! The calls on lanes.
 ghost use Rattle.std.specs.Prelude.{◌≡◌, ◌+◌, ◌<◌, ◌≤◌, [], ◌∷◌, ◌++◌, IfOk, IsOk, OnOk, IfErr, MatchOption};
-ghost use Rattle.fq_lanes.specs.Lane.{put_items, taken_items, left_items, room, IsLane, SamePut, SameTake};
+ghost use mathlib.Core.List.{IsPrefix};
+ghost use Rattle.fq_lanes.specs.Lane.{put_items, taken_items, left_items, room, seen_items, IsLane, SamePut, SameTake};
 
 use super::{Left, MAX_CAPACITY, Put, Take};
 use crate::faults::Memory;
@@ -40,6 +41,7 @@ impl<T> Take<T> {
     pub fn take(&mut self) -> Option<T>
         ensures lane { SameTake self.old self.new }
         ensures taken { MatchOption result (taken_items self.new ≡ taken_items self.old) (λ x. taken_items self.new ≡ taken_items self.old ++ x ∷ []) }
+        ensures seen { MatchOption result ((seen_items self.old ≡ []) × (seen_items self.new ≡ [])) (λ x. IsPrefix (seen_items self.old) (x ∷ seen_items self.new)) }
     {
         match self.consumer.pop() {
             Ok(item) => Some(item),

@@ -1,5 +1,5 @@
 use Rattle.std.specs.List.{slice_get}
-use Rattle.std.proofs.Common.{◌≡◌, arith, rules, ◌<◌, ℕ, Option, Some, IfSome, true, length, set, refl, sym, subst, ap, ◌∙◌}
+use Rattle.std.proofs.Common.{◌≡◌, arith, rules, ◌<◌, Option, IfSome, true, length, set, refl, sym, subst, ap, ◌∙◌}
 use Rattle.std.proofs.Math.ListN.{length-set}
 use Rattle.std.proofs.Math.Seq.{map-set_same}
 use Rattle.std.proofs.lemmas.Option.{same_Some, slice_get_within}
@@ -8,7 +8,6 @@ use Rattle.fq_lanes.specs.FeedLane.{feed_name, feed_views, told_of}
 use Rattle.fq_lanes.specs.HubView.{Tells, told_in}
 use Rattle.fq_lanes.specs.Turns.{BlamesTold}
 use Rattle.fq_lanes.specs.declared.faults.FeedFault.{FeedFault}
-use Rattle.fq_lanes.specs.declared.feed_lane.FeedLane.{FeedLane}
 use Rattle.fq_lanes.specs.declared.messages.FromFeed.TheVariants.{End}
 use Rattle.fq_lanes.proofs.LaneLemmas.{set_cases, tolds_same, tolds_then}
 use Rattle.fq_lanes.proofs.BesideLemmas.{get_or_place, get_set_other}
