@@ -1,4 +1,5 @@
 //! Comparisons of constants, which are allowed and seldom meant.
+use crate::hints::Hint;
 use crate::plans::{Plan, Step};
 use crate::words::binary_word;
 use fq_column::Memory;
@@ -48,14 +49,8 @@ impl Display for ConstantComparison<'_> {
         write_constant(f, self.left)?;
         f.write_str(", ")?;
         write_constant(f, self.right)?;
-        f.write_str("] compares two constants")?;
-        match (self.left, self.right) {
-            (Expr::Text(name), _) | (_, Expr::Text(name)) => {
-                let name = Quoted(name.as_str().as_bytes());
-                write!(f, "; a column is {{\"col\": {name}}}")
-            }
-            _ => Ok(()),
-        }
+        let hint = Hint::of_text(&[self.left, self.right]);
+        write!(f, "] compares two constants{hint}")
     }
 }
 

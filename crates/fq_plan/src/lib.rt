@@ -7,6 +7,7 @@
 mod checks;
 mod constants;
 mod faults;
+mod hints;
 mod laws;
 mod misfits;
 mod plans;

@@ -325,6 +325,10 @@ fn steps_of_the_wrong_shape(rt: HostRuntime) -> Result<(), Fail> {
                 ".group_by.aggs[1][1]: \"sum\" needs a column: [NAME, FUNCTION, COLUMN]",
             ),
             (
+                r#"{"select":["id"]}"#,
+                ".select[0]: \"id\" is not an array; an output is [NAME, EXPRESSION]",
+            ),
+            (
                 r#"{"group_by":{"keys":["id"],"agg":[]}}"#,
                 ".group_by: \"agg\" is not a member; there are \"keys\", \"aggs\"",
             ),
@@ -465,6 +469,22 @@ fn steps_that_the_check_refuses(rt: HostRuntime) -> Result<(), Fail> {
         (
             r#"{"filter":{"col":"id"}}"#,
             "not a truth value\n  the condition is int",
+        ),
+        (
+            r#"{"filter":"b"}"#,
+            "not a truth value\n  the condition is text; a column is {\"col\": \"b\"}",
+        ),
+        (
+            r#"{"filter":["gt","id",1]}"#,
+            "wrong kind\n  gt: text and int; a column is {\"col\": \"id\"}",
+        ),
+        (
+            r#"{"filter":["eq",{"col":"id"},"north"]}"#,
+            "wrong kind\n  eq: int and text",
+        ),
+        (
+            r#"{"with_columns":[["w",["not","b"]]]}"#,
+            "wrong kind\n  \"w\": not: text; a column is {\"col\": \"b\"}",
         ),
         (
             r#"{"select":[["v",1],["w",2],["v",2]]}"#,

@@ -115,7 +115,7 @@ impl Judge {
     /// Why a value is no array of the right length.
     pub fn wrong_length(self, value: &Value, form: &str) -> Fit {
         let Some(items) = value.as_array() else {
-            return self.wrong(value, "is not an array");
+            bail!(self.alloc, "{} is not an array; {form}", Found(value));
         };
         let (found, count) = (Found(value), items.len());
         let plural = if count == 1 { "" } else { "s" };

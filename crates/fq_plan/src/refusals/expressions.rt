@@ -1,4 +1,5 @@
 //! What a refusal of an expression is about.
+use crate::hints::Hint;
 use crate::reasons::{Fit, bail};
 use crate::refusals::columns::explain_column;
 use crate::words::{binary_word, unary_word};
@@ -18,14 +19,16 @@ pub fn explain_kind(alloc: Global, schema: &Schema, expression: &Expr) -> Fit {
         Expr::One(op, part) => match part.kind_in(schema) {
             Ok(kind) => {
                 let (op, kind) = (unary_word(*op), kind_word(kind));
-                bail!(alloc, "{op}: {kind}")
+                let hint = Hint::of_column(schema, &[part]);
+                bail!(alloc, "{op}: {kind}{hint}")
             }
             Err(_) => explain_kind(alloc, schema, part),
         },
         Expr::Two(op, left, right) => match (left.kind_in(schema), right.kind_in(schema)) {
-            (Ok(left), Ok(right)) => {
-                let (op, left, right) = (binary_word(*op), kind_word(left), kind_word(right));
-                bail!(alloc, "{op}: {left} and {right}")
+            (Ok(first), Ok(second)) => {
+                let (op, first, second) = (binary_word(*op), kind_word(first), kind_word(second));
+                let hint = Hint::of_column(schema, &[left, right]);
+                bail!(alloc, "{op}: {first} and {second}{hint}")
             }
             (Err(_), _) => explain_kind(alloc, schema, left),
             (Ok(_), Err(_)) => explain_kind(alloc, schema, right),

@@ -1,4 +1,5 @@
 //! What a refusal of a step is about.
+use crate::hints::Hint;
 use crate::plans::Step;
 use crate::reasons::{Fit, Unfit, bail};
 use crate::refusals::columns::{explain_column, explain_columns, explain_fault, explain_sum};
@@ -54,7 +55,8 @@ fn explain_rows<T>(alloc: Global, schema: &Schema, step: &RowStep, fault: StepFa
             explain_kind(alloc, schema, predicate)?;
             match predicate.kind_in(schema) {
                 Ok(kind) if kind != Kind::Truth => {
-                    bail!(alloc, "the condition is {}", kind_word(kind))
+                    let (kind, hint) = (kind_word(kind), Hint::of_column(schema, &[predicate]));
+                    bail!(alloc, "the condition is {kind}{hint}")
                 }
                 _ => explain_fault(alloc, fault),
             }
