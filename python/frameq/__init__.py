@@ -13,6 +13,8 @@ number of threads, or it is one fault by name.
         .collect()
     )
 """
+from typing import NoReturn as _NoReturn
+
 from ._expressions import Expr, all, col, lit
 from ._expressions import length as len
 from ._faults import (
@@ -52,3 +54,16 @@ from ._program import run_plan
 from ._results import DataFrame
 
 __all__ = [name for name in dir() if not name.startswith("_")]
+
+# What Polars has and this package has not, and what to do instead.
+_INSTEAD = {
+    "concat": "name all the files in one scan_csv",
+    "read_csv": "scan_csv, and collect() at the end",
+    "when": "filter each case, or join the values from a file",
+}
+
+
+def __getattr__(name: str) -> _NoReturn:
+    if name in _INSTEAD:
+        raise UnsupportedError(f"frameq has no {name}(): {_INSTEAD[name]}")
+    raise AttributeError(f"module {__name__!r} has no attribute {name!r}")

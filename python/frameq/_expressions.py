@@ -6,6 +6,7 @@ from ._kinds import AnyKind, Kind, Schema, kind_of_type
 
 _LEAST, _MOST = -(2**63), 2**63 - 1
 _ARITHMETIC = frozenset({"add", "sub", "mul", "floordiv", "mod"})
+FUNCTIONS = frozenset({"sum", "min", "max", "count", "first", "last", "n_unique"})
 _COMPARISONS = frozenset({"eq", "ne", "lt", "le", "gt", "ge", "eq_missing"})
 
 # What Polars has and the plan language has not, and what to do instead.
@@ -29,6 +30,10 @@ _INSTEAD = {
     "round": "there are no floats",
 }
 
+# How deep operators may stand one in another, whatever steps they become.
+_MOST_NESTED = 250
+TOO_DEEP = "operators stand too deep one in another: combine them by halves, as (a | b) | (c | d), or join the values from a file"
+
 # A part of an expression: ("col", name), ("cols", names), ("all",), ("lit", kind, value), ("null", kind), (operation, node, ..),
 # ("agg", function, node or None), ("roll", node, window, least).
 Node = Tuple[Any, ...]
@@ -41,6 +46,8 @@ class Expr:
     __hash__ = None  # type: ignore[assignment]
 
     def __init__(self, node: Node, alias: Optional[str] = None) -> None:
+        if _depth(node) > _MOST_NESTED:
+            raise UnsupportedError(TOO_DEEP)
         self._node, self._alias = node, alias
 
     def __repr__(self) -> str:
@@ -300,12 +307,24 @@ def _shown(node: Node) -> str:
     return f"{head}(" + ", ".join(map(_shown, node[1:])) + ")"
 
 
+def _operands(node: Node) -> List[Node]:
+    """The nodes that a node is made of, from left to right."""
+    return [] if node[0] in ("cols", "col", "lit", "null") else [part for part in node[1:] if isinstance(part, tuple)]
+
+
+def _depth(node: Node) -> int:
+    """How deep operators stand one in another."""
+    level, depth = _operands(node), 0
+    while level:
+        level, depth = [part for it in level for part in _operands(it)], depth + 1
+    return depth
+
+
 def parts(node: Node) -> Iterator[Node]:
     """A node and all that it is made of, from left to right."""
     yield node
-    for part in node[1:]:
-        if isinstance(part, tuple) and part and node[0] not in ("cols", "col", "lit", "null"):
-            yield from parts(part)
+    for part in _operands(node):
+        yield from parts(part)
 
 
 def has(node: Node, *heads: str) -> bool:

@@ -7,9 +7,10 @@ from typing import List, Optional, Sequence, Tuple, Type
 class FrameqError(Exception):
     """What every error of this package is.
 
-    `line` is what the program said, `details` what it said more, and `status` its exit status. `file` is the path of the file that faulted, `row` its row after the
-    header, from 1, and `column` the name of the column. `step` is the number of the plan's step, from 0, `item` that of its output, and
-    `call` the call that made the step. What a fault does not name is None.
+    `line` is what the program said, `details` what it said more, and `status` its exit status. `file` is the path of the file that
+    faulted, `row` its row after the header, from 1, and `column` the name of the column. `step` is the number of the plan's step, from
+    0, `item` that of its output, and `call` the call that made the step. What a fault does not name is None; so is all of this of what
+    the package raises itself, before a run.
     """
 
     line: Optional[str] = None
@@ -144,6 +145,7 @@ class MemoryError(FrameqError, builtins.MemoryError):
 # The lines of the program, and what each is raised as. Groups: f file, r row, c column, s step, i item.
 _LINES: Tuple[Tuple[str, Type[FrameqError]], ...] = (
     (r"inputs: wanted \d+, got \d+", InputsError),
+    (r"standard input \(-\) can be read only once", ArgumentsError),
     (r"plan: not JSON", PlanJsonError),
     (r"plan: wrong shape", PlanShapeError),
     (r"plan: (?:source \d+|step (?P<s>\d+)): no such column", ColumnNotFoundError),
@@ -184,6 +186,8 @@ def fault(said: str, status: int, plan: Optional[dict], files: Sequence[str], ca
     """The exception of a run that ended with this status and said this on standard error."""
     # (the last such line: a program that is not built yet says so before)
     line = next((it for it in reversed(said.splitlines()) if it.startswith(("frameq: ", "error: "))), said.strip())
+    if not line:
+        line = f"the program was ended by signal {-status}" if status < 0 else f"the program ended with status {status}, and said nothing"
     text = line[len("frameq: "):] if line.startswith("frameq: ") else line
     for pattern, kind in _LINES:
         found = re.fullmatch(pattern, text)

@@ -1,9 +1,10 @@
 """Lazy frames, by Polars' names: what is written is a plan."""
+import copy
 import os
 from typing import Any, Iterable, List, Mapping, NamedTuple, NoReturn, Optional, Sequence, Tuple, Union
 
 from . import _program
-from ._expressions import Expr, Node, columns_of, expanded, has, kind_of, name_of, named, parts, replaced, written
+from ._expressions import FUNCTIONS, TOO_DEEP, Expr, Node, columns_of, expanded, has, kind_of, name_of, named, parts, replaced, written
 from ._faults import DuplicateError, NoColumnError, UnsupportedError, WrongKindError
 from ._kinds import AnyKind, Kind, Schema, schema_of
 from ._results import DataFrame
@@ -11,6 +12,9 @@ from ._sql import sql
 
 Path = Union[str, "os.PathLike[str]"]
 Output = Tuple[str, Node]
+
+# How deep the arrays and objects of a plan may stand one in another, and how deep its steps do.
+_MOST_NESTED, _NESTING_AROUND_STEPS = 127, 2
 
 # What Polars has and the plan language has not, and what to do instead.
 _INSTEAD = {
@@ -28,8 +32,18 @@ _INSTEAD = {
     "rolling": "there are no windows by time: rolling_sum counts rows",
     "join_asof": "a join is on equal keys",
     "join_where": "a join is on equal keys: filter after it",
-    "concat": "name all the files in one scan_csv",
     "sink_parquet": "the result is CSV: sink_csv",
+}
+
+_INSTEAD_OF_GROUPS = {
+    "mean": "there are no floats: sum() // count() is the mean, rounded down",
+    "median": "there are no quantiles",
+    "quantile": "there are no quantiles",
+    "head": "agg() makes a row for each group; first() is a value of its first row",
+    "tail": "agg() makes a row for each group; last() is a value of its last row",
+    "all": "there are no lists",
+    "having": "filter after agg()",
+    "map_groups": "agg() makes a row for each group",
 }
 
 
@@ -67,6 +81,8 @@ def scan_csv(
     if others or not has_header or separator != ",":
         what = ", ".join(others) or ("has_header=False" if not has_header else "separator")
         raise UnsupportedError(f"scan_csv has no {what}: a file has a header, commas, and quotes as in CSV")
+    if isinstance(source, bytes) or hasattr(source, "read"):
+        raise UnsupportedError("scan_csv takes names of files, and no open file or bytes; the name - is standard input")
     files = [source] if isinstance(source, (str, os.PathLike)) else list(source)
     nulls = [null_values] if isinstance(null_values, str) else list(null_values or [])
     if isinstance(null_values, Mapping):
@@ -97,6 +113,8 @@ class LazyFrame:
         return dict(self._schema)
 
     def _after(self, step: dict, call: str, schema: Schema) -> "LazyFrame":
+        if _nesting(step) + _NESTING_AROUND_STEPS > _MOST_NESTED:
+            raise UnsupportedError(TOO_DEEP)
         return LazyFrame(self._main, self._rights, (*self._steps, step), (*self._calls, call), schema)
 
     # Row-wise steps.
@@ -112,9 +130,9 @@ class LazyFrame:
         for condition in conditions[1:]:
             all_of = all_of & condition
         _no_aggregates(all_of, "filter")
-        frame, (node,) = self._hoisted([all_of._node], call)
-        if kind_of(node, frame._schema) != Kind.BOOL:
+        if kind_of(all_of._node, self._schema) != Kind.BOOL:
             raise WrongKindError(f"a filter takes a Boolean: {all_of!r}")
+        frame, (node,) = self._hoisted([all_of._node], call)
         return frame._after({"filter": written(node)}, call, frame._schema)._only(self._schema, call)
 
     def select(self, *exprs: Any, **named_exprs: Any) -> "LazyFrame":
@@ -140,7 +158,7 @@ class LazyFrame:
 
     def drop(self, *columns: Any) -> "LazyFrame":
         """All columns but these."""
-        dropped = {name_of(expr) for given in _flat(columns) for expr in expanded(named(given), self._schema)}
+        dropped = _names(columns, self._schema, "drop")
         for name in dropped:
             kind_of(("col", name), self._schema)
         return self.select([name for name in self._schema if name not in dropped])
@@ -246,14 +264,14 @@ class LazyFrame:
             raise UnsupportedError(f'there is no join {how!r}: "inner", "left", "semi" and "anti" are there')
         if others or suffix != "_right":
             raise UnsupportedError(f"a join has no {', '.join(others) or 'suffix'}: rename before it")
-        if maintain_order in ("right", "right_left"):
-            raise UnsupportedError("a join keeps the order of the left rows")
+        if maintain_order not in (None, "none", "left", "left_right"):
+            raise UnsupportedError(f"a join keeps the order of the left rows, and not {maintain_order!r}")
         if other._steps:
             raise UnsupportedError(
                 "the right side of a join is a scan: do its steps on the left, or write it to a file by sink_csv, and join "
                 "scan_csv(path, schema=other.collect_schema())"
             )
-        keys = _keys(on, left_on, right_on)
+        keys = _keys(on, left_on, right_on, self._schema)
         schema = self._joined_schema(other, keys, how)
         rights = self._rights if other._main in self._rights else (*self._rights, other._main)
         step = {"source": rights.index(other._main), "on": keys, "how": how}
@@ -263,6 +281,7 @@ class LazyFrame:
         return LazyFrame(self._main, rights, (*self._steps, {"join": step}), (*self._calls, call), schema)
 
     def _joined_schema(self, other: "LazyFrame", keys: Sequence[str], how: str) -> Schema:
+        _no_doubles(keys, "join")
         for key in keys:
             if kind_of(("col", key), self._schema) != kind_of(("col", key), other._schema):
                 raise WrongKindError(f"the key {key!r} has another kind on each side; there are no casts")
@@ -283,7 +302,7 @@ class LazyFrame:
         """The first row of those that are equal, in all columns or in these."""
         if keep not in ("any", "first"):
             raise UnsupportedError('of equal rows the first is kept: keep="first"')
-        keys = list(self._schema) if subset is None else [name_of(named(it)) for it in _flat((subset,))]
+        keys = list(self._schema) if subset is None else list(dict.fromkeys(_names((subset,), self._schema, "subset= of unique")))
         rest = [named(name).first() for name in self._schema if name not in keys]
         return self.group_by(keys).agg(rest)._only(self._schema, "unique()")
 
@@ -293,7 +312,7 @@ class LazyFrame:
         """The plan, as the JSON object that it is."""
         sources = (*self._rights, self._main)
         version = 2 if any(source.null_values for source in sources) or any(map(_is_of_version_two, self._steps)) else 1
-        return {"version": version, "sources": [source.written(version) for source in sources], "steps": list(self._steps)}
+        return {"version": version, "sources": [source.written(version) for source in sources], "steps": copy.deepcopy(list(self._steps))}
 
     def files(self) -> List[str]:
         """The files, in the order in which the plan takes them."""
@@ -330,12 +349,20 @@ class GroupBy:
     def __init__(self, frame: LazyFrame, keys: List[Output], call: str) -> None:
         self._frame, self._keys, self._call = frame, keys, call
 
+    def __getattr__(self, name: str) -> NoReturn:
+        if name in FUNCTIONS:
+            raise UnsupportedError(f"groups have no {name}(): write .agg(all().{name}())")
+        if name in _INSTEAD_OF_GROUPS:
+            raise UnsupportedError(f"groups have no {name}(): {_INSTEAD_OF_GROUPS[name]}")
+        raise AttributeError(f"groups have no {name!r}")
+
     def agg(self, *aggs: Any, **named_aggs: Any) -> LazyFrame:
         """A row for each group: its keys and these aggregates, or what is computed of aggregates."""
         call = f"{self._call}.{_call('agg', aggs, named_aggs)}"
-        schema = self._frame._schema
-        each = [expr for given in _flat(aggs) for expr in expanded(named(given), schema)]
-        each += [it.alias(name) for name, given in named_aggs.items() for it in expanded(named(given), schema)]
+        schema, keys = self._frame._schema, dict(self._keys)
+        rest = {name: kind for name, kind in schema.items() if name not in keys}  # which all() means here
+        each = [expr for given in _flat(aggs) for expr in expanded(named(given), rest)]
+        each += [it.alias(name) for name, given in named_aggs.items() for it in expanded(named(given), rest)]
         outputs = [(name_of(expr), expr._node) for expr in each]
         _no_doubles([name for name, _ in (*self._keys, *outputs)], "group_by")
         for name, node in outputs:
@@ -356,8 +383,7 @@ class GroupBy:
         if is_plain:
             named_aggs = outputs
         else:
-            private = [name for name in frame._private(len(aggregates) + len(keys)) if name not in keys]
-            named_aggs = list(zip(private, aggregates))
+            named_aggs = list(zip(frame._private(len(aggregates)), aggregates))
         grouped = frame._after(*_group_step(frame._schema, keys, named_aggs, of_inputs, call))
         if is_plain:
             return grouped
@@ -369,7 +395,9 @@ class GroupBy:
         """The frame with a column for each key, and these columns: a computed key under its own name, if no column has it."""
         frame, names = self._frame, []
         computed = [(name, node) for name, node in self._keys if node != ("col", name)]
-        new = {name: name if name not in frame._schema else private for (name, _), private in zip(computed, frame._private(len(computed)))}
+        own = {name for name, _ in computed if name not in frame._schema}
+        private = (name for name in frame._private(2 * len(computed)) if name not in own)
+        new = {name: name if name in own else next(private) for name, _ in computed}
         frame, nodes = frame._hoisted([node for _, node in computed], call)
         if computed:
             frame = frame._with([(new[name], node) for (name, _), node in zip(computed, nodes)], call)
@@ -435,20 +463,29 @@ def _is_in_order(outputs: Sequence[Output]) -> bool:
     return True
 
 
-def _keys(on: Any, left_on: Any, right_on: Any) -> List[str]:
-    """The names of the keys of a join."""
-    if on is None and left_on is not None and _names(left_on) == _names(right_on):
-        on = left_on
-    if on is None or on == [] or (left_on is not None and on is not left_on):
+def _keys(on: Any, left_on: Any, right_on: Any, schema: Schema) -> List[str]:
+    """The names of the keys of a join: those of `on`, or of `left_on` and `right_on` if these are the same."""
+    sides = [it for it in (left_on, right_on) if it is not None]
+    given = sides if on is None and len(sides) == 2 else [on] if on is not None and not sides else []
+    keys = [_names((it,), schema, "a join") for it in given]
+    if not keys or not keys[0] or keys[0] != keys[-1]:
         raise UnsupportedError("a join takes on=: the keys have the same names on both sides. Rename those of the left side by rename")
-    return _names(on)
+    return keys[0]
 
 
-def _names(keys: Any) -> List[str]:
-    each = [named(it) for it in _flat((keys,))]
+def _names(given: Iterable[Any], schema: Schema, what: str) -> List[str]:
+    """The names of columns. What is computed, or has another name, is refused."""
+    each = [expr for it in _flat(given) for expr in expanded(named(it), schema)]
     if any(expr._node[0] != "col" or expr._alias is not None for expr in each):
-        raise UnsupportedError("a key of a join is a column: compute it before, by with_columns")
+        raise UnsupportedError(f"{what} takes columns as they are: compute or rename them before, by with_columns or rename")
     return [expr._node[1] for expr in each]
+
+
+def _nesting(value: Any) -> int:
+    """How deep the arrays and objects of a JSON value stand one in another."""
+    if not isinstance(value, (dict, list)):
+        return 0
+    return 1 + max(map(_nesting, value.values() if isinstance(value, dict) else value), default=0)
 
 
 def _flat(given: Iterable[Any]) -> List[Any]:

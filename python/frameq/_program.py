@@ -6,10 +6,11 @@ import os
 import shutil
 import subprocess
 import tempfile
-from typing import IO, Any, Iterator, List, NamedTuple, Optional, Sequence, Union
+import warnings
+from typing import IO, Iterator, List, Mapping, NamedTuple, Optional, Sequence, Union
 
 from ._faults import ProgramNotFoundError, fault
-from ._kinds import Schema
+from ._kinds import AnyKind, Schema, schema_of
 from ._results import DataFrame, read_frame
 
 Path = Union[str, "os.PathLike[str]"]
@@ -45,12 +46,27 @@ def find_program(program: Optional[Path] = None) -> str:
 
 
 @contextlib.contextmanager
-def _plan_file(plan: dict) -> Iterator[str]:
+def _plan_file(plan: Union[Path, dict]) -> Iterator[str]:
+    """The file of a plan; that of an object is there for a while."""
+    if not isinstance(plan, dict):
+        yield os.path.abspath(os.fspath(plan))
+        return
     with tempfile.TemporaryDirectory(prefix="frameq-") as room:
         path = os.path.join(room, "plan.json")
         with open(path, "w", encoding="utf-8") as file:
             json.dump(plan, file, ensure_ascii=False)
         yield path
+
+
+def _plan_object(plan: Union[Path, dict]) -> Optional[dict]:
+    """The JSON object of a plan, if it is one."""
+    if isinstance(plan, dict):
+        return plan
+    try:
+        with open(plan, encoding="utf-8") as file:
+            return json.load(file)
+    except (OSError, ValueError, RecursionError):
+        return None
 
 
 def _words_of_files(files: Sequence[str]) -> List[str]:
@@ -59,15 +75,24 @@ def _words_of_files(files: Sequence[str]) -> List[str]:
 
 
 def _run(
-    plan: dict, words: Sequence[str], files: Sequence[str], calls: Sequence[str], settings: Settings, out: Union[int, IO[bytes]]
+    plan: Union[Path, dict],
+    words: Sequence[str],
+    files: Sequence[str],
+    calls: Sequence[str],
+    settings: Settings,
+    out: Union[int, IO[bytes]],
 ) -> bytes:
     """Runs the program, and gives what it wrote if that is not written elsewhere. Raises its fault."""
     program = find_program(settings.program)
     with _plan_file(plan) as path:
         command = [program, "--plan", path, "--details", *settings.words(), *words, *_words_of_files(files)]
         ran = subprocess.run(command, stdout=out, stderr=subprocess.PIPE, check=False)
+    said = ran.stderr.decode("utf-8", "replace")
     if ran.returncode != 0:
-        raise fault(ran.stderr.decode("utf-8", "replace"), ran.returncode, plan, files, calls)
+        raise fault(said, ran.returncode, _plan_object(plan), files, calls)
+    if said:
+        # (a program that is not built says that what ran is not proved; it is said of the call of the package's user)
+        warnings.warn(said.strip(), stacklevel=4)
     return ran.stdout or b""
 
 
@@ -76,7 +101,7 @@ def explain(plan: dict, calls: Sequence[str], program: Optional[Path]) -> str:
     return _run(plan, ["--explain"], [], calls, Settings(program=program), subprocess.PIPE).decode("utf-8")
 
 
-def collect(plan: dict, files: Sequence[str], schema: Optional[Schema], calls: Sequence[str], settings: Settings) -> DataFrame:
+def collect(plan: Union[Path, dict], files: Sequence[str], schema: Optional[Schema], calls: Sequence[str], settings: Settings) -> DataFrame:
     """The frame that a plan makes of files."""
     with tempfile.TemporaryFile() as out:
         _run(plan, [], files, calls, settings, out)
@@ -94,15 +119,12 @@ def run_plan(
     plan: Union[Path, dict],
     files: Sequence[Path],
     *,
-    schema: Optional[Schema] = None,
+    schema: Optional[Mapping[str, AnyKind]] = None,
     batch: Optional[int] = None,
     workers: Optional[int] = None,
     program: Optional[Path] = None,
 ) -> DataFrame:
     """Runs a plan that exists, a file or its JSON object, over files. Without the schema of its result each column is a text."""
-    given: Any = plan
-    if not isinstance(given, dict):
-        with open(given, encoding="utf-8") as file:
-            given = json.load(file)
     names = [os.fspath(file) for file in ([files] if isinstance(files, (str, os.PathLike)) else files)]
-    return collect(given, names, schema, (), Settings(batch, workers, program))
+    columns = None if schema is None else schema_of(schema)
+    return collect(plan, names, columns, (), Settings(batch, workers, program))

@@ -3,13 +3,14 @@ import csv
 import sys
 from typing import Any, Dict, Iterator, List, Optional, TextIO, Tuple, Union
 
+from ._faults import ArgumentsError, ColumnNotFoundError, UnsupportedError, WrongKindError
 from ._kinds import Kind, Schema
 
 Value = Union[int, str, bool, None]
 Row = Tuple[Value, ...]
 
 _SHOWN_ROWS, _SHOWN_WIDTH = 10, 24
-_READ = {Kind.INT: int, Kind.TEXT: str, Kind.BOOL: lambda text: text == "true"}
+_READ = {Kind.INT: int, Kind.TEXT: str, Kind.BOOL: {"true": True, "false": False}.__getitem__}
 
 
 class DataFrame:
@@ -54,6 +55,8 @@ class DataFrame:
     __hash__ = None  # type: ignore[assignment]
 
     def __getitem__(self, column: str) -> List[Value]:
+        if column not in self._schema:
+            raise ColumnNotFoundError(f"there is no column {column!r}; there are {', '.join(map(repr, self._schema))}")
         place = self.columns.index(column)
         return [row[place] for row in self._rows]
 
@@ -113,10 +116,25 @@ def _placed(text: str, width: int, kind: Kind) -> str:
 
 def read_frame(text: TextIO, schema: Optional[Schema]) -> DataFrame:
     """The frame that the program printed. Without a schema each column is a text."""
-    csv.field_size_limit(sys.maxsize)
-    lines = csv.reader(text, strict=True)
-    names = next(lines, [])
-    kinds = [Kind.TEXT] * len(names) if schema is None else list(schema.values())
-    readers = [_READ[kind] for kind in kinds]
-    rows = [tuple(None if cell == "" else read(cell) for read, cell in zip(readers, line)) for line in lines]
-    return DataFrame(dict(zip(names, kinds)), rows)
+    limit = csv.field_size_limit(sys.maxsize)
+    try:
+        return _frame_of(csv.reader(text, strict=True), schema)
+    except csv.Error as error:
+        # (before 3.11 it reads no character 0)
+        raise UnsupportedError(f"Python's csv cannot read the result: {error}; sink_csv writes it to a file") from None
+    finally:
+        csv.field_size_limit(limit)
+
+
+def _frame_of(records: Iterator[List[str]], schema: Optional[Schema]) -> DataFrame:
+    names = next(records, [])
+    if schema is None:
+        schema = dict.fromkeys(names, Kind.TEXT)
+    if list(schema) != names:
+        raise ArgumentsError(f"the result has the columns {names!r}, and the schema has {list(schema)!r}")
+    readers = [_READ[kind] for kind in schema.values()]
+    try:
+        rows = [tuple(None if cell == "" else read(cell) for read, cell in zip(readers, record)) for record in records]
+    except (KeyError, ValueError) as error:
+        raise WrongKindError(f"a cell of the result is not of the kind that the schema has: {error}") from None
+    return DataFrame(schema, rows)

@@ -1,4 +1,5 @@
 """What each call writes, beside the plan by hand; and what is refused."""
+import io
 import unittest
 
 from repository import fq
@@ -95,6 +96,15 @@ class Expressions(unittest.TestCase):
             (lambda: frame().select("a", C("b").alias("a")), fq.DuplicateError, "'a'"),
             (lambda: frame().select(), fq.NoColumnError, "one column"),
             (lambda: frame().filter("a"), fq.WrongKindError, "Boolean"),
+            (lambda: frame().filter(C("nowhere").rolling_sum(2) > 3), fq.ColumnNotFoundError, "'nowhere'"),
+            (lambda: frame().filter(C("t").rolling_sum(2) > 3), fq.WrongKindError, "String"),
+            (lambda: frame().drop(C("a") + 1), fq.UnsupportedError, "drop"),
+            (lambda: frame().unique(subset=C("a").alias("b")), fq.UnsupportedError, "unique"),
+            (lambda: fq.concat, fq.UnsupportedError, "scan_csv"),
+            (lambda: fq.when, fq.UnsupportedError, "filter"),
+            (lambda: fq.scan_csv(io.StringIO("a\n"), schema={"a": int}), fq.UnsupportedError, "names"),
+            (lambda: frame().group_by("a").sum(), fq.UnsupportedError, ".agg(all().sum())"),
+            (lambda: frame().group_by("a").mean(), fq.UnsupportedError, "//"),
         ]:
             with self.subTest(words), self.assertRaises(error) as raised:
                 wrong()
@@ -115,6 +125,23 @@ class Steps(unittest.TestCase):
         for wrong in [{}, {"schema": {"a": float}}, {"schema": {"a": int}, "separator": ";"}, {"schema": {"a": int}, "skip_rows": 1}]:
             with self.subTest(wrong), self.assertRaises(fq.UnsupportedError):
                 fq.scan_csv("a.csv", **wrong)
+
+    def test_own_plan(self):
+        """A change of the object that a frame gives changes no frame."""
+        lazy = frame().filter(C("a") > 1)
+        lazy.plan()["steps"][0]["filter"][0] = "lt"
+        self.assertEqual(steps(lazy), [{"filter": ["gt", A, 1]}])
+
+    def test_deep(self):
+        """Operators one in another, as deep as the program reads a plan, and no deeper."""
+        condition = C("p")
+        for _ in range(123):
+            condition = ~condition
+        self.assertEqual(len(steps(frame().filter(condition))), 1)
+        with self.assertRaisesRegex(fq.UnsupportedError, "by halves"):
+            frame().filter(~condition)
+        with self.assertRaisesRegex(fq.UnsupportedError, "by halves"):
+            frame().filter(*[C("p")] * 500)
 
     def test_filter(self):
         """Several conditions are one."""
@@ -185,6 +212,10 @@ class Steps(unittest.TestCase):
         )
         self.assertEqual(list(lazy.collect_schema()), ["a", "b", "b_right", "w"])
         self.assertEqual(frame(a=INT).join(right, left_on="a", right_on="a").plan()["version"], 1)
+        one = steps(frame(a=INT).join(right, on="a"))
+        for same in [{"on": C("a")}, {"on": ["a"]}, {"left_on": C("a"), "right_on": ["a"]}, {"on": "a", "maintain_order": "left"}]:
+            with self.subTest(same):
+                self.assertEqual(steps(frame(a=INT).join(right, **same)), one)
 
     def test_joins_refused(self):
         """What a join cannot be."""
@@ -195,7 +226,13 @@ class Steps(unittest.TestCase):
             (lambda: frame().join(right, left_on="a", right_on="w"), fq.UnsupportedError),
             (lambda: frame().join(right.filter(C("a") > 1), on="a"), fq.UnsupportedError),
             (lambda: frame().join(right, on="a", maintain_order="right"), fq.UnsupportedError),
+            (lambda: frame().join(right, on="a", maintain_order="up"), fq.UnsupportedError),
             (lambda: frame().join(right), fq.UnsupportedError),
+            (lambda: frame().join(right, on=()), fq.UnsupportedError),
+            (lambda: frame().join(right, left_on="a"), fq.UnsupportedError),
+            (lambda: frame().join(right, on="a", right_on="a"), fq.UnsupportedError),
+            (lambda: frame().join(right, on=C("a") + 1), fq.UnsupportedError),
+            (lambda: frame().join(right, on=["a", "a"]), fq.DuplicateError),
             (lambda: frame().join(right, on="b"), fq.ColumnNotFoundError),
             (lambda: frame(a=TEXT).join(right, on="a"), fq.WrongKindError),
             (lambda: frame(a=INT, w=INT, w_right=INT).join(right, on="a"), fq.DuplicateError),
@@ -230,6 +267,16 @@ class Steps(unittest.TestCase):
             ],
         )
         self.assertEqual(list(key.collect_schema().items()), [("a", INT), ("high", BOOL), ("n", INT)])
+        named = frame(a=INT, b=INT).group_by(C("a") + 1, _0=C("b") * 2).len("n")
+        self.assertEqual(
+            steps(named)[:2],
+            [
+                {"with_columns": [["_1", ["add", A, 1]], ["_0", ["mul", B, 2]]]},
+                {"group_by": {"keys": ["_1", "_0"], "aggs": [["_2", "len"]]}},
+            ],
+        )
+        rest = frame(a=INT, b=INT, t=TEXT).group_by("t").agg(fq.all().max())
+        self.assertEqual(steps(rest), [{"group_by": {"keys": ["t"], "aggs": [["a", "max", "a"], ["b", "max", "b"]]}}])
 
     def test_sql(self):
         """A plan is a query, over the tables that are named."""
@@ -247,6 +294,7 @@ class Steps(unittest.TestCase):
             steps(two.unique("b", keep="first")),
             [{"group_by": {"keys": ["b"], "aggs": [["a", "first", "a"]]}}, {"select": [["a", A], ["b", B]]}],
         )
+        self.assertEqual(steps(two.unique(C("a", "b"))), steps(two.unique()))
 
     def test_groups_refused(self):
         """What an aggregate cannot be."""

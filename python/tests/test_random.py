@@ -119,6 +119,10 @@ class Random(unittest.TestCase):
                 return plan, frame.plan()
             data = dict(zip(names, case.files))
             expected = oracle.answer(json.dumps(frame.plan()).encode(), [data[name] for name in frame.files()])
+            # (a source that no step joins is not in the plan that is written, so its files cannot fault there)
+            original = oracle.answer(case.plan, case.files)
+            if original.status == 0 and original != expected:
+                return plan, frame.plan(), original, expected
             result = os.path.join(room, "result")
             try:
                 frame.sink_csv(result, batch=case.batch, workers=case.workers, program=path)

@@ -98,6 +98,17 @@ class Runs(unittest.TestCase):
         self.assertEqual(fq.run_plan(lazy.plan(), lazy.files(), program=self.program).rows(), [("1", "x")])
         plan = self.file("plan.json", '{"version":1,"sources":[{"files":1,"columns":[["n","int"],["t","text"]]}],"steps":[]}')
         self.assertEqual(fq.run_plan(plan, lazy.files(), schema={"n": INT, "t": TEXT}, program=self.program).rows(), [(1, "x")])
+        self.assertEqual(fq.run_plan(plan, lazy.files(), schema={"n": int, "t": str}, program=self.program).rows(), [(1, "x")])
+        for schema, error in [
+            ({"n": int}, fq.ArgumentsError),
+            ({"t": str, "n": int}, fq.ArgumentsError),
+            ({"n": int, "t": int}, fq.WrongKindError),
+            ({"n": bool, "t": str}, fq.WrongKindError),
+        ]:
+            with self.subTest(schema), self.assertRaises(error):
+                fq.run_plan(plan, lazy.files(), schema=schema, program=self.program)
+        self.faulted(fq.PlanJsonError, lambda: fq.run_plan(self.file("none.json", "{"), lazy.files(), program=self.program))
+        self.faulted(fq.ReadError, lambda: fq.run_plan(os.path.join(self.room, "missing"), lazy.files(), program=self.program))
 
     def test_program(self):
         """A program that is not there."""
@@ -110,6 +121,23 @@ class Runs(unittest.TestCase):
         os.chmod(program, 0o755)
         fault = self.faulted(fq.HeaderError, lambda: self.scan("m\n", n=INT).collect(program=program))
         self.assertEqual(fault.line, "frameq: file 0: header differs")
+
+    def test_what_a_program_says(self):
+        """What it says beside an answer is a warning; where it says nothing of its end, the exception does."""
+        lazy = self.scan("n\n", n=INT)
+        program = self.file("frameq", "#!/bin/sh\necho 'frameq: not proved' >&2\necho n\n")
+        os.chmod(program, 0o755)
+        with self.assertWarnsRegex(UserWarning, "not proved"):
+            self.assertEqual(lazy.collect(program=program).rows(), [])
+        for end, said in [("kill -9 $$", "signal 9"), ("exit 9", "status 9")]:
+            with self.subTest(end):
+                self.file("frameq", f"#!/bin/sh\n{end}\n")
+                self.assertIn(said, str(self.faulted(fq.FrameqError, lambda: lazy.collect(program=program))))
+
+    def test_column(self):
+        """A column that a frame does not have."""
+        with self.assertRaises(fq.ColumnNotFoundError):
+            self.scan("n\n", n=INT).collect(program=self.program)["m"]
 
     def faulted(self, error, run):
         with self.assertRaises(error) as raised:
