@@ -103,7 +103,7 @@ def run(words, folder):
         child = subprocess.Popen(words, cwd=folder, stdin=subprocess.DEVNULL, stdout=out)
         _, status, usage = os.wait4(child.pid, 0)
     if status:
-        sys.exit(f"{words[0]} ended with {status}")
+        sys.exit(f"{words[0]} ended with status {os.waitstatus_to_exitcode(status)}")
     printed = os.path.getsize(os.path.join(folder, "printed")) / MEGABYTE
     return time.monotonic() - began, usage.ru_utime + usage.ru_stime, usage.ru_maxrss * 1024 / MEGABYTE, printed
 

@@ -1,15 +1,18 @@
 #!/usr/bin/env python3
 """Times parts of frameq beside plain Rust twins that do the same work.
 
-    bench/parts.py scan [MEGABYTES]     a scan of files; both programs run in turn, and must print the same
+    bench/parts.py scan [MEGABYTES]     a scan of files; both programs run in turn
     bench/parts.py groups               groupings; each program prints its own times and sums
     bench/parts.py joins                joins; each program prints its own times and sums
+
+Both have to give the same answers.
 
 Each task is a folder here with `program.rt.txt`, the program over the crates. The twin of `scan` is its `twin.rs`, and those of the
 others are in `twins`. All are built first, with the Rattle toolchain and with `rustc` or `cargo`.
 """
 import os
 import random
+import re
 import statistics
 import subprocess
 import sys
@@ -75,8 +78,15 @@ def beside_twins(folder, task, proof):
     own = build(folder, "bench", f"{HERE}/{task}/program.rt.txt", ["fq_column", "fq_ops"], proof)
     subprocess.run(["cargo", "build", "--release", "--offline", "--quiet", "--bin", task], cwd=f"{HERE}/twins", check=True,
                    env={**os.environ, "CARGO_TARGET_DIR": f"{folder}/twins"})
-    subprocess.run([own], check=True)
-    subprocess.run([f"{folder}/twins/release/{task}"], check=True)
+    if answers(own) != answers(f"{folder}/twins/release/{task}"):
+        sys.exit(f"{task}: the answers differ")
+
+
+def answers(program):
+    """What a program computed: its lines, which are shown, without its name and its times."""
+    said = subprocess.run([program], stdout=subprocess.PIPE, check=True, text=True).stdout
+    print(said, end="", flush=True)
+    return {re.sub(r"^[^,]*, (.*?):.*?(\d+ rows)", r"\1: \2", line) for line in said.splitlines()}
 
 
 def groups(folder):

@@ -26,6 +26,7 @@ from typing import Callable, Dict, List, Optional
 import pictures
 
 ROOT = os.path.dirname(os.path.dirname(os.path.abspath(__file__)))
+OWN = os.path.join(ROOT, "crates", "frameq", "out", "frameq")
 WORKERS = (1, 2, 4)
 REGIONS = 1_000
 PRODUCTS = 200_000
@@ -327,7 +328,8 @@ def first_line(words):
 
 
 def frameq(path, name="frameq"):
-    version = first_line(["git", "-C", ROOT, "describe", "--always", "--dirty"]) or "no version known"
+    is_own = os.path.samefile(path, OWN) if os.path.exists(OWN) else False
+    version = first_line(["git", "-C", ROOT, "describe", "--always", "--dirty"] if is_own else [path, "--version"]) or "no version known"
     words = lambda workers: lambda key, task: [path, "--plan", f"{key}.json", "--workers", str(workers), *task.files]
     return [Program(f"{name}, {workers} worker{'s' * (workers > 1)}", version, words(workers)) for workers in WORKERS]
 
@@ -429,7 +431,7 @@ def measure(words, folder, output):
     child.returncode = os.waitstatus_to_exitcode(status)
     if child.returncode:
         sys.exit(f"{words[0]} ended with status {child.returncode}")
-    return Measure(seconds, usage.ru_utime, usage.ru_stime, usage.ru_maxrss / 1024)
+    return Measure(seconds, usage.ru_utime, usage.ru_stime, usage.ru_maxrss * 1024 / 1e6)
 
 
 def rows_of(path):

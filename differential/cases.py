@@ -6,8 +6,8 @@ from collections import namedtuple
 import oracle
 from oracle import GREATEST, KINDS, LEAST
 
-# The most files of a plan.
-MOST_FILES = 16
+# The most sources and files of a plan.
+MOST_SOURCES, MOST_FILES = 8, 16
 
 # The bytes of a plan and of its files, in the order of the sources, and the rows of a batch and the workers of one of its runs.
 Case = namedtuple("Case", "plan files batch workers")
@@ -16,7 +16,7 @@ NAMES = ["a", "b", "c", "d", "e", "k", "a_right", "é", "x,y", ""]
 UNKNOWN = "nowhere"
 EDGES = [GREATEST, GREATEST - 1, LEAST, LEAST + 1]
 SMALL = [0, 0, 1, 1, 2, 3, -1, -7, 10]
-TEXTS = ["", "x", "y", "zz", "é", "\U0001f600", 'a"b', "p,q", "l\nm", "l\rm", "true", "7"]
+TEXTS = ["", "x", "y", "zz", "é", "\U0001f600", 'a"b', '"q"', "p,q", "l\nm", "l\rm", "true", "7", "sixteen bytes ab", "sixteen bytes abc"]
 
 
 class Draw(random.Random):
@@ -188,14 +188,18 @@ def source(draw):
 
 def null_values(draw):
     """Texts that are read as null: some that stand in the files, seldom the beginning or the end of one."""
-    texts = ["NA", "-", *TEXTS[:6], "0", "1", "-7", "true", "FALSE", "0x", str(GREATEST)[:-1]]
+    texts = ["NA", "-", *TEXTS, "0", "1", "-7", "FALSE", "0x", str(GREATEST)[:-1]]
     most = 17 if draw.often(2) else 4
     return [draw.choice(texts) for _ in range(draw.randint(0, most))]
 
 
 def plan(draw, versions=(1, 2)):
     version = draw.choice(versions)
-    sources = [source(draw) for _ in range(draw.choice([1, 1, 2, 2, 3]))]
+    count = draw.choice([1, 1, 2, 2, 3]) if draw.often(97) else draw.randint(4, MOST_SOURCES)
+    sources = [source(draw) for _ in range(count)]
+    if count > 5:
+        for one in sources:
+            one["files"] = 1
     for one in sources:
         if draw.often(60 if version == 2 else 0.5):
             one["null_values"] = null_values(draw)
@@ -317,8 +321,8 @@ def wrong_plan_text(draw, value):
 
 # ---- files
 
-# How often rows have numbers near the limits of 64 bits, texts that are longer than a read, and something wrong with them, in
-# percent.
+# How often rows have numbers near the limits of 64 bits, fields that are long, some of them longer than a read, and something wrong
+# with them, in percent.
 Care = namedtuple("Care", "edges long wrong")
 
 WRONG_FIELDS = ["1.5", "no", " 1", "1 ", "+-1", "+", "-", "9223372036854775808", "-9223372036854775809", "1e3", "٣", "truE "]
@@ -333,7 +337,7 @@ def field(draw, kind, care, nulls):
         return b""
     if kind == "int":
         number = draw.choice(EDGES if draw.often(care.edges) else SMALL)
-        return draw.choice(["%d", "%d", "%d", "%+d", "%03d"]).encode() % number
+        return draw.choice(["%d", "%d", "%d", "%+d", "%05000d" if draw.often(care.long) else "%03d"]).encode() % number
     if kind == "bool":
         return draw.choice([b"true", b"false", b"TRUE", b"False"])
     if draw.often(care.long):
@@ -375,7 +379,7 @@ def row(draw, columns, care, nulls):
 def csv_file(draw, columns, most_rows, care, nulls):
     if draw.often(care.wrong / 2):
         return draw.choice([b"", b"\n\n", b"\xef\xbb\xbf"])
-    lines = [header(draw, columns, care)]
+    lines = [b""] * draw.often(3) + [header(draw, columns, care)]
     for _ in range(draw.randint(0, most_rows)):
         lines.append(row(draw, columns, care, nulls))
         if draw.often(3):

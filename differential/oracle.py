@@ -505,9 +505,11 @@ def cell_of(kind, field):
         if field.lower() in (b"true", b"false"):
             return field.lower() == b"true"
         raise ValueError(field)
-    if not re.fullmatch(rb"[+-]?[0-9]+", field) or not fits(int(field)):
+    # (without the zeros before its digits, of which Python's int takes some thousands at most)
+    number = re.fullmatch(rb"([+-]?)0*([0-9]{1,19})", field)
+    if not number or not fits(int(number[1] + number[2])):
         raise ValueError(field)
-    return int(field)
+    return int(number[1] + number[2])
 
 
 def row_of(file, number, columns, nulls, record):

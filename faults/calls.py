@@ -73,7 +73,7 @@ def try_row(count, program, name):
 
 def try_calls(count, pool, room):
     if not shutil.which("rt"):
-        print("calls: not run: there is no rt")
+        count.add("calls", "not run", "there is no rt")
         return
     program, names, said = build_calls(room)
     if not program:

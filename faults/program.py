@@ -301,6 +301,9 @@ def try_program(count, pool, program, library, room):
     together(((try_sort, count, *it, library, sort) for it in runs for sort in SORTS), pool)
     own = frame("v\n20\n")
     together(((try_sort, count, "into a file", IntoFile(program, f"{room}/into-{sort}"), own, library, sort) for sort in SORTS), pool)
+    for sort in SORTS:
+        if not any(kind == f"program, {sort}" and ending != "met none" for kind, ending in count.endings):
+            count.add(f"program, {sort}", "never met", "no run makes a call that refuse.c refuses")
 
 
 def makes(run, library, sort, number):

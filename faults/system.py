@@ -55,7 +55,7 @@ def address_spaces(count, pool, program, rows):
     """Address spaces from where the program starts to where each run has enough."""
     least = next((it for it in range(1 << 20, 1 << 27, 1 << 18) if starts(program, it)), None)
     if least is None:
-        print("system, address space: not run: the program starts in none")
+        count.add("system, address space", "not run", "the program starts in none")
         return
 
     def until_enough(name, arguments, own):
@@ -171,19 +171,22 @@ def outputs(count, program, room):
     check(count, "output file", "the link", Answer(int(os.path.islink(f"{room}/link.csv")), "", ""), lambda it: it.status == 1)
     write(f"{room}/other.csv", other)
     into("a limited size", f"{room}/other.csv", data, failed, other, under=limit("fsize", 3), restore_signals=False)
+    os.symlink("nothing.csv", f"{room}/dangling.csv")
+    into("a link to nothing", f"{room}/dangling.csv", data, failed, None)
+    check(count, "output file", "what it leads to", Answer(int(os.path.exists(f"{room}/nothing.csv")), "", ""), lambda it: it.status == 0)
     into("a folder that is not there", f"{room}/none/new.csv", data, failed, None)
     into("a folder", room, data, failed, None)
     into("a full device", "/dev/full", data, failed, None)
     os.mkfifo(f"{room}/pipe")
+    pipe = os.open(f"{room}/pipe", os.O_RDWR)  # (does not wait for a reader)
     ran = subprocess.Popen([program.path, "--plan", steps, "-o", f"{room}/other.csv", f"{room}/pipe"], stderr=subprocess.DEVNULL)
-    with open(f"{room}/pipe", "wb") as pipe:
-        pipe.write(b"v\n1\n")
-        pipe.flush()
-        time.sleep(0.2)
-        ran.kill()
-        ran.wait()
+    os.write(pipe, b"v\n1\n")
+    time.sleep(0.2)
+    ran.kill()
+    ran.wait()
+    os.close(pipe)
     with open(f"{room}/other.csv", encoding="utf-8") as opened:
-        check(count, "output file", "killed midway", Answer(ran.returncode, opened.read(), ""), lambda it: it.out == other)
+        check(count, "output file", "killed midway", Answer(ran.returncode, opened.read(), ""), lambda it: it == Answer(-9, other, ""))
 
 
 def read_terminal(controller):
@@ -272,7 +275,7 @@ def threads(count, program, rows):
 
 def try_system(count, pool, program, room):
     if not shutil.which("prlimit"):
-        print("system: not run: there is no prlimit")
+        count.add("system", "not run", "there is no prlimit")
         return
     os.chmod(room, 0o755)
     rows = large_rows(room)
