@@ -18,7 +18,7 @@ pub enum Flaw {
     OpenQuote,
     /// Text follows a closing quote: it is a part of the field.
     TextAfterQuote,
-    /// A carriage return without a line feed ends a line.
+    /// A carriage return without a line feed ends a record.
     LoneReturn,
 }
 

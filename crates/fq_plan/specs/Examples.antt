@@ -244,7 +244,7 @@ RefusedStarts = (start_refusal 2 1 0 2 ≡ Some (Inputs 2 1))
     × (start_refusal 2 2 1024 17 ≡ Some Setting)
     × (start_refusal 2 2 1024 2 ≡ None)
 
--- what the last stage makes of the files' items, at a batch size
+-- what a run's tail makes of the files' items, at a batch size
 abbrev pub answer_by_items : ℕ → List ℕ → List (List ℕ) → Answer
 answer_by_items batch_size text files = elim (read_as_plan text) [
   | Err e ↦ no_plan e

@@ -49,7 +49,7 @@ impl Display for ConstantComparison<'_> {
         write_constant(f, self.left)?;
         f.write_str(", ")?;
         write_constant(f, self.right)?;
-        let hint = Hint::of_text(&[self.left, self.right]);
+        let hint = Hint::of(&[self.left, self.right], None);
         write!(f, "] compares two constants{hint}")
     }
 }

@@ -10,21 +10,11 @@ use std::fmt::{Display, Formatter, Write};
 pub struct Hint<'a>(Option<&'a str>);
 
 impl<'a> Hint<'a> {
-    /// The hint of the first operand that is a text.
-    pub fn of_text(operands: &[&'a Expr]) -> Hint<'a> {
-        for operand in operands {
-            if let Expr::Text(text) = operand {
-                return Hint(Some(text.as_str()));
-            }
-        }
-        Hint(None)
-    }
-
-    /// The hint of the first operand that is a text and names a column.
-    pub fn of_column(schema: &Schema, operands: &[&'a Expr]) -> Hint<'a> {
+    /// The hint of the first operand that is a text and, where a schema is given, names a column of it.
+    pub fn of(operands: &[&'a Expr], schema: Option<&Schema>) -> Hint<'a> {
         for operand in operands {
             if let Expr::Text(text) = operand
-                && schema.position(text.as_str()).is_some()
+                && schema.is_none_or(|schema| schema.position(text.as_str()).is_some())
             {
                 return Hint(Some(text.as_str()));
             }

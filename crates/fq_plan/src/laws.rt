@@ -17,8 +17,8 @@ ghost use Rattle.fq_plan.specs.Versions.{IsNextVersion, IsOldStep};
 ghost use Rattle.fq_run.specs.declared.faults.Fault.{Fault as AnyFault};
 ghost use Rattle.fq_run.specs.declared.faults.Fault.TheVariants.{Overflow as overflow};
 
-/// What a run's last stage makes of the items of all files, each worked by itself, is what the plan means over the files'
-/// streams, whatever the size of a batch.
+/// What a run's tail makes of the items of all files, each worked on by itself, is what the plan means over the files' streams,
+/// whatever the size of a batch.
 pub fn meaning_of_items()
     ensures { (p : Query) (batch_size : ℕ) (us : List (Stream AnyFault)) → 0 < batch_size → length us ≤ files_wanted p →
         outcome_of_taken p (all_items p batch_size us) ≡ meaning_of_files p us }

@@ -27,6 +27,6 @@ pub use fq_lanes::{Gate, MAX_WORKERS, NoGate, Report};
 pub use fq_run::{Explanation, Fault, MAX_FILES, Worked};
 pub use laws::{meaning_of_cut_files, meaning_of_items, plans_of_both_versions, renamed_steps};
 pub use misfits::{Misfit, misfit_of};
-pub use plans::{MAX_NULL_VALUES, MAX_SOURCES, Plan, Source, Step, read_plan};
+pub use plans::{MAX_NULL_VALUES, MAX_SOURCES, Plan, Source, read_plan};
 pub use refusals::Refusal;
 pub use step_words::StepText;

@@ -63,7 +63,7 @@ pub enum Step {
     },
 }
 
-/// A plan as its text spells it: 1 to [`MAX_SOURCES`] sources of [`MAX_FILES`] files at most, and up to [`MAX_STEPS`] steps.
+/// A plan as its text spells it: 1 to [`MAX_SOURCES`] sources, of [`MAX_FILES`] files at most in all, and up to [`MAX_STEPS`] steps.
 #[derive(Debug, Drop)]
 pub struct Plan {
     pub(crate) sources: Vec<Source>,

@@ -1,6 +1,6 @@
 //! What a refusal of the check is about, for people.
 use crate::plans::{Plan, Source};
-use crate::reasons::{Fit, Unfit};
+use crate::reasons::{Fit, Unfit, bail};
 use fq_column::{Memory, Schema};
 use std::alloc::Global;
 use std::fmt;
@@ -57,6 +57,9 @@ fn judge(alloc: Global, plan: &Plan) -> Fit {
 
 // The schema of a source.
 fn source_schema(alloc: Global, number: usize, source: &Source) -> Fit<Schema> {
+    if source.columns.is_empty() {
+        bail!(alloc, "source {number} has no columns")
+    }
     let mut names = Vec::with_capacity(alloc, source.columns.len())?;
     let mut kinds = Vec::with_capacity(alloc, source.columns.len())?;
     for (name, kind) in source.columns.iter() {
@@ -64,12 +67,11 @@ fn source_schema(alloc: Global, number: usize, source: &Source) -> Fit<Schema> {
         kinds.push(*kind)?;
     }
     Schema::new(names, kinds).or_else(|fault| {
-        let none = format!(in alloc; "source {number} has no columns")?;
         let names: Vec<&str> = source
             .columns
             .iter()
             .map(|(name, _)| name.as_str())
             .collect(alloc)?;
-        explain_columns(alloc, &names, names.len(), none.as_str(), fault)
+        explain_columns(alloc, &names, names.len(), fault)
     })
 }

@@ -4,6 +4,7 @@ use Rattle.fq_column.specs.declared.faults.StepFault.TheVariants as code
 use Rattle.fq_plan.specs.declared.faults.CheckFault.{CheckFault}
 use Rattle.fq_run.specs.declared.faults.Fault.{Fault}
 use Rattle.fq_run.specs.declared.faults.Fault.TheVariants.{Inputs, Setting, Memory, Read, Write}
+use Rattle.fq_plan.specs.declared.faults.PlanFault.{PlanFault}
 use Rattle.fq_plan.specs.declared.faults.PlanFault.TheVariants as plan
 use Rattle.fq_program.specs.declared.failures.Failure.{Failure}
 use Rattle.fq_review.specs.declared.drafts.DraftFault.{DraftFault}
@@ -40,7 +41,12 @@ status_of (Draft (draft.Read file)) = BadDevice
 status_of (Draft fault) = BadFile
 status_of DraftTooLarge = BadArguments
 
--- a refusal of the check as a failure of the program: a failed allocation has one name, wherever it was
+-- why a text is no plan, as a failure of the program: a failed allocation has one name, wherever it was
+abbrev pub misread : PlanFault → Failure
+misread plan.Memory = Run Memory
+misread fault = Plan fault
+
+-- a refusal of the check as a failure of the program
 abbrev pub refused : CheckFault → Failure
 refused refusal = elim refusal.code [ code.Memory ↦ Run Memory | _ ↦ Check refusal ]
 

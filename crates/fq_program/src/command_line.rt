@@ -26,9 +26,9 @@ use std::thread::Threads;
 ///
 /// `--plan PLAN [--batch N] [--workers N] [--output OUT] [--progress] FILE...` runs a plan over files and writes the frame to `out`, or in
 /// the place of a file, which stays as it was if there is no frame. `--plan PLAN --explain [FILE...]` writes there what the plan's steps
-/// leave, and opens no file of data; `--help` and `--version` write a text. At any status but 0 a message on `err` says why, in one line,
-/// and with `--details` in lines after it, and nothing is written to `out`, except that at 5, if the write itself failed, an unknown part
-/// may be. A failed write to `err` changes no status. The arguments are judged first, then the plan file, the plan, and the number of
+/// leave, and opens no file of data; `--help` and `--version` write a text. At any status but 0 `err` says why, in one line (of
+/// arguments that are refused, as `clap` has it), and with `--details` in lines after it, and nothing is written to `out`, except that at 5,
+/// if the write itself failed, an unknown part may be. A failed write to `err` changes no status. The arguments are judged first, then the plan file, the plan, and the number of
 /// files; then the files are opened in order, and read as the run goes on.
 ///
 /// `--plan PLAN --check [--limit N] FILE...` writes on `err` what is wrong in the files, and runs no step; `--draft [--null-values TEXTS]

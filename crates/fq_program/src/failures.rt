@@ -97,10 +97,15 @@ pub fn report<E: Write>(ending: Result<(), Failure>, err: &mut E) -> u8
 }
 
 impl From<PlanFault> for Failure {
-    ghost from_gives = { λ f e. e ≡ failure.Plan f };
+    ghost use Rattle.fq_program.specs.Ending.{misread};
+
+    ghost from_gives = { λ f e. e ≡ misread f };
 
     fn from(fault: PlanFault) -> Failure {
-        Failure::Plan(fault)
+        match fault {
+            PlanFault::Memory => Failure::MEMORY,
+            _ => Failure::Plan(fault),
+        }
     }
 }
 

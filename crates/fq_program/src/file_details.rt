@@ -149,7 +149,7 @@ impl Found {
     // What else is to be said of it.
     fn note(&self) -> &'static str {
         if self.is_open {
-            "; a quote opened here is not closed"
+            "; a quote in this record is not closed"
         } else {
             ""
         }

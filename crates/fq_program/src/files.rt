@@ -16,10 +16,10 @@ pub const STANDARD_OUTPUT: &str = "-";
 /// Goes back to the start of a terminal's line and clears it (ECMA-48, EL).
 pub const CLEAR_LINE: &str = "\r\x1b[K";
 
-/// Why a file is not opened.
+/// Why a file is not opened, or not made or put in its place.
 #[derive(Clone, Copy, Debug)]
 pub enum OpenFault {
-    /// There is no such file, or it cannot be opened.
+    /// There is no such file, or what was asked for failed.
     Failed(io::Error),
     /// An allocation failed.
     Memory,
@@ -43,13 +43,14 @@ pub trait Opener {
     /// What takes the frame in the place of a file.
     type Output: Output;
 
-    /// A reader of the file of this name, from its start.
+    /// A reader of the file of this name, from its start. Fails if there is none, or it cannot be opened.
     fn reader_of(&mut self, name: &str) -> Result<Self::Reader, OpenFault>;
 
-    /// What takes the place of the file of this name, once it is kept.
+    /// What takes the place of the file of this name, once it is kept. Fails if nothing can be written there.
     fn output_of(&mut self, alloc: Global, name: &str) -> Result<Self::Output, OpenFault>;
 
-    /// A reader of the file of this name, from its start, after a run. An opener may have none.
+    /// A second reader of the file of this name, from its start: before the first, for a check or a draft, or after a run, for details.
+    /// `Once` if the bytes come only once; a check or a draft then reads them into memory. An opener may have no second reader.
     fn reader_again(&mut self, _name: &str) -> Result<Self::Reader, Unread> {
         Err(Unread::Once)
     }

@@ -57,7 +57,7 @@ impl<W: Write> Write for Noted<W> {
 
 /// What is written in the place of a file.
 pub trait Output: Write + Drop {
-    /// Puts what was written in the place of the file.
+    /// Puts what was written in the place of the file. If that fails, the file stays as it was, unless it is written as it is.
     fn keep(self) -> io::Result<()>;
 
     /// Lets go what was written; the file stays as it was.
@@ -78,22 +78,19 @@ pub struct SystemOutput<'a, F: Files> {
 }
 
 impl<'a, F: Files> SystemOutput<'a, F> {
-    /// What takes the place of the file of this name, which need not be there. A link is followed.
+    /// What takes the place of the file of this name, which need not be there. A link is followed; one to nothing is refused, since what
+    /// it leads to could not stay as it was.
     pub fn create(alloc: Global, files: &'a F, name: &str) -> io::Result<SystemOutput<'a, F>> {
         match files.metadata(name) {
             Ok(there) if there.is_file() => {
                 let place = files.canonicalize(alloc, name)?;
                 SystemOutput::beside(alloc, files, place, Some(there.permissions()))
             }
-            Err(error) if error.kind() == ErrorKind::NotFound => {
-                let place = PathBuf::from_str(alloc, name)?;
-                if files.symlink_metadata(name).is_ok() {
-                    SystemOutput::as_it_is(files, place)
-                } else {
-                    SystemOutput::beside(alloc, files, place, None)
-                }
-            }
             Ok(_) => SystemOutput::as_it_is(files, PathBuf::from_str(alloc, name)?),
+            Err(error)
+                if error.kind() == ErrorKind::NotFound && files.symlink_metadata(name).is_err() => {
+                SystemOutput::beside(alloc, files, PathBuf::from_str(alloc, name)?, None)
+            }
             Err(error) => Err(error),
         }
     }

@@ -39,6 +39,7 @@ pub struct Check {
     problems: u64,
     headers: u64,
     rows: u64,
+    long: u64,
     flaws: u64,
     fields: Vec<ColumnFields>,
 }
@@ -69,6 +70,7 @@ impl Check {
             problems: 0,
             headers: 0,
             rows: 0,
+            long: 0,
             flaws: 0,
             fields: Vec::new(alloc),
         }
@@ -255,8 +257,10 @@ impl Check {
         match problem {
             Problem::NoHeader | Problem::Header(_) => self.headers = self.headers.saturating_add(1),
             Problem::Width(_) => self.rows = self.rows.saturating_add(1),
+            Problem::TooLong => self.long = self.long.saturating_add(1),
             Problem::Flaw(_) => self.flaws = self.flaws.saturating_add(1),
-            Problem::Field(_) | Problem::TooLong => {}
+            // (counted with their texts)
+            Problem::Field(_) => {}
         }
         if self.left > 0 {
             self.left -= 1;
@@ -288,6 +292,12 @@ impl Check {
             self.rows,
             "row of another width",
             "rows of another width",
+            err,
+        );
+        let _ = write_count(
+            self.long,
+            "file with too many rows",
+            "files with too many rows",
             err,
         );
         let _ = write_count(

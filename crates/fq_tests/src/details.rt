@@ -73,11 +73,15 @@ fn a_quote_that_is_not_closed(rt: HostRuntime) -> Result<(), Fail> {
         &[
             (
                 "id,v\n1,\"5\n2,6\n",
-                "file 0, row 1, column 1: bad cell\n  0:2: column \"v\": \"5\\n2,6\\n\" is not an int; a quote opened here is not closed",
+                "file 0, row 1, column 1: bad cell\n  0:2: column \"v\": \"5\\n2,6\\n\" is not an int; a quote in this record is not closed",
             ),
             (
                 "id,v\n1,5\n2,6,\"\n3,7\n",
-                "file 0, row 2: wrong number of fields\n  0:3: 3 fields, the header has 2; a quote opened here is not closed",
+                "file 0, row 2: wrong number of fields\n  0:3: 3 fields, the header has 2; a quote in this record is not closed",
+            ),
+            (
+                "id,v\n1,2\n\"3\n\",\"x\n",
+                "file 0, row 2, column 0: bad cell\n  0:3: column \"id\": \"3\\n\" is not an int; a quote in this record is not closed",
             ),
             (
                 "id,v\n1,x\n2,\"6\n",
@@ -327,6 +331,14 @@ fn steps_of_the_wrong_shape(rt: HostRuntime) -> Result<(), Fail> {
             (
                 r#"{"select":["id"]}"#,
                 ".select[0]: \"id\" is not an array; an output is [NAME, EXPRESSION]",
+            ),
+            (
+                r#"{"with_columns":{"double":["add",{"col":"id"},{"col":"id"}]}}"#,
+                ".with_columns: {..} is not an array of outputs, each [NAME, EXPRESSION]",
+            ),
+            (
+                r#"{"group_by":{"keys":"id","aggs":[["n","len"]]}}"#,
+                ".group_by.keys: \"id\" is not an array of strings",
             ),
             (
                 r#"{"group_by":{"keys":["id"],"agg":[]}}"#,

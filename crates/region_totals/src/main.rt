@@ -27,6 +27,7 @@ use fq_ops::{Agg, Function, GroupFault, Grouper, MAX_GROUPED_ROWS, What, group_s
 use std::alloc::Global;
 use std::io;
 use std::io::{Read, Write};
+use std::process::ExitCode;
 use thiserror::Error;
 
 /// The rows of a batch.
@@ -36,7 +37,7 @@ const BATCH_SIZE: u32 = 1024;
 #[derive(Debug, Drop, Error)]
 enum Failure {
     #[error("the steps do not fit the columns: {0}")]
-    Step(#[from] StepFault),
+    Step(StepFault),
     #[error(transparent)]
     Scan(#[from] ScanFault),
     #[error(transparent)]
@@ -51,9 +52,34 @@ enum Failure {
     Write(#[from] io::Error),
 }
 
-fn main(rt: HostRuntime) -> Result<(), Failure> {
-    let text = totals(rt.alloc(), rt.stdin())?;
-    rt.stdout().write_all(text.as_slice())?;
+impl From<StepFault> for Failure {
+    fn from(fault: StepFault) -> Failure {
+        match fault {
+            StepFault::Memory => Failure::Memory(Memory),
+            _ => Failure::Step(fault),
+        }
+    }
+}
+
+fn main(rt: HostRuntime) -> ExitCode {
+    let (mut out, mut err) = (rt.stdout(), rt.stderr());
+    match print_totals(rt.alloc(), rt.stdin(), &mut out) {
+        Ok(()) => ExitCode::SUCCESS,
+        Err(failure) => {
+            let _ = writeln!(err, "region_totals: {failure}");
+            ExitCode::FAILURE
+        }
+    }
+}
+
+// Prints the totals of a file.
+fn print_totals<R: Read + Drop, W: Write>(
+    alloc: Global,
+    file: R,
+    out: &mut W,
+) -> Result<(), Failure> {
+    let text = totals(alloc, file)?;
+    out.write_all(text.as_slice())?;
     Ok(())
 }
 

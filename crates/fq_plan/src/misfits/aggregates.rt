@@ -1,5 +1,5 @@
 //! Why a value spells no aggregate.
-use crate::misfits::parts::{Explained, Judge};
+use crate::misfits::parts::{Explained, Judge, Listed};
 use crate::reading::values::{three_items, two_items};
 use crate::reasons::{Fit, Segment, within};
 use crate::words::{AGGREGATES, function as read_function};
@@ -27,4 +27,8 @@ impl Explained for Agg {
         judge.item::<String>(2, column)?;
         Ok(())
     }
+}
+
+impl Listed for Agg {
+    const ITEMS: &'static str = "aggregates, each [NAME, \"len\"] or [NAME, FUNCTION, COLUMN]";
 }

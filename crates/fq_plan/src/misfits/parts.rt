@@ -23,6 +23,12 @@ pub trait Explained: Spelled {
     fn explain(judge: Judge, value: &Value) -> Fit;
 }
 
+/// A part that stands in arrays of its sort.
+pub trait Listed: Explained {
+    /// What such an array holds.
+    const ITEMS: &'static str;
+}
+
 /// Judges values by a version of the language; its methods give what a value spells, or why it does not.
 #[derive(Clone, Copy)]
 pub struct Judge {
@@ -144,6 +150,10 @@ impl Explained for String {
     }
 }
 
+impl Listed for String {
+    const ITEMS: &'static str = "strings";
+}
+
 impl Explained for i64 {
     fn explain(judge: Judge, value: &Value) -> Fit {
         judge.wrong(value, "is not a whole number of 64 bits")
@@ -162,10 +172,15 @@ impl Explained for How {
     }
 }
 
-impl<T: Explained> Explained for Vec<T> {
+impl<T: Listed> Explained for Vec<T> {
     fn explain(judge: Judge, value: &Value) -> Fit {
         let Some(items) = value.as_array() else {
-            return judge.wrong(value, "is not an array");
+            bail!(
+                judge.alloc,
+                "{} is not an array of {}",
+                Found(value),
+                T::ITEMS
+            );
         };
         for (number, item) in items.iter().enumerate() {
             judge.item::<T>(number, item)?;
@@ -180,10 +195,18 @@ impl Explained for (String, Kind) {
     }
 }
 
+impl Listed for (String, Kind) {
+    const ITEMS: &'static str = "columns, each [NAME, KIND]";
+}
+
 impl Explained for (String, Expr) {
     fn explain(judge: Judge, value: &Value) -> Fit {
         explain_pair::<String, Expr>(judge, value, "an output is [NAME, EXPRESSION]")
     }
+}
+
+impl Listed for (String, Expr) {
+    const ITEMS: &'static str = "outputs, each [NAME, EXPRESSION]";
 }
 
 // Why a value is no array of two parts, of which the form says what they are.

@@ -1,5 +1,5 @@
 //! Why a value spells no source, and why it spells no plan.
-use crate::misfits::parts::{Explained, Judge};
+use crate::misfits::parts::{Explained, Judge, Listed};
 use crate::plans::{MAX_NULL_VALUES, MAX_SOURCES, Source, Step, Version, file_count};
 use crate::reading::plans::version_number;
 use crate::reasons::{Fit, Segment, Unfit, bail, within};
@@ -61,6 +61,10 @@ impl Explained for Source {
         let few = judge.at_most(texts.len(), MAX_NULL_VALUES, "texts");
         within(Segment::Member("null_values"), few)
     }
+}
+
+impl Listed for Source {
+    const ITEMS: &'static str = "sources";
 }
 
 // Nothing if a source may have so many files.

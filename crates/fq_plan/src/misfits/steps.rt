@@ -1,5 +1,5 @@
 //! Why a value spells no step.
-use crate::misfits::parts::{Explained, Judge};
+use crate::misfits::parts::{Explained, Judge, Listed};
 use crate::plans::Step;
 use crate::reading::values::has_members;
 use crate::reasons::{Fit, Segment, within};
@@ -28,6 +28,10 @@ impl Explained for Step {
         }
         Ok(())
     }
+}
+
+impl Listed for Step {
+    const ITEMS: &'static str = "steps";
 }
 
 // Nothing if the parts of a join fit.

@@ -6,16 +6,9 @@ use fq_places::Quoted;
 use std::alloc::Global;
 use std::fmt::Write;
 
-/// What the refusal of so many columns, or of none, is about, if it is about more than the fault says.
-pub fn explain_columns<T>(
-    alloc: Global,
-    names: &[&str],
-    count: usize,
-    none: &str,
-    fault: StepFault,
-) -> Fit<T> {
+/// What the refusal of so many columns is about, if it is about more than the fault says.
+pub fn explain_columns<T>(alloc: Global, names: &[&str], count: usize, fault: StepFault) -> Fit<T> {
     match fault {
-        StepFault::NoColumn => bail!(alloc, "{none}"),
         StepFault::TooMany => bail!(alloc, "{count} columns; at most {MAX_COLUMNS}"),
         StepFault::DoubleName => {
             for (number, name) in names.iter().enumerate() {

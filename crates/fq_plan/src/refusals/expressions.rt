@@ -19,7 +19,7 @@ pub fn explain_kind(alloc: Global, schema: &Schema, expression: &Expr) -> Fit {
         Expr::One(op, part) => match part.kind_in(schema) {
             Ok(kind) => {
                 let (op, kind) = (unary_word(*op), kind_word(kind));
-                let hint = Hint::of_column(schema, &[part]);
+                let hint = Hint::of(&[part], Some(schema));
                 bail!(alloc, "{op}: {kind}{hint}")
             }
             Err(_) => explain_kind(alloc, schema, part),
@@ -27,7 +27,7 @@ pub fn explain_kind(alloc: Global, schema: &Schema, expression: &Expr) -> Fit {
         Expr::Two(op, left, right) => match (left.kind_in(schema), right.kind_in(schema)) {
             (Ok(first), Ok(second)) => {
                 let (op, first, second) = (binary_word(*op), kind_word(first), kind_word(second));
-                let hint = Hint::of_column(schema, &[left, right]);
+                let hint = Hint::of(&[left, right], Some(schema));
                 bail!(alloc, "{op}: {first} and {second}{hint}")
             }
             (Err(_), _) => explain_kind(alloc, schema, left),

@@ -14,6 +14,9 @@ pub fn explain_join<T>(
     on: &[String],
     fault: StepFault,
 ) -> Fit<T> {
+    if on.is_empty() {
+        bail!(alloc, "on is empty")
+    }
     for name in on {
         explain_key(alloc, left, right, name.as_str())?;
     }
@@ -24,7 +27,7 @@ pub fn explain_join<T>(
     let is_key = |column: &usize| on.iter().any(|key| key.as_str() == right.name(*column));
     let keys = (0..right.len()).filter(is_key).count();
     let count = left.len().saturating_add(right.len()).saturating_sub(keys);
-    explain_columns(alloc, &names, count, "on is empty", fault)
+    explain_columns(alloc, &names, count, fault)
 }
 
 // Nothing if both sides have the key, of one kind.

@@ -55,7 +55,7 @@ fn explain_rows<T>(alloc: Global, schema: &Schema, step: &RowStep, fault: StepFa
             explain_kind(alloc, schema, predicate)?;
             match predicate.kind_in(schema) {
                 Ok(kind) if kind != Kind::Truth => {
-                    let (kind, hint) = (kind_word(kind), Hint::of_column(schema, &[predicate]));
+                    let (kind, hint) = (kind_word(kind), Hint::of(&[predicate], Some(schema)));
                     bail!(alloc, "the condition is {kind}{hint}")
                 }
                 _ => explain_fault(alloc, fault),
@@ -79,6 +79,9 @@ fn explain_outputs<T>(
     count: usize,
     fault: StepFault,
 ) -> Fit<T> {
+    if outputs.is_empty() {
+        bail!(alloc, "select has no outputs")
+    }
     for (name, expression) in outputs {
         let fits = explain_kind(alloc, schema, expression);
         of_output(alloc, name.as_str(), fits)?;
@@ -87,7 +90,7 @@ fn explain_outputs<T>(
         .iter()
         .map(|output| output.0.as_str())
         .collect(alloc)?;
-    explain_columns(alloc, &names, count, "select has no outputs", fault)
+    explain_columns(alloc, &names, count, fault)
 }
 
 // Why the source of a number cannot be joined, if so many can be.
@@ -120,7 +123,7 @@ fn explain_grouping<T>(
     let names = keys.iter().map(|key| key.as_str());
     let names = names.chain(aggs.iter().map(|agg| agg.name.as_str()));
     let names: Vec<&str> = names.collect(alloc)?;
-    explain_columns(alloc, &names, names.len(), "", fault)
+    explain_columns(alloc, &names, names.len(), fault)
 }
 
 // What fits, or why the output of this name does not.
@@ -156,6 +159,6 @@ fn explain_roll<T>(
     match fault {
         StepFault::Window => bail!(alloc, "{window} is not from 1 to {MAX_WINDOW}"),
         StepFault::Samples => bail!(alloc, "{samples} is not from 1 to the window, {window}"),
-        _ => explain_columns(alloc, &[], count, "", fault),
+        _ => explain_columns(alloc, &[], count, fault),
     }
 }
