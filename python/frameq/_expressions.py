@@ -23,7 +23,7 @@ _INSTEAD = {
     "str": "there are no text functions",
     "dt": "there are no dates: keep them as texts, the year first, which compare in order",
     "list": "there are no lists",
-    "is_in": 'write (col("a") == x) | (col("a") == y)',
+    "is_in": 'write (col("a") == x) | (col("a") == y), or join many values from a file by how="semi"',
     "cum_sum": "a rolling_sum over at most 65,536 rows is what there is",
     "rolling_mean": "there are no floats: rolling_sum is what there is",
     "abs": "write it by a filter for each sign, or by a multiplication",
