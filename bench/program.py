@@ -328,7 +328,7 @@ def first_line(words):
 
 
 def frameq(path, name="frameq"):
-    is_own = os.path.samefile(path, OWN) if os.path.exists(OWN) else False
+    is_own = os.path.exists(OWN) and os.path.samefile(path, OWN)
     version = first_line(["git", "-C", ROOT, "describe", "--always", "--dirty"] if is_own else [path, "--version"]) or "no version known"
     words = lambda workers: lambda key, task: [path, "--plan", f"{key}.json", "--workers", str(workers), *task.files]
     return [Program(f"{name}, {workers} worker{'s' * (workers > 1)}", version, words(workers)) for workers in WORKERS]
@@ -497,7 +497,7 @@ def binary(given: Optional[str]):
     if given:
         return os.path.abspath(given)
     subprocess.run([os.path.join(ROOT, "tools", "build")], check=True)
-    return os.path.join(ROOT, "crates", "frameq", "out", "frameq")
+    return OWN
 
 
 def arguments():

@@ -281,7 +281,8 @@ class LazyFrame:
         return LazyFrame(self._main, rights, (*self._steps, {"join": step}), (*self._calls, call), schema)
 
     def _joined_schema(self, other: "LazyFrame", keys: Sequence[str], how: str) -> Schema:
-        _no_doubles(keys, "join")
+        if len(set(keys)) < len(keys):
+            raise DuplicateError("a join has a key twice")
         for key in keys:
             if kind_of(("col", key), self._schema) != kind_of(("col", key), other._schema):
                 raise WrongKindError(f"the key {key!r} has another kind on each side; there are no casts")
