@@ -1,1 +1,3 @@
 pub mod CheckLemmas
+pub mod DraftLemmas
+pub mod DraftedKindLemmas

@@ -1,10 +1,17 @@
--- The kind that a draft gives a column, by its fields.
-use Rattle.std.specs.Prelude.{◌≡◌, Bool, false, ℕ, zero, suc, List, [], ◌∷◌, Option, Some, None, is_some, if◌then◌else◌}
+-- What files draft: the kind of a column, by its fields, and the sources.
+use Rattle.std.specs.Prelude.{◌≡◌, ◌==◌, ◌<◌, Bool, true, false, ℕ, zero, suc, List, [], ◌∷◌, ◌++◌, Option, Some, None, drop, get_or, is_some, if◌then◌else◌, length, min, reverse, slice_get, String}
+use Rattle.std.specs.Cmp.Lexicographic.{pointwise}
 use Rattle.std.specs.Fmt.{signed_decimal}
+use Rattle.std.specs.Global.{Global}
+use Rattle.std.specs.List.{flat_map, list_all}
 use Rattle.std.specs.Str.{bytes_eq}
 use Rattle.fq_column.specs.declared.cells.Kind.{Kind}
 use Rattle.fq_column.specs.declared.cells.Kind.TheVariants as kind
+use Rattle.fq_column.specs.Frame.{Name, same_name}
 use Rattle.fq_csv.specs.Field.{is_null, truth_of, whole_of}
+use Rattle.fq_csv.specs.File.{Record}
+use Rattle.fq_review.specs.Checked.{names_in}
+use Rattle.fq_review.specs.declared.drafts.Source.{Source}
 use Rattle.fq_review.specs.declared.guesses.Guess.{Guess}
 
 -- whether a field is a whole number as one is printed: without a plus, and without zeros before its digits
@@ -47,3 +54,38 @@ kind_of_counts i b t = Some kind.Text
 -- a guess has counted these fields, the last first
 abbrev pub HasCounted : List (List ℕ) → Guess → List (List ℕ) → Type 0
 HasCounted nulls g fields = joined_kind nulls fields ≡ kind_of_counts g.ints g.bools g.texts.total
+
+-- ---- sources
+
+-- the fields at a place of the rows of a width
+abbrev pub fields_at : ℕ → ℕ → List Record → List (List ℕ)
+fields_at width place [] = []
+fields_at width place (row ∷ rows) = if length row == width then get_or row place [] ∷ fields_at width place rows else fields_at width place rows
+
+-- each column of a source has counted its fields of these rows, the last first; a row of another width is left out
+abbrev pub HasTaken : List (List ℕ) → Source → List Record → Type 0
+HasTaken nulls source rows =
+    (i : ℕ) (column : String Global × Guess) → slice_get source.columns.items i ≡ Some column → HasCounted nulls column.1 (fields_at (length source.columns.items) i rows)
+
+-- whether a file begins with a header of these names
+abbrev pub has_header : List Name → List Record → Bool
+has_header names [] = false
+has_header names (header ∷ rows) = pointwise same_name names header
+
+-- a source is of these files, by their records: each begins with its names, and what follows is taken
+pub record IsSourceOf (nulls : List (List ℕ)) (source : Source) (files : List (List Record)) : Type 0 where
+  pub some_file : 0 < length files
+  pub count : source.files ≡ min (length files) 65535
+  pub headers : list_all (has_header (names_in source.columns.items)) files ≡ true
+  pub taken : HasTaken nulls source (reverse (flat_map (drop 1) files))
+
+-- the first of these files, if there are any, has another header than a source
+abbrev pub BeginsOther : Source → List (List Record) → Type 0
+BeginsOther source [] = Unit {0}
+BeginsOther source (file ∷ files) = has_header (names_in source.columns.items) file ≡ false
+
+-- the sources of files in order: one for each run of files with one header
+abbrev pub AreSourcesOf : List (List ℕ) → List Source → List (List Record) → Type 0
+AreSourcesOf nulls [] files = files ≡ []
+AreSourcesOf nulls (source ∷ sources) files =
+    (own rest : List (List Record)) × (files ≡ own ++ rest) × IsSourceOf nulls source own × BeginsOther source rest × AreSourcesOf nulls sources rest

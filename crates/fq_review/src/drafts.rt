@@ -1,7 +1,16 @@
 //! A plan that files draft.
-ghost use Rattle.std.specs.Prelude.{OnOk};
-ghost use Rattle.fq_csv.specs.Readers.{IsPlain};
-ghost use Rattle.fq_places.specs.Marks.{IsSound};
+ghost use Rattle.std.specs.Prelude.{◌≡◌, ◌∷◌, [], ◌++◌, ℕ, List, Some, IfOk, MatchOption, OnOk, false, length, map, reverse, string_bytes};
+ghost use Rattle.std.specs.Cmp.Lexicographic.{pointwise};
+ghost use Rattle.csv.specs.Reading.{default_config, records as records_of, strip_bom};
+ghost use Rattle.csv.specs.Records.{fields_of};
+ghost use Rattle.fq_column.specs.Frame.{same_name};
+ghost use Rattle.fq_csv.specs.File.{Record};
+ghost use Rattle.fq_csv.specs.Readers.{HasLeft, IsPlain};
+ghost use Rattle.fq_places.specs.Marks.{HasMarks, IsSound, marks_of};
+ghost use Rattle.fq_places.specs.declared.marks.Mark.{Mark as MarkValue};
+ghost use Rattle.fq_review.specs.Checked.{names_in};
+ghost use Rattle.fq_review.specs.Drafted.{AreSourcesOf, HasTaken};
+ghost use Rattle.fq_review.specs.declared.drafts.Source.{Source as SourceValue};
 
 use crate::guesses::Guess;
 use crate::headers::has_names;
@@ -92,14 +101,21 @@ impl Source {
         nulls: &NullValues,
         place: (u16, u64),
         row: &ByteRecord,
-    ) -> Result<(), Memory> {
+    ) -> Result<(), Memory>
+        ensures files { self.new.files ≡ self.old.files }
+        ensures names { OnOk result (names_in self.new.columns.items ≡ names_in self.old.columns.items) }
+        ensures taken { OnOk result ((rows : List Record) → HasTaken nulls.now self.old rows → HasTaken nulls.now self.new (fields_of row.now ∷ rows)) }
+    {
         if row.len() != self.columns.len() {
             let (rows, first) = self.left_out.unwrap_or((0, place));
             self.left_out = Some((rows.saturating_add(1), first));
             return Ok(());
         }
-        for (field, column) in row.iter().zip(self.columns.iter_mut()) {
-            column.1.add(alloc, field, nulls, place)?;
+        for at in 0..self.columns.len() {
+            let Some(field) = row.get(at) else {
+                unreachable!()
+            };
+            self.columns[at].1.add(alloc, field, nulls, place)?;
         }
         Ok(())
     }
@@ -107,7 +123,10 @@ impl Source {
 
 impl Draft {
     /// A draft of no file, in which these texts are null.
-    pub fn new(alloc: Global, nulls: NullValues) -> Draft {
+    pub fn new(alloc: Global, nulls: NullValues) -> Draft
+        ensures nulls { result.nulls ≡ nulls }
+        ensures sources { AreSourcesOf nulls result.sources.items [] }
+    {
         Draft {
             alloc,
             nulls,
@@ -132,7 +151,11 @@ impl Draft {
         &mut self,
         records: A,
         marks: B,
-    ) -> Result<(), DraftFault> {
+    ) -> Result<(), DraftFault>
+        ensures nulls { self.new.nulls ≡ self.old.nulls }
+        ensures sources { OnOk result ((bytes : List ℕ) → A.remaining records ≡ Some bytes → B.remaining marks ≡ Some bytes → (files : List (List Record)) → AreSourcesOf self.old.nulls self.old.sources.items files →
+            AreSourcesOf self.old.nulls self.new.sources.items (files ++ records_of default_config (strip_bom bytes) ∷ [])) }
+    {
         let file = self.files;
         self.files = file.saturating_add(1);
         let source = self.read_source(file, records, marks)?;
@@ -146,7 +169,11 @@ impl Draft {
         file: u16,
         records: A,
         marks: B,
-    ) -> Result<Source, DraftFault> {
+    ) -> Result<Source, DraftFault>
+        ensures nulls { self.new.nulls ≡ self.old.nulls }
+        ensures sources { IfOk result (λ source. (bytes : List ℕ) → A.remaining records ≡ Some bytes → B.remaining marks ≡ Some bytes → (files : List (List Record)) → AreSourcesOf self.old.nulls self.old.sources.items files →
+            AreSourcesOf self.old.nulls (self.new.sources.items ++ source ∷ []) (files ++ records_of default_config (strip_bom bytes) ∷ [])) }
+    {
         let mut records = match LinedRecords::new(self.alloc, records, marks) {
             Ok(records) => records,
             Err(cause) => return Err(fault_of(file, cause)),
@@ -155,33 +182,59 @@ impl Draft {
             return Err(DraftFault::NoHeader { file });
         }
         let mut source = self.take_source(file, &records.row)?;
-        for _ in 0..u64::MAX {
-            let Some(line) = next_line(file, &mut records)? else {
-                break;
-            };
-            source.take_row(self.alloc, &self.nulls, (file, line), &records.row)?;
-        }
+        self.take_rows(file, &mut source, &mut records)?;
         Ok(source)
     }
 
+    // Takes the rows that are left of a file of this number.
+    fn take_rows<A: Read + Drop, B: Read + Drop>(
+        &self,
+        file: u16,
+        source: &mut Source,
+        records: &mut LinedRecords<A, B>,
+    ) -> Result<(), DraftFault>
+        requires plain { IsPlain records.old.records }
+        requires sound { IsSound records.old.marks }
+        ensures files { source.new.files ≡ source.old.files }
+        ensures names { OnOk result (names_in source.new.columns.items ≡ names_in source.old.columns.items) }
+        ensures taken { OnOk result ((rs : List Record) (marks : List MarkValue) → HasLeft A.remaining records.old.records rs → HasMarks B.remaining records.old.marks marks →
+            (rows : List Record) → HasTaken self.now.nulls source.old rows → HasTaken self.now.nulls source.new (reverse rs ++ rows)) }
+    {
+        for _ in 0..u64::MAX {
+            let Some(line) = next_line(file, records)? else {
+                return Ok(());
+            };
+            source.take_row(self.alloc, &self.nulls, (file, line), &records.row)?;
+        }
+        Err(DraftFault::Read { file })
+    }
+
     // The source of a file with this header: the last, with one file more, if it has the same names, and else another.
-    fn take_source(&mut self, file: u16, header: &ByteRecord) -> Result<Source, DraftFault> {
-        let has_header = |last: &mut Source| has_names(header, last.columns.as_slice());
-        if let Some(mut source) = self.sources.pop_if(has_header) {
+    fn take_source(&mut self, file: u16, header: &ByteRecord) -> Result<Source, DraftFault>
+        ensures nulls { self.new.nulls ≡ self.old.nulls }
+        ensures sources { IfOk result (λ source. (files : List (List Record)) → AreSourcesOf self.old.nulls self.old.sources.items files →
+            AreSourcesOf self.old.nulls (self.new.sources.items ++ source ∷ []) (files ++ (fields_of header.now ∷ []) ∷ [])) }
+    {
+        if self.goes_on(header) {
+            let Some(mut source) = self.sources.pop() else {
+                unreachable!()
+            };
             source.files = source.files.saturating_add(1);
             return Ok(source);
         }
-        let names = names_of(self.alloc, file, header)?;
-        let mut columns = Vec::with_capacity(self.alloc, names.len())?;
-        for name in names {
-            columns.push((name, Guess::new(self.alloc)))?;
+        new_source(self.alloc, file, header)
+    }
+
+    // Whether a file with this header is one more of the last source.
+    fn goes_on(&self, header: &ByteRecord) -> bool
+        ensures none { self.now.sources.items ≡ [] → result ≡ false }
+        ensures last { (sources : List SourceValue) (last : SourceValue) → self.now.sources.items ≡ sources ++ last ∷ [] →
+            result ≡ pointwise same_name (names_in last.columns.items) (fields_of header.now) }
+    {
+        match self.sources.last() {
+            Some(last) => has_names(header, last.columns.as_slice()),
+            None => false,
         }
-        Ok(Source {
-            first: file,
-            files: 1,
-            columns,
-            left_out: None,
-        })
     }
 
     /// The plan, in JSON.
@@ -290,8 +343,14 @@ fn next_line<A: Read + Drop, B: Read + Drop>(
     requires sound { IsSound records.old.marks }
     ensures plain { OnOk result (IsPlain records.new.records) }
     ensures sound { OnOk result (IsSound records.new.marks) }
+    ensures reads { IfOk result (λ line. (rs : List Record) (marks : List MarkValue) → HasLeft A.remaining records.old.records rs → HasMarks B.remaining records.old.marks marks →
+        (rest : List MarkValue) × HasMarks B.remaining records.new.marks rest
+        × MatchOption line (rs ≡ []) (λ _. (r : List Record) × (rs ≡ fields_of records.new.row ∷ r) × HasLeft A.remaining records.new.records r)) }
 {
-    records.next().map_err(|cause| fault_of(file, cause))
+    match records.next() {
+        Ok(line) => Ok(line),
+        Err(cause) => Err(fault_of(file, cause)),
+    }
 }
 
 // A text as JSON has it.
@@ -299,13 +358,37 @@ fn quoted(alloc: Global, text: &String) -> Result<String, Memory> {
     to_string(alloc, text).map_err(|_| Memory)
 }
 
+// A source of one file with this header, of which no row is read.
+fn new_source(alloc: Global, file: u16, header: &ByteRecord) -> Result<Source, DraftFault>
+    ensures files { IfOk result (λ source. source.files ≡ 1) }
+    ensures names { IfOk result (λ source. names_in source.columns.items ≡ fields_of header.now) }
+    ensures taken { IfOk result (λ source. (nulls : List (List ℕ)) → HasTaken nulls source []) }
+{
+    let names = names_of(alloc, file, header)?;
+    let mut columns = Vec::with_capacity(alloc, names.len())?;
+    for name in names {
+        columns.push((name, Guess::new(alloc)))?;
+    }
+    Ok(Source {
+        first: file,
+        files: 1,
+        columns,
+        left_out: None,
+    })
+}
+
 // The names of a header.
-fn names_of(alloc: Global, file: u16, header: &ByteRecord) -> Result<Vec<String>, DraftFault> {
+fn names_of(alloc: Global, file: u16, header: &ByteRecord) -> Result<Vec<String>, DraftFault>
+    ensures { IfOk result (λ names. map string_bytes names.items ≡ fields_of header.now) }
+{
     if header.len() > MAX_COLUMNS {
         return Err(DraftFault::TooMany { file });
     }
     let mut names = Vec::with_capacity(alloc, header.len())?;
-    for field in header {
+    for at in 0..header.len() {
+        let Some(field) = header.get(at) else {
+            unreachable!()
+        };
         let Ok(name) = str::from_utf8(field) else {
             return Err(DraftFault::BadName { file });
         };

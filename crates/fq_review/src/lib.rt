@@ -8,10 +8,12 @@ mod checks;
 mod drafts;
 mod guesses;
 mod headers;
+mod laws;
 mod problems;
 mod tallies;
 
 pub use checks::{Check, Expected};
 pub use drafts::{Draft, DraftFault};
 pub use headers::Header;
+pub use laws::drafted_cells;
 pub use problems::{BadField, Width, wanted};
