@@ -233,7 +233,8 @@ class Detailed:
     def __init__(self, program, folder, own_plan, rows, details):
         os.mkdir(folder)
         self.program, self.plan, self.file = program, write(f"{folder}/plan.json", own_plan), write(f"{folder}/rows.csv", rows)
-        self.details = details.replace("P", self.plan).replace("F", self.file)
+        names = {"P": self.plan, "F": self.file}
+        self.details = re.sub("[PF](?=:)", lambda name: names[name[0]], details)
 
     def whole(self, **how):
         return self.program.run(["--details", "--plan", self.plan, self.file], **how)
