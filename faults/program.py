@@ -227,14 +227,18 @@ class IntoFile:
         return answer._replace(out=held if answer.status == 0 else "")
 
 
+def with_names(text, paths):
+    """A text with these paths where the letters for them stand before a colon. All at once, since a path may hold such a letter."""
+    return re.sub("[PF](?=:)", lambda letter: paths[letter[0]], text)
+
+
 class Detailed:
     """A run with --details, in a folder of its own. Of its answer, what follows the line of the fault, or a part of that, is cut off."""
 
     def __init__(self, program, folder, own_plan, rows, details):
         os.mkdir(folder)
         self.program, self.plan, self.file = program, write(f"{folder}/plan.json", own_plan), write(f"{folder}/rows.csv", rows)
-        names = {"P": self.plan, "F": self.file}
-        self.details = re.sub("[PF](?=:)", lambda name: names[name[0]], details)
+        self.details = with_names(details, {"P": self.plan, "F": self.file})
 
     def whole(self, **how):
         return self.program.run(["--details", "--plan", self.plan, self.file], **how)
@@ -258,7 +262,7 @@ class Reviewed:
         os.mkdir(folder)
         paths = {"P": write(f"{folder}/plan.json", own_plan), "F": write(f"{folder}/rows.csv", rows)}
         self.program, self.arguments, self.own = program, [paths.get(it, it) for it in options], own
-        self.said = said.replace("F:", f"{paths['F']}:")
+        self.said = with_names(said, paths)
 
     def whole(self, **how):
         return self.program.run(self.arguments, **how)
