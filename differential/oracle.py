@@ -130,7 +130,7 @@ def has_lone_surrogate(value):
     return False
 
 
-# ---- reading a plan (fq_plan/specs/Spelling)
+# ---- reading a plan (fq_language/specs/Spelling)
 
 class WrongShape(Exception):
     """The JSON value is not a plan."""
@@ -297,7 +297,7 @@ def read_plan(text):
         raise Ending(3, "plan: wrong shape") from None
 
 
-# ---- the check of a plan (fq_plan/specs/Judged). Columns are a dict from names to kinds.
+# ---- the check of a plan (fq_language/specs/Judged). Columns are a dict from names to kinds.
 
 class Refusal(Exception):
     """Why a source or a step is refused."""

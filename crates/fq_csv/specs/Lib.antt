@@ -2,6 +2,7 @@ pub mod Buffer
 pub mod Cutting
 pub mod Field
 pub mod File
+pub mod Sources
 pub mod Printed
 pub mod Records
 pub mod Rows

@@ -12,13 +12,13 @@ use Rattle.fq_column.specs.Schema.{fields_of, schema_checks}
 use Rattle.fq_expr.specs.Expression.{Step}
 use Rattle.fq_expr.specs.Kinds.{step_schema, steps_schema}
 use Rattle.fq_ops.specs.AggregateData.{outputs_of}
-use Rattle.fq_plan.specs.Judged.{judged_step, judged_steps, refused_at, source_refusal}
-use Rattle.fq_plan.specs.Plan.{PlanStep, row_wise, join, group_by, rolling_sum}
-use Rattle.fq_run.specs.Sources.{Source}
+use Rattle.fq_language.specs.Judged.{judged_step, judged_steps, refused_at, source_refusal}
+use Rattle.fq_language.specs.Plan.{PlanStep, row_wise, join, group_by, rolling_sum}
+use Rattle.fq_csv.specs.Sources.{Source}
 use Rattle.fq_plan.specs.Stages.{operator_steps, stage_steps, Leads, Turns}
-use Rattle.fq_plan.specs.View.{field_of}
-use Rattle.fq_plan.specs.declared.faults.CheckFault.{CheckFault}
-use Rattle.fq_plan.specs.declared.faults.Place.TheVariants as place
+use Rattle.fq_language.specs.View.{field_of}
+use Rattle.fq_language.specs.declared.faults.CheckFault.{CheckFault}
+use Rattle.fq_language.specs.declared.faults.Place.TheVariants as place
 use Rattle.fq_run.specs.declared.operators.Operator.{Operator}
 use Rattle.fq_run.specs.declared.operators.Operator.TheVariants.{Rows, Join, GroupBy, RollingSum}
 use Rattle.fq_run.specs.declared.stages.Stage.{Stage}

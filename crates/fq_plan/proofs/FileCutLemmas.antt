@@ -8,8 +8,9 @@ use Rattle.fq_column.specs.Lists.{zip_with}
 use Rattle.fq_column.specs.Stream.{Stream, done, rename_fault}
 use Rattle.fq_plan.specs.Cuts.{joined, source_rows, GiveTheSameRows}
 use Rattle.fq_plan.specs.Meaning.{meaning, outcome}
-use Rattle.fq_plan.specs.Plan.{PlanStep, Query, files_wanted, side_files, main_fields}
-use Rattle.fq_run.specs.Sources.{Source, but_last, concat_streams, first_fault, frames_of, last_or, scan_fault, source_streams}
+use Rattle.fq_language.specs.Plan.{PlanStep, Query, files_wanted, side_files, main_fields}
+use Rattle.fq_csv.specs.Sources.{Source, but_last, last_or}
+use Rattle.fq_run.specs.Sources.{concat_streams, first_fault, frames_of, scan_fault, source_streams}
 use Rattle.fq_run.specs.declared.faults.Fault.{Fault}
 use Rattle.fq_run.proofs.LastLemmas.{but_last-snoc, last_or-snoc}
 use Rattle.fq_run.proofs.SourceOfFileLemmas.{HasMain, has_main, wanted-main}

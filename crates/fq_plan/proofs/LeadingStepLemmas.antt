@@ -7,11 +7,12 @@ use Rattle.fq_column.specs.Stream.{Stream, done, then_stream}
 use Rattle.fq_expr.specs.Steps.{apply_step, apply_steps, fields_after, fields_after_all}
 use Rattle.fq_expr.specs.Expression.{Step}
 use Rattle.fq_plan.specs.Meaning.{apply_plan_steps, meaning_of_sources}
-use Rattle.fq_plan.specs.Plan.{PlanStep, row_wise, join, group_by, rolling_sum, Query, front_of, rest_of, main_fields}
+use Rattle.fq_language.specs.Plan.{PlanStep, row_wise, join, group_by, rolling_sum, Query, front_of, rest_of, main_fields}
 use Rattle.fq_plan.specs.Tail.{finished, items_of, last_item, reading}
 use Rattle.fq_run.specs.Outcome.{frame_or_fault}
 use Rattle.fq_run.specs.Physical.{after_leading}
-use Rattle.fq_run.specs.Sources.{but_last, concat_streams, first_fault, frames_of}
+use Rattle.fq_csv.specs.Sources.{but_last}
+use Rattle.fq_run.specs.Sources.{concat_streams, first_fault, frames_of}
 use Rattle.fq_run.specs.declared.faults.Fault.{Fault}
 use Rattle.fq_run.specs.declared.faults.Fault.TheVariants.{Overflow}
 use Rattle.fq_run.proofs.LeadingStepLemmas.{concat_streams-append}

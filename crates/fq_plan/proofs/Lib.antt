@@ -1,14 +1,7 @@
-pub mod ReadingLemmas
-pub mod ValueLemmas
-pub mod SpellingLemmas
-pub mod LimitLemmas
 pub mod LeadingStepLemmas
 pub mod TailLemmas
-pub mod OnLiterals
 pub mod StageMeaning
 pub mod CheckLemmas
 pub mod SplitLemmas
 pub mod PreparedLemmas
 pub mod FileCutLemmas
-pub mod StepVersionLemmas
-pub mod VersionLemmas

@@ -7,14 +7,15 @@ use Rattle.fq_column.specs.Frame.{Fields}
 use Rattle.fq_expr.specs.Expression.{Step}
 use Rattle.fq_expr.specs.Front.{NumberedSteps}
 use Rattle.fq_expr.specs.Kinds.{steps_schema}
-use Rattle.fq_plan.specs.Judged.{checked, judged, judged_steps, source_refusal}
-use Rattle.fq_plan.specs.Plan.{PlanStep, row_wise, Query, IsWithinLimits, files_wanted, front_of, side_fields, main_fields, rest_of}
-use Rattle.fq_run.specs.Sources.{Source, but_last, last_or}
+use Rattle.fq_language.specs.Judged.{checked, judged, judged_steps, source_refusal}
+use Rattle.fq_language.specs.Plan.{PlanStep, row_wise, Query, IsWithinLimits, files_wanted, front_of, side_fields, main_fields, rest_of}
+use Rattle.fq_csv.specs.Sources.{Source, but_last, last_or}
 use Rattle.fq_plan.specs.Stages.{columns_of, query_of, stage_steps, IsChecked, Leads}
 use Rattle.fq_run.specs.Physical.{Physical, front_fields}
-use Rattle.fq_run.specs.Stages.{physical_of, source_of_files, Fit, IsRunnable}
-use Rattle.fq_plan.specs.declared.faults.CheckFault.{CheckFault}
-use Rattle.fq_run.specs.declared.stages.SourceFiles.{SourceFiles}
+use Rattle.fq_csv.specs.Sources.{source_of_files}
+use Rattle.fq_run.specs.Stages.{physical_of, Fit, IsRunnable}
+use Rattle.fq_language.specs.declared.faults.CheckFault.{CheckFault}
+use Rattle.fq_csv.specs.declared.sources.SourceFiles.{SourceFiles}
 use Rattle.fq_run.specs.declared.stages.Stage.{Stage}
 use Rattle.fq_plan.proofs.LeadingStepLemmas.{front-rest}
 use Rattle.fq_plan.proofs.CheckLemmas.{refusal_in, refusal-is, no-refusal, rows-passed, stages-passed}

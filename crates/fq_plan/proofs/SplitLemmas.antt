@@ -4,10 +4,10 @@ use Rattle.std.proofs.lemmas.List.{length-map, map-append}
 use Rattle.fq_expr.specs.Expression.{Step}
 use Rattle.fq_expr.specs.ExpressionData.{step_of}
 use Rattle.fq_expr.specs.declared.steps.RowStep.{RowStep}
-use Rattle.fq_plan.specs.Plan.{PlanStep, row_wise, join, group_by, rolling_sum, front_of, rest_of}
-use Rattle.fq_plan.specs.View.{plan_step_of}
-use Rattle.fq_plan.specs.declared.plans.Step.{Step as PlannedStep}
-use Rattle.fq_plan.specs.declared.plans.Step.TheVariants.{Rows, Join, GroupBy, RollingSum}
+use Rattle.fq_language.specs.Plan.{PlanStep, row_wise, join, group_by, rolling_sum, front_of, rest_of}
+use Rattle.fq_language.specs.View.{plan_step_of}
+use Rattle.fq_language.specs.declared.plans.Step.{Step as PlannedStep}
+use Rattle.fq_language.specs.declared.plans.Step.TheVariants.{Rows, Join, GroupBy, RollingSum}
 use Rattle.fq_expr.specs.declared.fronts.TheConstants.{MAX_STEPS}
 
 module _ {X : Type 0} where

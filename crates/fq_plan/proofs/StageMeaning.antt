@@ -15,15 +15,16 @@ use Rattle.fq_ops.specs.Join.{join_schema, join_stream, joined_fields}
 use Rattle.fq_ops.specs.Roll.{roll_stream}
 use Rattle.fq_ops.specs.declared.joins.How.{How}
 use Rattle.fq_ops.proofs.RefusalLemmas.{join-output}
-use Rattle.fq_plan.specs.Judged.{judged_step}
+use Rattle.fq_language.specs.Judged.{judged_step}
 use Rattle.fq_plan.specs.Meaning.{apply_plan_step, apply_plan_steps, fields_after, meaning, meaning_of_sources}
-use Rattle.fq_plan.specs.Plan.{PlanStep, row_wise, join, group_by, rolling_sum}
+use Rattle.fq_language.specs.Plan.{PlanStep, row_wise, join, group_by, rolling_sum}
 use Rattle.fq_plan.specs.Stages.{Leads, Turns, IsChecked, operator_steps, query_of, stage_steps}
 use Rattle.fq_plan.proofs.LeadingStepLemmas.{leading-steps}
 use Rattle.fq_run.specs.declared.operators.joining.TheConstants.{MAX_JOINED_ROWS}
 use Rattle.fq_run.specs.Outcome.{columns_after, frame_or_fault}
 use Rattle.fq_run.specs.Physical.{Physical, after_leading, front_fields, side_files, main_fields, outcome_of_run, outcome_of_sources}
-use Rattle.fq_run.specs.Sources.{Source, but_last, concat_streams, first_fault, frames_of, scan_fault, source_streams}
+use Rattle.fq_csv.specs.Sources.{Source, but_last}
+use Rattle.fq_run.specs.Sources.{concat_streams, first_fault, frames_of, scan_fault, source_streams}
 use Rattle.fq_run.specs.Stages.{Accepts, Fit, schema_with}
 use Rattle.fq_run.specs.Starting.{nothing, transform_of, transforms_of}
 use Rattle.fq_run.specs.Transforms.{whole, whole_all}

@@ -2,10 +2,11 @@
 use Rattle.std.proofs.Common.{◌≡◌, ℕ, ◌+◌, ◌<◌, ◌≤◌, List, [], ◌∷◌, map, length, drop, refl, ap, ◌∙◌}
 use Rattle.fq_column.specs.Stream.{Stream}
 use Rattle.fq_plan.specs.Meaning.{meaning_of_files}
-use Rattle.fq_plan.specs.Plan.{Query, files_wanted, side_files}
+use Rattle.fq_language.specs.Plan.{Query, files_wanted, side_files}
 use Rattle.fq_plan.specs.Tail.{finished, items_of, outcome_of_taken, reading, worked_items}
 use Rattle.fq_plan.proofs.LeadingStepLemmas.{concat_streams-items, finished-worked}
-use Rattle.fq_run.specs.Sources.{but_last, concat_streams, source_streams}
+use Rattle.fq_csv.specs.Sources.{but_last}
+use Rattle.fq_run.specs.Sources.{concat_streams, source_streams}
 use Rattle.fq_run.specs.Tail.{items_from, tagged, worked, worked_files}
 use Rattle.fq_run.specs.declared.faults.Fault.{Fault}
 use Rattle.fq_run.proofs.LeadingStepLemmas.{worked-joined}

@@ -1,13 +1,13 @@
 -- What a plan's text and the bytes of its files come to.
 use Rattle.std.specs.Prelude.{ℕ, List, Ok, Err}
 use Rattle.fq_csv.specs.Printed.{printed}
-use Rattle.fq_plan.specs.Judged.{judged}
+use Rattle.fq_language.specs.Judged.{judged}
 use Rattle.fq_plan.specs.Meaning.{meaning}
-use Rattle.fq_plan.specs.Plan.{file_streams}
-use Rattle.fq_plan.specs.Spelling.{read_as_plan}
-use Rattle.fq_plan.specs.declared.faults.CheckFault.{CheckFault}
+use Rattle.fq_language.specs.Plan.{file_streams}
+use Rattle.fq_language.specs.Spelling.{read_as_plan}
+use Rattle.fq_language.specs.declared.faults.CheckFault.{CheckFault}
 use Rattle.fq_run.specs.declared.faults.Fault.{Fault}
-use Rattle.fq_plan.specs.declared.faults.PlanFault.{PlanFault}
+use Rattle.fq_language.specs.declared.faults.PlanFault.{PlanFault}
 
 -- the text of a frame, a fault of the run, a refusal of the check, or why the text spells no plan
 pub data Answer : Type 0 where

@@ -1,8 +1,8 @@
 -- The rows of a plan's files by source, however they are cut into files.
 use Rattle.std.specs.Prelude.{◌≡◌, List, [], ◌∷◌, map, flat_map, length, take, drop}
 use Rattle.fq_column.specs.Frame.{Row}
-use Rattle.fq_plan.specs.Plan.{Query, files_wanted}
-use Rattle.fq_run.specs.Sources.{Source}
+use Rattle.fq_language.specs.Plan.{Query, files_wanted}
+use Rattle.fq_csv.specs.Sources.{Source}
 
 -- files joined, one after the other
 abbrev pub joined : List (List Row) → List Row

@@ -4,14 +4,14 @@ use Rattle.fq_column.specs.declared.faults.StepFault.TheVariants.{NoSuchColumn, 
 use Rattle.fq_column.specs.Stream.{rename_fault}
 use Rattle.fq_csv.specs.Printed.{printed}
 use Rattle.fq_plan.specs.Answer.{Answer, answer, prints, faults, refused, no_plan}
-use Rattle.fq_plan.specs.Judged.{refused_at}
+use Rattle.fq_language.specs.Judged.{refused_at}
 use Rattle.fq_run.specs.Run.{start_refusal, trace_of}
-use Rattle.fq_plan.specs.Plan.{file_streams}
+use Rattle.fq_language.specs.Plan.{file_streams}
 use Rattle.fq_run.specs.Sources.{scan_fault}
-use Rattle.fq_plan.specs.Spelling.{read_as_plan}
+use Rattle.fq_language.specs.Spelling.{read_as_plan}
 use Rattle.fq_plan.specs.Tail.{all_items, outcome_of_taken}
-use Rattle.fq_plan.specs.declared.faults.PlanFault.TheVariants.{Json, Shape}
-use Rattle.fq_plan.specs.declared.faults.Place.TheVariants.{Source, Step}
+use Rattle.fq_language.specs.declared.faults.PlanFault.TheVariants.{Json, Shape}
+use Rattle.fq_language.specs.declared.faults.Place.TheVariants.{Source, Step}
 use Rattle.fq_run.specs.declared.faults.Fault.TheVariants.{Inputs, Setting, Header, Width, BadCell, Overflow, RollRange, SumRange}
 
 -- a JSON text that was written with single quotes

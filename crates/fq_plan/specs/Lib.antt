@@ -1,12 +1,11 @@
-pub mod Parts
-pub mod Plan
-pub mod Spelling
-pub mod View
-pub mod Judged
+pub use Rattle.fq_language.specs.Parts
+pub use Rattle.fq_language.specs.Plan
+pub use Rattle.fq_language.specs.Spelling
+pub use Rattle.fq_language.specs.Judged
+pub use Rattle.fq_language.specs.Versions
 pub mod Meaning
 pub mod Cuts
 pub mod Tail
 pub mod Answer
 pub mod Examples
 pub mod Stages
-pub mod Versions

@@ -8,11 +8,12 @@ use Rattle.fq_expr.specs.Steps.{apply_step}
 use Rattle.fq_ops.specs.Group.{group_stream}
 use Rattle.fq_ops.specs.Join.{join_stream}
 use Rattle.fq_ops.specs.Roll.{roll_stream}
-use Rattle.fq_plan.specs.Judged.{judged_step}
-use Rattle.fq_plan.specs.Plan.{PlanStep, row_wise, join, group_by, rolling_sum, Query, item_at, side_files, main_fields}
+use Rattle.fq_language.specs.Judged.{judged_step}
+use Rattle.fq_language.specs.Plan.{PlanStep, row_wise, join, group_by, rolling_sum, Query, item_at, side_files, main_fields}
 use Rattle.fq_run.specs.declared.operators.joining.TheConstants.{MAX_JOINED_ROWS}
 use Rattle.fq_run.specs.Outcome.{frame_or_fault}
-use Rattle.fq_run.specs.Sources.{but_last, concat_streams, first_fault, frames_of, scan_fault, source_streams}
+use Rattle.fq_csv.specs.Sources.{but_last}
+use Rattle.fq_run.specs.Sources.{concat_streams, first_fault, frames_of, scan_fault, source_streams}
 use Rattle.fq_run.specs.declared.faults.Fault.{Fault}
 use Rattle.fq_run.specs.declared.faults.Fault.TheVariants.{Overflow, JoinRows, RollRange, SumRange}
 

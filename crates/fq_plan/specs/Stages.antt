@@ -3,10 +3,10 @@ use Rattle.std.specs.Prelude.{◌≡◌, ℕ, ◌+◌, pos, List, [], ◌∷◌,
 use Rattle.fq_column.specs.Frame.{Fields}
 use Rattle.fq_expr.specs.Kinds.{steps_schema}
 use Rattle.fq_ops.specs.AggregateData.{outputs_of}
-use Rattle.fq_plan.specs.Judged.{judged_step, source_refusal}
-use Rattle.fq_plan.specs.Plan.{PlanStep, row_wise, join, group_by, rolling_sum, Query, IsWithinLimits}
+use Rattle.fq_language.specs.Judged.{judged_step, source_refusal}
+use Rattle.fq_language.specs.Plan.{PlanStep, row_wise, join, group_by, rolling_sum, Query, IsWithinLimits}
 use Rattle.fq_run.specs.Physical.{Physical, side_fields, main_fields}
-use Rattle.fq_run.specs.declared.stages.SourceFiles.{SourceFiles}
+use Rattle.fq_csv.specs.declared.sources.SourceFiles.{SourceFiles}
 use Rattle.fq_run.specs.declared.operators.Operator.{Operator}
 use Rattle.fq_run.specs.declared.operators.Operator.TheVariants.{Rows, Join, GroupBy, RollingSum}
 use Rattle.fq_run.specs.declared.stages.Stage.{Stage}

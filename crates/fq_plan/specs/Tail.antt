@@ -6,9 +6,10 @@ use Rattle.fq_column.specs.Lists.{pieces}
 use Rattle.fq_column.specs.Stream.{Stream, done, faulted}
 use Rattle.fq_expr.specs.Steps.{fields_after_all}
 use Rattle.fq_plan.specs.Meaning.{outcome}
-use Rattle.fq_plan.specs.Plan.{Query, files_wanted, front_of, side_files, main_fields, rest_of}
+use Rattle.fq_language.specs.Plan.{Query, files_wanted, front_of, side_files, main_fields, rest_of}
 use Rattle.fq_run.specs.Physical.{Physical}
-use Rattle.fq_run.specs.Sources.{but_last, concat_streams, first_fault, frames_of}
+use Rattle.fq_csv.specs.Sources.{but_last}
+use Rattle.fq_run.specs.Sources.{concat_streams, first_fault, frames_of}
 use Rattle.fq_run.specs.Tail.{Taken, items_from, tagged, taken_streams, worked}
 use Rattle.fq_run.specs.declared.faults.Fault.{Fault}
 

@@ -1,13 +1,12 @@
 //! Checked plans.
 ghost use Rattle.std.specs.Prelude.{◌≡◌, ◌⊎◌, IsErrAnd, IsOk, IfOk, IfErr, Ok, Err, length};
 ghost use Rattle.fq_column.specs.declared.faults.StepFault.{StepFault as Code};
-ghost use Rattle.fq_plan.specs.Judged.{checked, judged, refused_at, IsPlaceOf};
-ghost use Rattle.fq_plan.specs.Plan.{files_wanted};
+ghost use Rattle.fq_language.specs.Judged.{checked, judged, refused_at, IsPlaceOf};
+ghost use Rattle.fq_language.specs.Plan.{files_wanted};
 
-use crate::faults::{CheckFault, Place};
-use crate::plans::{Plan, file_count};
 use fq_column::StepFault;
 use fq_expr::Front;
+use fq_language::{CheckFault, Place, Plan};
 use fq_run::PhysicalPlan;
 use std::alloc::Global;
 use std::marker::Model;
@@ -25,7 +24,7 @@ pub struct Checked {
 }
 
 impl Model for Checked {
-    ghost use Rattle.fq_plan.specs.Plan.{Query};
+    ghost use Rattle.fq_language.specs.Plan.{Query};
 
     ghost Value = { Query };
 
@@ -41,7 +40,8 @@ impl Model for Checked {
     ghost invariant = { λ c. IsChecked c.physical };
 }
 
-impl Plan {
+/// The check of a plan.
+pub trait Check: Drop {
     /// The plan, if each source's columns make a schema and each step can be made on the columns that the steps before it
     /// leave. A refused plan is dropped.
     ///
@@ -50,7 +50,11 @@ impl Plan {
     /// `NoSuchSource` if its number is not that of a source before the last; then as `join_schema`. A grouping: as
     /// `group_schema`. A rolling sum: as `roll_schema`. `Memory` if an allocation fails, with the place at which the check
     /// stood.
-    pub fn check(self, alloc: Global) -> Result<Checked, CheckFault>
+    fn check(self, alloc: Global) -> Result<Checked, CheckFault>;
+}
+
+impl Check for Plan {
+    fn check(self, alloc: Global) -> Result<Checked, CheckFault>
         ensures { (result ≡ checked self) ⊎ IsErrAnd result (λ e. (e.code ≡ Code.Memory) × IsPlaceOf (length self.sources) (length self.steps) e.place) }
     {
         let mut place = Place::Source(0);
@@ -68,8 +72,8 @@ fn check_plan(alloc: Global, plan: Plan, place: &mut Place) -> Result<Checked, S
     ensures ok { IfOk result (λ c. checked plan ≡ Ok c) }
     ensures refused { IfErr result (λ code. (checked plan ≡ Err (refused_at place.new code)) ⊎ (code ≡ Code.Memory)) }
 {
-    let Plan { sources, steps } = plan;
-    let inputs = file_count(&sources) as u16;
+    let inputs = plan.inputs();
+    let (sources, steps) = plan.into_parts();
     let mut sides = check_sources(alloc, sources, place)?;
     let Some(main) = sides.pop() else {
         unreachable!()

@@ -1,6 +1,5 @@
 //! Laws of the definitions, proved for all values.
-ghost use Rattle.std.specs.Prelude.{◌≡◌, ◌<◌, ◌≤◌, ℕ, All, List, [], Some, length, map};
-ghost use Rattle.serde_json.specs.Data.{Data};
+ghost use Rattle.std.specs.Prelude.{◌≡◌, ◌<◌, ◌≤◌, ℕ, List, length, map};
 ghost use Rattle.fq_column.specs.Frame.{Fields, Row};
 ghost use Rattle.fq_column.specs.Stream.{Stream, done, rename_fault};
 ghost use Rattle.fq_expr.specs.Expression.{Step as RowWise};
@@ -9,11 +8,9 @@ ghost use Rattle.fq_expr.specs.Steps.{apply_steps};
 ghost use Rattle.fq_expr.specs.declared.fronts.RowFault.{RowFault};
 ghost use Rattle.fq_plan.specs.Cuts.{GiveTheSameRows};
 ghost use Rattle.fq_plan.specs.Meaning.{meaning, meaning_of_files};
-ghost use Rattle.fq_plan.specs.Plan.{Query, files_wanted};
+ghost use Rattle.fq_language.specs.Plan.{Query, files_wanted};
 ghost use Rattle.fq_run.specs.Sources.{row_fault};
-ghost use Rattle.fq_plan.specs.Spelling.{plan_of};
 ghost use Rattle.fq_plan.specs.Tail.{all_items, outcome_of_taken};
-ghost use Rattle.fq_plan.specs.Versions.{IsNextVersion, IsOldStep};
 ghost use Rattle.fq_run.specs.declared.faults.Fault.{Fault as AnyFault};
 ghost use Rattle.fq_run.specs.declared.faults.Fault.TheVariants.{Overflow as overflow};
 
@@ -22,13 +19,6 @@ ghost use Rattle.fq_run.specs.declared.faults.Fault.TheVariants.{Overflow as ove
 pub fn meaning_of_items()
     ensures { (p : Query) (batch_size : ℕ) (us : List (Stream AnyFault)) → 0 < batch_size → length us ≤ files_wanted p →
         outcome_of_taken p (all_items p batch_size us) ≡ meaning_of_files p us }
-{}
-
-/// A plan of the first version, its number turned into the second's, is the same plan; no text in it is null but the empty one,
-/// and its joins are inner or left ones in which no null matches.
-pub fn plans_of_both_versions()
-    ensures { (former latter : Data) (p : Query) → IsNextVersion former latter → plan_of former ≡ Some p →
-        (plan_of latter ≡ Some p) × All (λ s. s.nulls ≡ []) p.sources × All IsOldStep p.steps }
 {}
 
 /// How the rows of a source are cut into files is not part of the answer: if the files of two plans with the same steps

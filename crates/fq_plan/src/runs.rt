@@ -1,7 +1,7 @@
 //! A checked plan over files.
 ghost use Rattle.std.specs.Prelude.{vec_len};
 ghost use Rattle.fq_plan.specs.Meaning.{meaning};
-ghost use Rattle.fq_plan.specs.Plan.{file_streams, files_wanted};
+ghost use Rattle.fq_language.specs.Plan.{file_streams, files_wanted};
 ghost use Rattle.fq_run.specs.Run.{IsAnswer, Tell};
 
 use crate::checks::Checked;

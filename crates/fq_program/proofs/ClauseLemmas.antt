@@ -5,15 +5,15 @@ use Rattle.std.specs.Prelude.{◌⊎◌, ◌==◌}
 use Rattle.std.specs.Result.{result_map_both}
 use Rattle.fq_column.specs.Frame.{Frame}
 use Rattle.fq_plan.specs.Meaning.{meaning}
-use Rattle.fq_plan.specs.Plan.{Query, files_wanted}
+use Rattle.fq_language.specs.Plan.{Query, files_wanted}
 use Rattle.fq_run.specs.Run.{start_refusal, IsStartFault, IsOfMeaning, Tell}
-use Rattle.fq_plan.specs.Plan.{file_streams}
+use Rattle.fq_language.specs.Plan.{file_streams}
 use Rattle.fq_run.specs.declared.faults.Fault.{Fault}
 use Rattle.fq_run.specs.declared.faults.Fault.TheVariants.{Inputs}
-use Rattle.fq_program.specs.Ending.{IsOutside}
+use Rattle.fq_shell.specs.Ending.{IsOutside}
 use Rattle.fq_program.specs.Program.{AreSettings, frame_of}
-use Rattle.fq_program.specs.declared.failures.Failure.TheVariants.{Run}
-use Rattle.fq_program.proofs.EndingLemmas.{kind-of-fault}
+use Rattle.fq_shell.specs.declared.failures.Failure.TheVariants.{Run}
+use Rattle.fq_shell.proofs.EndingLemmas.{kind-of-fault}
 
 -- why a run does not start
 abbrev pub start_at : ℕ → ℕ → Query → List (List ℕ) → Option Fault

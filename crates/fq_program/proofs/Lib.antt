@@ -1,3 +1,1 @@
-pub mod InputLemmas
-pub mod EndingLemmas
 pub mod ClauseLemmas

@@ -3,14 +3,14 @@ use Rattle.std.specs.Prelude.{◌≡◌, ℕ, ◌==◌, List, ◌++◌, map, cod
 use Rattle.std.specs.Result.{result_map_both}
 use Rattle.fq_column.specs.declared.faults.StepFault.TheVariants.{NoSuchColumn}
 use Rattle.fq_csv.specs.Printed.{printed}
-use Rattle.fq_plan.specs.Judged.{refused_at}
-use Rattle.fq_plan.specs.declared.faults.PlanFault.TheVariants.{Json, Shape}
-use Rattle.fq_plan.specs.declared.faults.Place.TheVariants.{Step}
+use Rattle.fq_language.specs.Judged.{refused_at}
+use Rattle.fq_language.specs.declared.faults.PlanFault.TheVariants.{Json, Shape}
+use Rattle.fq_language.specs.declared.faults.Place.TheVariants.{Step}
 use Rattle.fq_run.specs.declared.faults.Fault.TheVariants.{Inputs, Header, BadCell}
-use Rattle.fq_program.specs.Ending.{code_of}
+use Rattle.fq_shell.specs.Ending.{code_of}
 use Rattle.fq_program.specs.Program.{program}
-use Rattle.fq_program.specs.declared.failures.Failure.{Failure}
-use Rattle.fq_program.specs.declared.failures.Failure.TheVariants.{Plan, Check, Run}
+use Rattle.fq_shell.specs.declared.failures.Failure.{Failure}
+use Rattle.fq_shell.specs.declared.failures.Failure.TheVariants.{Plan, Check, Run}
 
 -- the output of an input, or its failure
 abbrev pub output : List ℕ → Result (List ℕ) Failure

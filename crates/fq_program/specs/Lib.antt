@@ -1,3 +1,4 @@
-pub mod Ending
+pub use Rattle.fq_shell.specs.Ending
+pub use Rattle.fq_shell.specs.Input
 pub mod Program
 pub mod Examples

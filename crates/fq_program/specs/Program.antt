@@ -1,24 +1,17 @@
 -- The program without arguments: a plan's line, then one CSV file.
-use Rattle.std.specs.Prelude.{◌≡◌, ℕ, ◌+◌, ◌==◌, not, None, List, [], ◌∷◌, length, drop, take_while, Result, Ok, Err, if◌then◌else◌}
+use Rattle.std.specs.Prelude.{◌≡◌, ℕ, ◌==◌, not, None, List, [], ◌∷◌, length, Result, Ok, Err, if◌then◌else◌}
 use Rattle.std.specs.Result.{result_map_both}
 use Rattle.fq_column.specs.Frame.{Frame}
-use Rattle.fq_plan.specs.Judged.{checked}
+use Rattle.fq_language.specs.Judged.{checked}
 use Rattle.fq_plan.specs.Meaning.{meaning}
-use Rattle.fq_plan.specs.Plan.{Query, files_wanted}
-use Rattle.fq_plan.specs.Plan.{file_streams}
-use Rattle.fq_plan.specs.Spelling.{read_as_plan}
+use Rattle.fq_language.specs.Plan.{Query, files_wanted}
+use Rattle.fq_language.specs.Plan.{file_streams}
+use Rattle.fq_language.specs.Spelling.{read_as_plan}
 use Rattle.fq_run.specs.Run.{start_refusal}
+use Rattle.fq_shell.specs.Input.{plan_line, file_after}
 use Rattle.fq_run.specs.declared.faults.Fault.TheVariants.{Inputs}
-use Rattle.fq_program.specs.declared.failures.Failure.{Failure}
-use Rattle.fq_program.specs.declared.failures.Failure.TheVariants.{Plan, Check, Run}
-
--- the bytes before the first line feed, or all
-abbrev pub plan_line : List ℕ → List ℕ
-plan_line input = take_while (λ c. not (c == 10)) input
-
--- the bytes after it
-abbrev pub file_after : List ℕ → List ℕ
-file_after input = drop (length (plan_line input) + 1) input
+use Rattle.fq_shell.specs.declared.failures.Failure.{Failure}
+use Rattle.fq_shell.specs.declared.failures.Failure.TheVariants.{Plan, Check, Run}
 
 -- the plan that a text spells, if the check does not refuse it
 abbrev pub checked_plan : List ℕ → Result Query Failure

@@ -2,21 +2,16 @@
 ghost use Rattle.std.specs.Prelude.{◌≢◌, ◌<◌, ◌^◌, length, IfErr, OnOk};
 ghost use Rattle.std.specs.Io.KnownBytes.{Keeps};
 ghost use Rattle.fq_run.specs.declared.faults.Fault.TheVariants as fault;
-ghost use Rattle.fq_program.specs.Ending.{done, bad_device};
-ghost use Rattle.fq_program.specs.declared.failures.Failure.TheVariants as failure;
+ghost use Rattle.fq_shell.specs.Ending.{done, bad_device};
+ghost use Rattle.fq_shell.specs.declared.failures.Failure.TheVariants as failure;
 
-use crate::details::{Learned, write_details};
-use crate::failures::{Failure, report};
-use crate::files::{OpenFault, Opener};
-use crate::inputs::{open, read_whole};
-use crate::options::Options;
-use crate::outputs::{Noted, Output};
 use crate::program::{checked_plan, run_over};
-use crate::reviews::{check_files, draft_plan};
-use crate::status::Status;
-use crate::usage::write_refusal;
 use clap::error::ErrorKind;
 use fq_plan::{Checked, Fault, read_plan};
+use fq_shell::{
+    Failure, Learned, Noted, OpenFault, Opener, Options, Output, Status, check_files, draft_of,
+    open, read_whole, report, write_details, write_refusal,
+};
 use std::alloc::Global;
 use std::io::{Read, Write};
 use std::sync::Wait;
@@ -134,6 +129,24 @@ fn read_plan_file<O: Opener>(
     let reader = open(files, name, Failure::PlanFile)?;
     learned.plan = read_whole(alloc, reader, Failure::PlanFile)?;
     checked_plan(alloc, learned.plan.as_slice())
+}
+
+// Writes a plan without steps whose sources are the data files, and on `err` what a reader of it may want to know.
+fn draft_plan<O: Opener, W: Write, E: Write>(
+    alloc: Global,
+    options: &Options<'_>,
+    files: &mut O,
+    out: &mut W,
+    err: &mut E,
+) -> Result<(), Failure>
+    ensures unwritten { IfErr result (λ f. f ≢ failure.Run fault.Write → Keeps (W.contents out.old) (W.contents out.new)) }
+{
+    let names = options.files();
+    let draft = draft_of(alloc, options, files)?;
+    draft.write_notes(names, err);
+    let text = draft.plan()?;
+    checked_plan(alloc, text.as_bytes())?;
+    write!(out, "{text}").map_err(|_| Failure::Run(Fault::Write))
 }
 
 // Writes what the steps of the plan leave, or its frame over the data files.

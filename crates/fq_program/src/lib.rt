@@ -6,23 +6,10 @@
 #![tactic(auto)]
 
 mod command_line;
-mod details;
-mod failures;
-mod file_details;
-mod files;
-mod inputs;
-mod options;
-mod outputs;
 mod program;
-mod progress;
-mod reviews;
-mod status;
-mod usage;
 
 pub use command_line::with_words;
-pub use failures::{Failure, report};
-pub use files::{OpenFault, Opener, SystemFiles};
-pub use fq_places::Unread;
-pub use outputs::{Noted, Output, SystemOutput};
+pub use fq_shell::{
+    Failure, Noted, OpenFault, Opener, Output, Status, SystemFiles, SystemOutput, Unread, report,
+};
 pub use program::one_input;
-pub use status::Status;

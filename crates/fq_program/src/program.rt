@@ -5,24 +5,17 @@ ghost use Rattle.fq_column.specs.Frame.{Frame};
 ghost use Rattle.fq_csv.specs.Printed.{printed};
 ghost use Rattle.fq_run.specs.declared.faults.Fault.TheVariants as fault;
 ghost use Rattle.fq_run.specs.Run.{Tell};
-ghost use Rattle.fq_program.specs.Ending.{code_of, done, bad_device, no_memory, status_of, IsOutside};
+ghost use Rattle.fq_shell.specs.Ending.{code_of, done, bad_device, no_memory, status_of, IsOutside};
 ghost use Rattle.fq_program.specs.Program.{AreSettings, program, checked_plan as checked_plan_of, frame_of};
-ghost use Rattle.fq_program.specs.declared.failures.Failure.TheVariants as failure;
-ghost use Rattle.fq_program.specs.declared.status.Status.TheVariants.{NoMemory};
+ghost use Rattle.fq_shell.specs.declared.failures.Failure.TheVariants as failure;
+ghost use Rattle.fq_shell.specs.declared.status.Status.TheVariants.{NoMemory};
 
-use crate::failures::{Failure, report};
-use crate::inputs::{read_whole, split_line};
-use fq_plan::{Checked, Fault, read_plan};
+use fq_plan::{Check, Checked, Fault, read_plan};
+use fq_shell::{BATCH_SIZE, Failure, WORKERS, read_whole, report, split_line};
 use std::alloc::Global;
 use std::io::{Read, Write};
 use std::sync::Wait;
 use std::thread::Threads;
-
-/// The rows of a batch, if no argument says otherwise.
-pub const BATCH_SIZE: u32 = 1024;
-
-/// The number of workers, if no argument says otherwise.
-pub const WORKERS: u16 = 2;
 
 /// Runs the plan of the input's first line over the CSV file of the bytes after it, and answers the exit status.
 ///

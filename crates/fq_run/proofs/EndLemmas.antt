@@ -10,7 +10,8 @@ use Rattle.fq_expr.specs.Expression.{Step}
 use Rattle.fq_expr.specs.Steps.{apply_step, apply_steps, fields_after}
 use Rattle.fq_run.specs.Outcome.{columns_after, frame_or_fault, outcome}
 use Rattle.fq_run.specs.Physical.{Physical, after_leading, front_fields, side_files, main_fields, outcome_of_files, outcome_of_run}
-use Rattle.fq_run.specs.Sources.{Source, but_last, concat_streams, first_fault, frames_of, scan_fault, source_streams}
+use Rattle.fq_csv.specs.Sources.{Source, but_last}
+use Rattle.fq_run.specs.Sources.{concat_streams, first_fault, frames_of, scan_fault, source_streams}
 use Rattle.fq_run.specs.Starting.{transforms_of}
 use Rattle.fq_run.specs.Transforms.{Transform, given, whole, whole_all}
 use Rattle.fq_run.specs.declared.faults.Fault.{Fault}

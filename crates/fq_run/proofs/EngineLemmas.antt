@@ -19,7 +19,8 @@ use Rattle.fq_run.specs.Kept.{Takes}
 use Rattle.fq_run.specs.Physical.{Physical, side_files, main_fields}
 use Rattle.fq_run.specs.EngineRun.{items_of_files, leading_steps, opened, records_of_files, rows_of_files}
 use Rattle.fq_run.specs.Run.{Tell}
-use Rattle.fq_run.specs.Sources.{concat_streams, row_limit, scan_fault}
+use Rattle.fq_csv.specs.Sources.{row_limit}
+use Rattle.fq_run.specs.Sources.{concat_streams, scan_fault}
 use Rattle.fq_run.specs.Tail.{Taken, tagged, worked, worked_files}
 use Rattle.fq_run.specs.Working.{work_on, worked_stream}
 use Rattle.fq_run.specs.declared.faults.Fault.{Fault}

@@ -30,7 +30,8 @@ use Rattle.fq_expr.proofs.StepLemmas.{apply_steps-then, rename_fault-then}
 use Rattle.fq_run.specs.EngineRun.{leading_steps}
 use Rattle.fq_run.specs.Feeding.{end_item, runs_from, scanned_items}
 use Rattle.fq_run.specs.Physical.{Physical, after_leading, side_files, main_fields}
-use Rattle.fq_run.specs.Sources.{concat_streams, row_fault, row_limit, scan_fault}
+use Rattle.fq_csv.specs.Sources.{row_limit}
+use Rattle.fq_run.specs.Sources.{concat_streams, row_fault, scan_fault}
 use Rattle.fq_run.specs.Tail.{worked}
 use Rattle.fq_run.specs.Working.{piece_of, piece_stream, piece_until, rows_of_run, stepped, untouched, work_on, worked_stream}
 use Rattle.fq_run.specs.declared.faults.Fault.{Fault}

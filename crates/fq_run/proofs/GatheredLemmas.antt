@@ -18,7 +18,7 @@ use Rattle.fq_run.specs.Working.{work_on}
 use Rattle.fq_run.specs.declared.file_feeds.Scanned.{Scanned}
 use Rattle.fq_run.specs.declared.gathering.Gathered.{Gathered}
 use Rattle.fq_run.specs.declared.run_tail.TailState.{TailState}
-use Rattle.fq_run.specs.declared.stages.SourceFiles.{SourceFiles}
+use Rattle.fq_csv.specs.declared.sources.SourceFiles.{SourceFiles}
 use Rattle.fq_run.specs.declared.stages.Stage.{Stage}
 use Rattle.fq_run.specs.declared.leading_steps.Worked.{Worked}
 use Rattle.fq_run.proofs.EngineLemmas.{answers_in, rows-of-bytes}

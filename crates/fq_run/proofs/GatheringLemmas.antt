@@ -8,7 +8,8 @@ use Rattle.fq_column.specs.Stream.{Stream, done, then_stream}
 use Rattle.fq_column.proofs.StreamLemmas.{then_stream-assoc}
 use Rattle.fq_run.specs.Gathering.{gathered, gathered_stream, taken_in, with_stream}
 use Rattle.fq_run.specs.EngineRun.{no_rows}
-use Rattle.fq_run.specs.Sources.{Source, concat_streams, frames_of}
+use Rattle.fq_csv.specs.Sources.{Source}
+use Rattle.fq_run.specs.Sources.{concat_streams, frames_of}
 use Rattle.fq_run.specs.Tail.{Taken, items_from, taken_streams}
 use Rattle.fq_run.specs.Working.{worked_stream}
 use Rattle.fq_run.specs.declared.faults.Fault.{Fault}

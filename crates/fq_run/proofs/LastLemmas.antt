@@ -1,7 +1,7 @@
 -- Lists before their last item.
 use Rattle.std.proofs.Common.{◌≡◌, ◌-◌, List, [], ◌∷◌, ◌++◌, take, length, refl, ap, sym, ◌∙◌, arith, length-append}
 use Rattle.std.specs.Prelude.{slice_index_or}
-use Rattle.fq_run.specs.Sources.{but_last, last_or}
+use Rattle.fq_csv.specs.Sources.{but_last, last_or}
 
 module _ {X : Type 0} where
   take-front : (xs ys : List X) → take (length xs) (xs ++ ys) ≡ xs

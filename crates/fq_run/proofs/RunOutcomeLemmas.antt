@@ -14,7 +14,8 @@ use Rattle.fq_run.specs.Outcome.{outcome, outcome_of_stages}
 use Rattle.fq_run.specs.Physical.{Physical, file_layouts, files_wanted, front_fields, side_files, outcome_of_run}
 use Rattle.fq_run.specs.EngineRun.{Gives, RanOver, items_of_files, leading_steps, main_files, no_rows, nothing_taken, rows_of_files}
 use Rattle.fq_run.specs.Run.{trace_of}
-use Rattle.fq_run.specs.Sources.{Source, but_last, concat_streams, first_fault, frames_of, scan_fault, source_streams}
+use Rattle.fq_csv.specs.Sources.{Source, but_last}
+use Rattle.fq_run.specs.Sources.{concat_streams, first_fault, frames_of, scan_fault, source_streams}
 use Rattle.fq_run.specs.Tail.{Taken, items_from, tagged, taken_streams, worked_files}
 use Rattle.fq_run.specs.declared.faults.Fault.{Fault}
 use Rattle.fq_run.specs.declared.file_feeds.Scanned.{Scanned}

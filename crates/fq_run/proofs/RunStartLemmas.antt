@@ -10,13 +10,14 @@ use Rattle.fq_csv.specs.declared.layouts.Layout.{Layout}
 use Rattle.fq_run.specs.Feeding.{Feeding, MayCome}
 use Rattle.fq_run.specs.Kept.{Takes}
 use Rattle.fq_run.specs.Physical.{Physical, file_layouts, files_wanted, side_fields, side_files}
-use Rattle.fq_run.specs.Sources.{Source, but_last, last_or, layout_of}
+use Rattle.fq_csv.specs.Sources.{Source, but_last, last_or, layout_of}
 use Rattle.fq_run.specs.EngineRun.{RanOver, leading_steps, main_files, no_rows, nothing_taken, opened, records_of_files}
 use Rattle.fq_run.specs.Run.{Tell}
-use Rattle.fq_run.specs.Stages.{source_of_files, physical_of, IsRunnable}
+use Rattle.fq_csv.specs.Sources.{source_of_files}
+use Rattle.fq_run.specs.Stages.{physical_of, IsRunnable}
 use Rattle.fq_run.specs.Working.{work_on}
 use Rattle.fq_run.specs.declared.gathering.Gathered.{Gathered}
-use Rattle.fq_run.specs.declared.stages.SourceFiles.{SourceFiles}
+use Rattle.fq_csv.specs.declared.sources.SourceFiles.{SourceFiles}
 use Rattle.fq_run.specs.declared.stages.Stage.{Stage}
 use Rattle.fq_run.proofs.SourceOfFileLemmas.{length-layouts}
 use Rattle.fq_run.proofs.EngineLemmas.{opened-told}

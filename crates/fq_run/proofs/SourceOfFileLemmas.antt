@@ -11,7 +11,7 @@ use Rattle.fq_csv.specs.declared.faults.ScanFault.{ScanFault}
 use Rattle.fq_expr.specs.declared.fronts.RowFault.{RowFault}
 use Rattle.fq_column.specs.declared.pieces.Piece.{Piece as PieceOf}
 use Rattle.fq_run.specs.Physical.{Physical, file_layouts, front_fields, side_files, main_fields}
-use Rattle.fq_run.specs.Sources.{Source, but_last, last_or, layout_of}
+use Rattle.fq_csv.specs.Sources.{Source, but_last, last_or, layout_of}
 use Rattle.fq_run.specs.EngineRun.{leading_steps, main_files, no_rows, nothing_taken}
 use Rattle.fq_run.specs.Working.{piece_of, piece_until, rows_of_run, stepped, untouched}
 use Rattle.fq_run.specs.declared.leading_steps.Worked.{Worked}

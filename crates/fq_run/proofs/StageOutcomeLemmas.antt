@@ -11,14 +11,15 @@ use Rattle.fq_run.specs.Kept.{IsSound, AreSound}
 use Rattle.fq_run.specs.Outcome.{columns_after, frame_or_fault, outcome, outcome_of_stages}
 use Rattle.fq_run.specs.Physical.{Physical, front_fields, side_fields}
 use Rattle.fq_run.specs.Run.{IsRunFault}
-use Rattle.fq_run.specs.Sources.{Source, but_last, first_fault}
+use Rattle.fq_csv.specs.Sources.{Source, but_last}
+use Rattle.fq_run.specs.Sources.{first_fault}
 use Rattle.fq_run.specs.Stages.{Fit, IsRunnable}
 use Rattle.fq_run.specs.Standing.{FitOver}
 use Rattle.fq_run.specs.Starting.{transforms_of}
 use Rattle.fq_run.specs.Transforms.{whole_all}
 use Rattle.fq_run.specs.declared.faults.Fault.{Fault}
 use Rattle.fq_run.specs.declared.gathering.Gathered.{Gathered}
-use Rattle.fq_run.specs.declared.stages.SourceFiles.{SourceFiles}
+use Rattle.fq_csv.specs.declared.sources.SourceFiles.{SourceFiles}
 use Rattle.fq_run.specs.declared.stages.Stage.{Stage}
 use Rattle.fq_run.proofs.KeptSourceLemmas.{sound-first, sound-stages}
 use Rattle.fq_run.proofs.RunStartLemmas.{plan, side-columns}

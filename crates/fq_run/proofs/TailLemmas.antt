@@ -7,7 +7,8 @@ use Rattle.std.proofs.lemmas.List.Sums.{sum_by-cons}
 use Rattle.std.proofs.Math.Seq.{take-nil, drop-drop, take_all}
 use Rattle.fq_column.specs.Stream.{Stream, then_stream}
 use Rattle.fq_run.specs.Physical.{Physical, after_leading, files_wanted, side_files, main_fields}
-use Rattle.fq_run.specs.Sources.{Source, but_last, concat_streams, source_streams}
+use Rattle.fq_csv.specs.Sources.{Source, but_last}
+use Rattle.fq_run.specs.Sources.{concat_streams, source_streams}
 use Rattle.fq_run.specs.Tail.{Taken, items_from, tagged, taken_streams, worked_files}
 use Rattle.fq_run.specs.declared.faults.Fault.{Fault}
 use Rattle.fq_run.specs.declared.faults.Fault.TheVariants.{Overflow}

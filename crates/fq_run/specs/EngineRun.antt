@@ -12,7 +12,7 @@ use Rattle.fq_run.specs.Kept.{Takes}
 use Rattle.fq_run.specs.Outcome.{outcome_of_stages}
 use Rattle.fq_run.specs.Physical.{Physical, file_layouts, files_wanted, front_fields, side_files, main_fields, outcome_of_run}
 use Rattle.fq_run.specs.Run.{trace_of}
-use Rattle.fq_run.specs.Sources.{but_last, last_or, row_limit}
+use Rattle.fq_csv.specs.Sources.{but_last, last_or, row_limit}
 use Rattle.fq_run.specs.Working.{work_on}
 use Rattle.fq_run.specs.declared.file_feeds.Scanned.{Scanned}
 use Rattle.fq_run.specs.declared.gathering.Gathered.{Gathered}

@@ -8,7 +8,8 @@ use Rattle.fq_csv.specs.declared.layouts.Layout.{Layout}
 use Rattle.fq_expr.specs.Expression.{Step}
 use Rattle.fq_expr.specs.Steps.{apply_steps, fields_after_all}
 use Rattle.fq_run.specs.Outcome.{outcome}
-use Rattle.fq_run.specs.Sources.{Source, but_last, concat_streams, first_fault, frames_of, last_or, layout_of, scan_fault, source_streams, streams_of_files}
+use Rattle.fq_csv.specs.Sources.{Source, but_last, last_or, layout_of, streams_of_files}
+use Rattle.fq_run.specs.Sources.{concat_streams, first_fault, frames_of, scan_fault, source_streams}
 use Rattle.fq_run.specs.declared.faults.Fault.{Fault}
 use Rattle.fq_run.specs.declared.faults.Fault.TheVariants.{Overflow}
 use Rattle.fq_run.specs.declared.stages.Stage.{Stage}

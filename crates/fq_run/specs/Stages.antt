@@ -11,15 +11,12 @@ use Rattle.fq_ops.specs.Join.{join_schema}
 use Rattle.fq_ops.specs.Roll.{roll_schema}
 use Rattle.fq_ops.specs.declared.joins.How.{How}
 use Rattle.fq_run.specs.Physical.{Physical, files_wanted, front_fields, side_fields, main_fields}
-use Rattle.fq_run.specs.Sources.{Source}
-use Rattle.fq_run.specs.declared.physical_plans.TheConstants.{MAX_FILES}
-use Rattle.fq_run.specs.declared.stages.SourceFiles.{SourceFiles}
+use Rattle.fq_csv.specs.Sources.{Source, source_of_files}
+use Rattle.fq_csv.specs.declared.sources.TheConstants.{MAX_FILES}
+use Rattle.fq_csv.specs.declared.sources.SourceFiles.{SourceFiles}
 use Rattle.fq_run.specs.declared.operators.Operator.{Operator}
 use Rattle.fq_run.specs.declared.operators.Operator.TheVariants.{Rows, Join, GroupBy, RollingSum}
 use Rattle.fq_run.specs.declared.stages.Stage.{Stage}
-
-abbrev pub source_of_files : SourceFiles → Source
-source_of_files s = record { files = s.files; fields = s.layout.schema; nulls = s.layout.nulls }
 
 -- the physical plan that sources, leading row-wise steps and stages are
 abbrev pub physical_of : List SourceFiles → NumberedSteps → List Stage → Physical

@@ -3,7 +3,8 @@
 use Rattle.std.specs.Prelude.{ℕ, ◌+◌, ◌&&◌, nat_le, nat_lt, List, [], ◌∷◌, ◌++◌, map, filter, if◌then◌else◌}
 use Rattle.fq_column.specs.Stream.{Stream}
 use Rattle.fq_run.specs.Physical.{Physical, after_leading, side_files}
-use Rattle.fq_run.specs.Sources.{Source, concat_streams}
+use Rattle.fq_csv.specs.Sources.{Source}
+use Rattle.fq_run.specs.Sources.{concat_streams}
 use Rattle.fq_run.specs.declared.faults.Fault.{Fault}
 
 -- a file's stream, or a piece of it, as the workers give it: after the leading steps if it is of the main source

@@ -11,7 +11,8 @@ use Rattle.fq_expr.specs.Front.{NumberedSteps, fault_at}
 use Rattle.fq_expr.specs.Steps.{apply_steps, fields_after_all}
 use Rattle.fq_expr.specs.declared.fronts.RowFault.{RowFault}
 use Rattle.fq_column.specs.declared.pieces.Piece.{Piece}
-use Rattle.fq_run.specs.Sources.{row_fault, row_limit, scan_fault}
+use Rattle.fq_csv.specs.Sources.{row_limit}
+use Rattle.fq_run.specs.Sources.{row_fault, scan_fault}
 use Rattle.fq_run.specs.declared.faults.Fault.{Fault}
 use Rattle.fq_run.specs.declared.file_feeds.Scanned.{Scanned}
 use Rattle.fq_run.specs.declared.file_feeds.Scanned.TheVariants as scanned

@@ -1,9 +1,9 @@
 //! What a physical plan reads and does, for people.
 use crate::operators::row_word;
 use crate::physical_plans::PhysicalPlan;
-use crate::stages::{SourceFiles, Stage};
+use crate::stages::Stage;
 use fq_column::{Memory, Schema};
-use fq_csv::kind_word;
+use fq_csv::{SourceFiles, kind_word};
 use std::alloc::Global;
 use std::fmt;
 use std::fmt::{Display, Formatter, Write};

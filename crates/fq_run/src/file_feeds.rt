@@ -2,7 +2,7 @@
 ghost use Rattle.std.specs.Prelude.{◌≡◌, ◌≤◌, IfOk, option_map};
 ghost use Rattle.fq_csv.specs.Taking.{record_stream};
 ghost use Rattle.fq_run.specs.Feeding.{MayCome, scanned_items, some_items};
-ghost use Rattle.fq_run.specs.Sources.{row_limit};
+ghost use Rattle.fq_csv.specs.Sources.{row_limit};
 
 use fq_column::Memory;
 use fq_csv::{Layout, MAX_BATCH_SIZE, MAX_ROWS, RecordRun, RecordScanner, ScanFault};

@@ -27,5 +27,5 @@ pub use explanations::Explanation;
 pub use faults::Fault;
 pub use leading_steps::Worked;
 pub use operators::{GroupBy, Join, MAX_JOINED_ROWS, Operator, RollingSum};
-pub use physical_plans::{MAX_FILES, PhysicalPlan};
-pub use stages::{SourceFiles, Stage};
+pub use physical_plans::PhysicalPlan;
+pub use stages::Stage;

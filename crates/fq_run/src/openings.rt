@@ -4,10 +4,8 @@ ghost use Rattle.fq_run.specs.EngineRun.{no_rows, opened};
 
 use crate::file_feeds::FileFeed;
 use crate::gathering::Gathered;
-use crate::physical_plans::MAX_FILES;
-use crate::stages::SourceFiles;
 use fq_column::Memory;
-use fq_csv::{Layout, MAX_BATCH_SIZE};
+use fq_csv::{Layout, MAX_BATCH_SIZE, MAX_FILES, SourceFiles};
 use std::alloc::Global;
 use std::io::Read;
 

@@ -5,16 +5,15 @@ ghost use Rattle.fq_run.specs.Physical.{files_wanted, side_files as files_before
 ghost use Rattle.fq_run.specs.Stages.{IsRunnable, physical_of};
 
 use crate::leading_steps::LeadingSteps;
-use crate::stages::{SourceFiles, Stage};
+use crate::stages::Stage;
 use fq_column::Schema;
+use fq_csv::{MAX_FILES, SourceFiles};
 use fq_expr::Front;
 use fq_lanes::MAX_FEEDS;
 use std::alloc::Global;
 use std::marker::Model;
 
-/// The most files of a run, each of which is a feed of it.
-pub const MAX_FILES: u16 = 16;
-
+// Each file of a run is a feed of it.
 const _: () = prove!(MAX_FILES as usize == MAX_FEEDS);
 
 /// What a run does: it reads sources, of which the last is the main one, takes leading row-wise steps on the rows of that in the

@@ -3,15 +3,13 @@ ghost use Rattle.std.specs.Prelude.{◌≡◌, ◌⊎◌, ◌≤◌, ℕ, None, 
 ghost use Rattle.fq_column.specs.Frame.{names_of};
 ghost use Rattle.fq_column.specs.Refusal.{first_refusal};
 ghost use Rattle.fq_column.specs.Schema.{schema_checks};
-ghost use Rattle.fq_plan.specs.Judged.{refused_at, source_refusal, IsPlaceOf};
-ghost use Rattle.fq_run.specs.Stages.{source_of_files};
-ghost use Rattle.fq_plan.specs.View.{source_data};
+ghost use Rattle.fq_language.specs.Judged.{refused_at, source_refusal, IsPlaceOf};
+ghost use Rattle.fq_csv.specs.Sources.{source_of_files};
+ghost use Rattle.fq_language.specs.View.{source_data};
 
-use crate::faults::Place;
-use crate::plans::Source;
 use fq_column::{Kind, Memory, Schema, StepFault};
-use fq_csv::Layout;
-use fq_run::SourceFiles;
+use fq_csv::{Layout, SourceFiles};
+use fq_language::{Place, Source};
 use std::alloc::Global;
 
 /// The sources with their schemas, or the first refusal, which leaves the place of its source.

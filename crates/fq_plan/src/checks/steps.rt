@@ -6,17 +6,17 @@ ghost use Rattle.fq_expr.specs.ExpressionData.{step_of};
 ghost use Rattle.fq_ops.specs.Group.{group_schema as group_schema_of};
 ghost use Rattle.fq_ops.specs.AggregateData.{outputs_of};
 ghost use Rattle.fq_ops.specs.Roll.{roll_schema as roll_schema_of};
-ghost use Rattle.fq_plan.specs.Judged.{judged_step, judged_steps, refused_at, IsPlaceOf};
-ghost use Rattle.fq_plan.specs.Plan.{PlanStep, front_of, group_by, item_at, join, rest_of, rolling_sum, row_wise};
+ghost use Rattle.fq_language.specs.Judged.{judged_step, judged_steps, refused_at, IsPlaceOf};
+ghost use Rattle.fq_language.specs.Plan.{PlanStep, front_of, group_by, item_at, join, rest_of, rolling_sum, row_wise};
 ghost use Rattle.fq_plan.specs.Stages.{columns_of, operator_steps, stage_steps, Leads, Turns};
-ghost use Rattle.fq_plan.specs.View.{plan_step_of};
+ghost use Rattle.fq_language.specs.View.{plan_step_of};
 
-use crate::faults::Place;
-use crate::plans::Step;
 use fq_column::{Memory, Schema, StepFault};
+use fq_csv::SourceFiles;
 use fq_expr::{Front, MAX_STEPS, RowStep};
+use fq_language::{Place, Step};
 use fq_ops::{Agg, How, group_schema, join_schema, roll_schema};
-use fq_run::{GroupBy, Join, Operator, RollingSum, SourceFiles, Stage};
+use fq_run::{GroupBy, Join, Operator, RollingSum, Stage};
 use std::alloc::Global;
 
 /// The leading row-wise steps, and the steps after them.

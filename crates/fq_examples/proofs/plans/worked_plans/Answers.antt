@@ -1,5 +1,5 @@
 use Rattle.std.proofs.Common.{refl}
-use Rattle.fq_plan.proofs.OnLiterals.{plans_on_literals}
+use Rattle.fq_language.proofs.OnLiterals.{plans_on_literals}
 use Rattle.fq_examples.proofs.plans.worked_plans.Goals as goal
 
 pub returns-clause-filtered : goal.returns-clause-filtered

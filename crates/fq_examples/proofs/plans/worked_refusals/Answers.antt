@@ -1,5 +1,5 @@
 use Rattle.std.proofs.Common.{refl}
-use Rattle.fq_plan.proofs.OnLiterals.{plans_on_literals}
+use Rattle.fq_language.proofs.OnLiterals.{plans_on_literals}
 use Rattle.fq_examples.proofs.plans.worked_refusals.Goals as goal
 
 pub returns-clause-no_plan : goal.returns-clause-no_plan

@@ -1,5 +1,5 @@
 use Rattle.std.proofs.Common.{refl}
-use Rattle.fq_plan.proofs.OnLiterals.{plans_on_literals}
+use Rattle.fq_language.proofs.OnLiterals.{plans_on_literals}
 use Rattle.fq_examples.proofs.plans.worked_runs.Goals as goal
 
 pub returns-clause-starts : goal.returns-clause-starts

@@ -1,6 +1,6 @@
 use Rattle.std.proofs.Common.{◌≡◌, ◌∙◌, ℕ, Some, Ok, length, rules, subst, sym}
 use Rattle.std.proofs.lemmas.Result.{err_from_is_err_and}
-use Rattle.fq_plan.specs.Plan.{files_wanted}
+use Rattle.fq_language.specs.Plan.{files_wanted}
 use Rattle.fq_run.specs.Run.{start_refusal, IsStartFault}
 use Rattle.fq_program.proofs.ClauseLemmas.{StopsAsRefused, as-many, start_at, run-printed, run-failed}
 use Rattle.fq_program.proofs.program.run_over.Goals as goal

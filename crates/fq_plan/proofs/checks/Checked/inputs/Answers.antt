@@ -1,7 +1,7 @@
 use Rattle.std.proofs.Common.{subst}
 use Rattle.std.specs.Prelude.{IsOk}
-use Rattle.fq_plan.specs.Judged.{judged}
-use Rattle.fq_plan.specs.Plan.{Query}
+use Rattle.fq_language.specs.Judged.{judged}
+use Rattle.fq_language.specs.Plan.{Query}
 use Rattle.fq_plan.proofs.PreparedLemmas.{checked-passes}
 use Rattle.fq_plan.proofs.checks.Checked.inputs.Goals as goal
 

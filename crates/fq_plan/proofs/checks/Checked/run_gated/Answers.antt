@@ -4,7 +4,7 @@ use Rattle.fq_column.specs.Frame.{Frame}
 use Rattle.fq_column.specs.Stream.{Stream}
 use Rattle.fq_csv.specs.declared.faults.ScanFault.{ScanFault}
 use Rattle.fq_plan.specs.Meaning.{meaning}
-use Rattle.fq_plan.specs.Plan.{Query, file_streams, files_wanted}
+use Rattle.fq_language.specs.Plan.{Query, file_streams, files_wanted}
 use Rattle.fq_plan.specs.Stages.{query_of}
 use Rattle.fq_plan.proofs.StageMeaning.{means}
 use Rattle.fq_run.specs.Run.{IsAnswer, Tell}

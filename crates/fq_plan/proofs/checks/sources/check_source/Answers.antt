@@ -3,7 +3,7 @@ use Rattle.std.proofs.lemmas.Result.{err_from_is_err_and}
 use Rattle.fq_column.specs.Frame.{Fields}
 use Rattle.fq_column.specs.Refusal.{first_refusal}
 use Rattle.fq_column.specs.Schema.{schema_checks}
-use Rattle.fq_run.specs.Sources.{Source}
+use Rattle.fq_csv.specs.Sources.{Source}
 use Rattle.fq_plan.proofs.CheckLemmas.{fields_of-columns, names_of-columns}
 use Rattle.fq_plan.proofs.checks.sources.check_source.Goals as goal
 

@@ -1,10 +1,10 @@
 use Rattle.std.proofs.Common.{◌≡◌, ◌<◌, ◌++◌, ◌∷◌, [], Some, map, length, ap, sym, ◌∙◌, inl, inr, arith, append_assoc, length-append}
 use Rattle.std.proofs.lemmas.List.{length-map, map-append}
 use Rattle.std.proofs.lemmas.Result.{err_from_is_err_and}
-use Rattle.fq_plan.specs.Judged.{refused_at, source_refusal}
-use Rattle.fq_run.specs.Stages.{source_of_files}
-use Rattle.fq_plan.specs.View.{source_data}
-use Rattle.fq_plan.specs.declared.faults.Place.TheVariants as place
+use Rattle.fq_language.specs.Judged.{refused_at, source_refusal}
+use Rattle.fq_csv.specs.Sources.{source_of_files}
+use Rattle.fq_language.specs.View.{source_data}
+use Rattle.fq_language.specs.declared.faults.Place.TheVariants as place
 use Rattle.fq_plan.proofs.CheckLemmas.{source-refused, sources-passed}
 use Rattle.fq_plan.proofs.checks.sources.check_sources.Goals as goal
 use Rattle.fq_plan.proofs.checks.sources.check_sources.Goals.{After-len-in-loop-source}

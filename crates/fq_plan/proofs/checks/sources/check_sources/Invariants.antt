@@ -1,7 +1,7 @@
 use Rattle.std.proofs.Common.{◌≡◌, ◌++◌, ℕ, length, map, None}
-use Rattle.fq_plan.specs.Judged.{source_refusal, IsPlaceOf}
-use Rattle.fq_run.specs.Stages.{source_of_files}
-use Rattle.fq_plan.specs.View.{source_data}
+use Rattle.fq_language.specs.Judged.{source_refusal, IsPlaceOf}
+use Rattle.fq_csv.specs.Sources.{source_of_files}
+use Rattle.fq_language.specs.View.{source_data}
 use Rattle.fq_plan.proofs.checks.sources.check_sources.Given as goal
 
 abbrev pub invariant-loop-source : goal.invariant-loop-source

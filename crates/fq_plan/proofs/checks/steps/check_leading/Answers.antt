@@ -3,9 +3,9 @@ use Rattle.std.proofs.lemmas.List.{length-map, length-take-le, map-append}
 use Rattle.std.proofs.lemmas.Result.{err_from_is_err_and}
 use Rattle.fq_expr.specs.Kinds.{step_schema, steps_schema}
 use Rattle.fq_expr.specs.ExpressionData.{step_of}
-use Rattle.fq_plan.specs.Judged.{judged_steps, refused_at}
-use Rattle.fq_plan.specs.Plan.{row_wise}
-use Rattle.fq_plan.specs.declared.faults.Place.TheVariants as place
+use Rattle.fq_language.specs.Judged.{judged_steps, refused_at}
+use Rattle.fq_language.specs.Plan.{row_wise}
+use Rattle.fq_language.specs.declared.faults.Place.TheVariants as place
 use Rattle.fq_plan.proofs.CheckLemmas.{judged-err, judged-ok, rows-refused, schema-further}
 use Rattle.fq_plan.proofs.SplitLemmas.{split-at, take-further}
 use Rattle.fq_plan.proofs.checks.steps.check_leading.Goals as goal

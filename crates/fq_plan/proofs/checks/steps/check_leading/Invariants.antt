@@ -1,7 +1,7 @@
 use Rattle.std.proofs.Common.{◌≡◌, ◌≤◌, ℕ, length, map, take, Ok}
 use Rattle.fq_expr.specs.Kinds.{steps_schema}
 use Rattle.fq_expr.specs.ExpressionData.{step_of}
-use Rattle.fq_plan.specs.Judged.{IsPlaceOf}
+use Rattle.fq_language.specs.Judged.{IsPlaceOf}
 use Rattle.fq_plan.proofs.checks.steps.check_leading.Given as goal
 
 abbrev pub invariant-loop-i : goal.invariant-loop-i

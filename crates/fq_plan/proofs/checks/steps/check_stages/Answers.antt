@@ -2,10 +2,10 @@ use Rattle.std.proofs.Common.{◌≡◌, ◌<◌, ◌≤◌, ℕ, refl, List, �
 use Rattle.std.proofs.lemmas.List.{length-map, map-append}
 use Rattle.std.proofs.lemmas.Result.{err_from_is_err_and}
 use Rattle.fq_column.specs.Frame.{Fields}
-use Rattle.fq_plan.specs.Judged.{judged_steps, refused_at}
+use Rattle.fq_language.specs.Judged.{judged_steps, refused_at}
 use Rattle.fq_plan.specs.Stages.{columns_of, stage_steps, Leads}
-use Rattle.fq_plan.specs.View.{plan_step_of}
-use Rattle.fq_plan.specs.declared.faults.Place.TheVariants as place
+use Rattle.fq_language.specs.View.{plan_step_of}
+use Rattle.fq_language.specs.declared.faults.Place.TheVariants as place
 use Rattle.fq_run.specs.declared.stages.Stage.{Stage}
 use Rattle.fq_plan.proofs.CheckLemmas.{leads-further, stage_steps-snoc, stages-refused}
 use Rattle.fq_plan.proofs.checks.steps.check_stages.Goals as goal

@@ -1,7 +1,7 @@
 use Rattle.std.proofs.Common.{◌≡◌, ◌≤◌, ◌+◌, ◌++◌, ℕ, map, length, vec_len}
-use Rattle.fq_plan.specs.Judged.{IsPlaceOf}
+use Rattle.fq_language.specs.Judged.{IsPlaceOf}
 use Rattle.fq_plan.specs.Stages.{columns_of, stage_steps, Leads}
-use Rattle.fq_plan.specs.View.{plan_step_of}
+use Rattle.fq_language.specs.View.{plan_step_of}
 use Rattle.fq_plan.proofs.checks.steps.check_stages.Given as goal
 
 abbrev pub invariant-loop-step : goal.invariant-loop-step

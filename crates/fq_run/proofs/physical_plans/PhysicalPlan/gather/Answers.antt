@@ -17,7 +17,7 @@ use Rattle.fq_run.specs.Run.{IsEngineFault, engine_fault}
 use Rattle.fq_run.specs.Stages.{physical_of, Fit}
 use Rattle.fq_run.specs.Working.{work_on}
 use Rattle.fq_run.specs.declared.gathering.Gathered.{Gathered}
-use Rattle.fq_run.specs.declared.stages.SourceFiles.{SourceFiles}
+use Rattle.fq_csv.specs.declared.sources.SourceFiles.{SourceFiles}
 use Rattle.fq_run.specs.declared.stages.Stage.{Stage}
 use Rattle.fq_run.proofs.GatheredLemmas.{has-gathered}
 use Rattle.fq_run.proofs.StageOutcomeLemmas.{fit-over}

@@ -1,0 +1,12 @@
+//! The sources of a run.
+use crate::layouts::Layout;
+
+/// The most files of a run.
+pub const MAX_FILES: u16 = 16;
+
+/// The number of a source's files, and how each of them is read.
+#[derive(Drop)]
+pub struct SourceFiles {
+    pub files: u16,
+    pub layout: Layout,
+}

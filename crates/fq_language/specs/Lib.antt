@@ -1,0 +1,6 @@
+pub mod Parts
+pub mod Plan
+pub mod Spelling
+pub mod View
+pub mod Judged
+pub mod Versions

@@ -1,5 +1,0 @@
-use Rattle.fq_plan.proofs.VersionLemmas.{next-version}
-use Rattle.fq_plan.proofs.laws.plans_of_both_versions.Goals as goal
-
-pub returns : goal.returns
-returns c former latter p next e = next-version former latter p next e

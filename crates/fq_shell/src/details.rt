@@ -1,0 +1,210 @@
+//! What more can be said of a failure than its one line says.
+use crate::failures::Failure;
+use crate::file_details::FileDetails;
+use crate::files::{OpenFault, Opener, STANDARD_INPUT};
+use crate::options::Options;
+use fq_column::Kind;
+use fq_language::{Plan, misfit_of, read_plan};
+use fq_places::{Quoted, Unread};
+use fq_run::Fault;
+use std::alloc::Global;
+use std::fmt::{Display, Formatter};
+use std::io::Write;
+use std::{fmt, io};
+
+/// What a run learns that its failure does not say.
+#[derive(Drop)]
+pub struct Learned {
+    /// The text of the plan; empty until all of it was read.
+    pub plan: Vec<u8>,
+    /// Why a write failed, if one did.
+    pub write: Option<io::Error>,
+}
+
+impl Learned {
+    /// Nothing.
+    pub fn new(alloc: Global) -> Learned {
+        Learned {
+            plan: Vec::new(alloc),
+            write: None,
+        }
+    }
+
+    /// The failure of a file that cannot be made or put in its place.
+    pub fn failure_of_write(&mut self, fault: OpenFault) -> Failure {
+        match fault {
+            OpenFault::Memory => Failure::MEMORY,
+            OpenFault::Failed(error) => {
+                self.write = Some(error);
+                Failure::Run(Fault::Write)
+            }
+        }
+    }
+}
+
+/// Writes what more can be said of a failure, in lines that begin with two spaces.
+///
+/// Files are read again from their starts. What a failed allocation or write cuts short is left out, as nothing rests on it.
+pub fn write_details<O: Opener, E: Write>(
+    alloc: Global,
+    failure: Failure,
+    options: &Options<'_>,
+    learned: &Learned,
+    files: &mut O,
+    err: &mut E,
+) {
+    let text = learned.plan.as_slice();
+    let _ = match failure {
+        Failure::Arguments | Failure::Problems | Failure::DraftTooLarge | Failure::Draft(_) => None,
+        Failure::InputTwice => write_inputs(options, err),
+        Failure::PlanFile => write_cause(files, options.plan().unwrap_or_default(), err),
+        Failure::Plan(_) => write_misfit(alloc, options.plan().unwrap_or_default(), text, err),
+        Failure::Check(_) => write_refusal(alloc, text, err),
+        Failure::Run(Fault::Write) => write_write(options, learned.write, err),
+        Failure::Run(Fault::Read { file }) => write_unread(options.files(), file, files, err),
+        Failure::Run(fault) => write_run(alloc, fault, options.files(), text, files, err),
+    };
+}
+
+// The arguments that name standard input.
+fn write_inputs<E: Write>(options: &Options<'_>, err: &mut E) -> Option<()> {
+    if options.plan() == Some(STANDARD_INPUT) {
+        writeln!(err, "  the plan is -").ok()?;
+    }
+    for (number, name) in options.files().iter().enumerate() {
+        if *name == STANDARD_INPUT {
+            writeln!(err, "  file {number} is -").ok()?;
+        }
+    }
+    Some(())
+}
+
+// Why a file cannot be read.
+fn write_cause<O: Opener, E: Write>(files: &mut O, name: &str, err: &mut E) -> Option<()> {
+    match cause_of(files, name) {
+        Some(cause) => writeln!(err, "  {name}: {cause}").ok(),
+        None => writeln!(err, "  {name}: it can be read now").ok(),
+    }
+}
+
+// Why the file of a number cannot be read.
+fn write_unread<O: Opener, E: Write>(
+    names: &[&str],
+    file: u16,
+    files: &mut O,
+    err: &mut E,
+) -> Option<()> {
+    write_cause(files, names.get(usize::from(file))?, err)
+}
+
+// Why a file cannot be read, if that is so.
+fn cause_of<O: Opener>(files: &mut O, name: &str) -> Option<Unread> {
+    let mut reader = match files.reader_again(name) {
+        Ok(reader) => reader,
+        Err(cause) => return Some(cause),
+    };
+    match io::copy(&mut reader, &mut io::sink()) {
+        Ok(_) => None,
+        Err(error) => Some(Unread::System(error)),
+    }
+}
+
+// Where a text stops being a plan.
+fn write_misfit<E: Write>(alloc: Global, name: &str, text: &[u8], err: &mut E) -> Option<()> {
+    let misfit = misfit_of(alloc, text).ok()??;
+    writeln!(err, "  {name}{misfit}").ok()
+}
+
+// What the check refuses in a plan.
+fn write_refusal<E: Write>(alloc: Global, text: &[u8], err: &mut E) -> Option<()> {
+    let plan = read_plan(alloc, text).ok()?;
+    let refusal = plan.refusal(alloc).ok()??;
+    writeln!(err, "  {refusal}").ok()
+}
+
+// Why a write failed.
+fn write_write<E: Write>(
+    options: &Options<'_>,
+    cause: Option<io::Error>,
+    err: &mut E,
+) -> Option<()> {
+    let name = options.output().unwrap_or("standard output");
+    writeln!(err, "  {name}: {}", Unread::System(cause?)).ok()
+}
+
+// What a run's fault is about.
+fn write_run<O: Opener, E: Write>(
+    alloc: Global,
+    fault: Fault,
+    names: &[&str],
+    text: &[u8],
+    files: &mut O,
+    err: &mut E,
+) -> Option<()> {
+    let plan = read_plan(alloc, text).ok()?;
+    match fault {
+        Fault::Inputs { .. } => write_sources(&plan, names, err),
+        Fault::Overflow { step, item } | Fault::SumRange { step, item } => {
+            writeln!(err, "  {}", plan.step_text(step, item)).ok()
+        }
+        Fault::JoinRows { step } | Fault::RollRange { step } => {
+            writeln!(err, "  {}", plan.step_text(step, 0)).ok()
+        }
+        Fault::Header { file } => FileDetails::of(&plan, names, file)?.write_header(
+            alloc, files, err,
+        ),
+        Fault::Width { file, row } => {
+            FileDetails::of(&plan, names, file)?.write_width(alloc, row, files, err)
+        }
+        Fault::BadCell { file, row, column } => {
+            FileDetails::of(&plan, names, file)?.write_cell(alloc, row, column, files, err)
+        }
+        Fault::TooLong { file } => FileDetails::of(&plan, names, file)?.write_length(err),
+        Fault::Setting | Fault::Memory | Fault::Read { .. } | Fault::Write => None,
+    }
+}
+
+// The sources of a plan, with the files that they get.
+fn write_sources<E: Write>(plan: &Plan, names: &[&str], err: &mut E) -> Option<()> {
+    let mut names = names.iter();
+    for (number, source) in plan.sources().iter().enumerate() {
+        let files = usize::from(source.files());
+        write!(err, "  source {number} ({}):", Columns(source.columns())).ok()?;
+        let mut given = 0usize;
+        for name in names.by_ref().take(files) {
+            write!(err, "{} {name}", comma_after(given)).ok()?;
+            given = given.saturating_add(1);
+        }
+        match files.saturating_sub(given) {
+            0 => writeln!(err, "").ok()?,
+            1 => writeln!(err, "{} missing", comma_after(given)).ok()?,
+            missing => writeln!(err, "{} {missing} missing", comma_after(given)).ok()?,
+        }
+    }
+    for name in names {
+        writeln!(err, "  not wanted: {name}").ok()?;
+    }
+    Some(())
+}
+
+// What stands before another of these.
+fn comma_after(count: usize) -> &'static str {
+    if count == 0 { "" } else { "," }
+}
+
+// The names of the first two columns, and whether there are more.
+#[derive(Clone, Copy)]
+struct Columns<'a>(&'a [(String, Kind)]);
+
+impl Display for Columns<'_> {
+    fn fmt<W: fmt::Write>(&self, f: &mut Formatter<W>) -> fmt::Result {
+        for (place, (name, _)) in self.0.iter().take(2).enumerate() {
+            let comma = if place == 0 { "" } else { ", " };
+            write!(f, "{comma}{}", Quoted(name.as_bytes()))?;
+        }
+        if self.0.len() > 2 {
+            f.write_str(", ..")?;
+        }
+        Ok(())
+    }
+}

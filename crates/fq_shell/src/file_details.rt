@@ -1,0 +1,171 @@
+//! What more can be said of a fault of a file: the line, and what stands there.
+use crate::files::Opener;
+use csv::ByteRecord;
+use fq_column::Kind;
+use fq_csv::MAX_ROWS;
+use fq_language::Plan;
+use fq_places::{Quoted, Unread, ends_in_quotes, line_of_record, record_at};
+use fq_review::{BadField, Header, Width, wanted};
+use std::alloc::Global;
+use std::fmt;
+use std::fmt::{Display, Formatter};
+use std::io::Write;
+
+/// A file that faults, and its columns.
+#[derive(Clone, Copy)]
+pub struct FileDetails<'a> {
+    name: &'a str,
+    columns: &'a [(String, Kind)],
+}
+
+impl<'a> FileDetails<'a> {
+    /// The file of this number among those of a plan, which have these names.
+    pub fn of(plan: &'a Plan, names: &[&'a str], file: u16) -> Option<FileDetails<'a>> {
+        let name: &'a str = names.get(usize::from(file))?;
+        let mut after = 0u16;
+        for source in plan.sources() {
+            after = after.saturating_add(source.files());
+            if file < after {
+                let columns = source.columns();
+                return Some(FileDetails { name, columns });
+            }
+        }
+        None
+    }
+
+    /// Writes where the header differs from the plan's names.
+    pub fn write_header<O: Opener, E: Write>(
+        self,
+        alloc: Global,
+        files: &mut O,
+        err: &mut E,
+    ) -> Option<()> {
+        let (name, columns) = (self.name, self.columns);
+        match Found::of(alloc, files, name, 0) {
+            Ok(Some(found)) => {
+                let header = &found.record;
+                let differs = Header { header, columns };
+                writeln!(err, "  {name}:{}: {differs}", found.line).ok()
+            }
+            Ok(None) => writeln!(err, "  {name}: it has no header").ok(),
+            Err(cause) => writeln!(err, "  {name}: the plan has {}; {cause}", Names(columns)).ok(),
+        }
+    }
+
+    /// Writes how many fields a row has.
+    pub fn write_width<O: Opener, E: Write>(
+        self,
+        alloc: Global,
+        row: u32,
+        files: &mut O,
+        err: &mut E,
+    ) -> Option<()> {
+        let (name, width) = (self.name, self.columns.len());
+        match Found::of(alloc, files, name, row) {
+            Ok(Some(found)) => {
+                let (line, note) = (found.line, found.note());
+                let width = Width {
+                    fields: found.record.len(),
+                    columns: width,
+                };
+                writeln!(err, "  {name}:{line}: {width}{note}").ok()
+            }
+            Ok(None) => writeln!(err, "  {name}: it has no such row now").ok(),
+            Err(cause) => writeln!(err, "  {name}: the header has {width}; {cause}").ok(),
+        }
+    }
+
+    /// Writes the field that is not a cell of its column.
+    pub fn write_cell<O: Opener, E: Write>(
+        self,
+        alloc: Global,
+        row: u32,
+        column: u16,
+        files: &mut O,
+        err: &mut E,
+    ) -> Option<()> {
+        let name = self.name;
+        let (title, kind) = self.columns.get(usize::from(column))?;
+        let (title, kind) = (title.as_str(), *kind);
+        match Found::of(alloc, files, name, row) {
+            Ok(Some(found)) => {
+                let (line, note) = (found.line, found.note());
+                let field = found.record.get(usize::from(column))?;
+                let bad = BadField {
+                    column: title,
+                    kind,
+                    field,
+                };
+                writeln!(err, "  {name}:{line}: {bad}{note}").ok()
+            }
+            Ok(None) => writeln!(err, "  {name}: it has no such row now").ok(),
+            Err(cause) => {
+                let (title, wanted) = (Quoted(title.as_bytes()), wanted(kind));
+                writeln!(err, "  {name}: column {title} is {wanted}; {cause}").ok()
+            }
+        }
+    }
+
+    /// Writes how many rows a file may have.
+    pub fn write_length<E: Write>(self, err: &mut E) -> Option<()> {
+        writeln!(err, "  {}: over {MAX_ROWS} rows", self.name).ok()
+    }
+}
+
+// A record of a file.
+#[derive(Drop)]
+struct Found {
+    record: ByteRecord,
+    // the line on which it begins
+    line: u64,
+    // whether a quote in it is not closed
+    is_open: bool,
+}
+
+impl Found {
+    // The record of this number in the file of this name.
+    fn of<O: Opener>(
+        alloc: Global,
+        files: &mut O,
+        name: &str,
+        number: u32,
+    ) -> Result<Option<Found>, Unread> {
+        let number = u64::from(number);
+        let Some(record) = record_at(alloc, files.reader_again(name)?, number)? else {
+            return Ok(None);
+        };
+        let Some(line) = line_of_record(alloc, files.reader_again(name)?, number)? else {
+            return Ok(None);
+        };
+        let is_open = line_of_record(alloc, files.reader_again(name)?, number + 1)?.is_none()
+            && ends_in_quotes(alloc, files.reader_again(name)?)?;
+        Ok(Some(Found {
+            record,
+            line,
+            is_open,
+        }))
+    }
+
+    // What else is to be said of it.
+    fn note(&self) -> &'static str {
+        if self.is_open {
+            "; a quote in this record is not closed"
+        } else {
+            ""
+        }
+    }
+}
+
+// Names of columns.
+#[derive(Clone, Copy)]
+struct Names<'a>(&'a [(String, Kind)]);
+
+impl Display for Names<'_> {
+    fn fmt<W: fmt::Write>(&self, f: &mut Formatter<W>) -> fmt::Result {
+        for (place, column) in self.0.iter().enumerate() {
+            let comma = if place == 0 { "" } else { ", " };
+            write!(f, "{comma}{}", Quoted(column.0.as_bytes()))?;
+        }
+        Ok(())
+    }
+}

@@ -1,0 +1,274 @@
+//! The arguments of the command line.
+use crate::files::{STANDARD_INPUT, STANDARD_OUTPUT};
+use clap::{Arg, ArgAction, ArgMatches, Command, Error, value_parser};
+use fq_csv::MAX_BATCH_SIZE;
+use fq_lanes::MAX_WORKERS;
+use std::alloc::{AllocError, Global};
+
+/// The rows of a batch, if no argument says otherwise.
+pub const BATCH_SIZE: u32 = 1024;
+
+/// The number of workers, if no argument says otherwise.
+pub const WORKERS: u16 = 2;
+
+/// The version of the program.
+const VERSION: &str = "0.1.0";
+
+/// The most lines that a check writes of problems, if no argument says otherwise.
+const LIMIT: u64 = 100;
+
+/// What the program's arguments ask for.
+#[derive(Drop)]
+pub struct Options<'a>(ArgMatches<'a>);
+
+impl<'a> Options<'a> {
+    /// The options that the arguments give; the program's own name is not among these. A request for help or for the version is an
+    /// error here, as in `clap`.
+    pub fn of_arguments(alloc: Global, words: &'a [String]) -> Result<Options<'a>, Error> {
+        Ok(Options(command(alloc)?.try_get_matches_from(words)?))
+    }
+
+    /// The name of the plan file. It is present unless a plan is to be drafted: `clap` requires it.
+    pub fn plan(&self) -> Option<&'a str> {
+        self.0.get_str("plan")
+    }
+
+    /// The names of the data files, in order. There are none only if the plan is to be explained.
+    pub fn files(&self) -> &[&'a str] {
+        self.0.get_strs("file").unwrap_or_default()
+    }
+
+    /// The rows of a batch.
+    pub fn batch_size(&self) -> u32 {
+        self.0.get_one("batch").unwrap_or(BATCH_SIZE)
+    }
+
+    /// The number of workers.
+    pub fn workers(&self) -> u16 {
+        self.0.get_one("workers").unwrap_or(WORKERS)
+    }
+
+    /// The name of the file that takes the frame, if standard output does not.
+    pub fn output(&self) -> Option<&'a str> {
+        self.0
+            .get_str("output")
+            .filter(|name| *name != STANDARD_OUTPUT)
+    }
+
+    /// Whether the plan is to be explained, and not run.
+    pub fn explain(&self) -> bool {
+        self.0.get_flag("explain")
+    }
+
+    /// Whether the files are to be checked, and the plan not run.
+    pub fn check(&self) -> bool {
+        self.0.get_flag("check")
+    }
+
+    /// The most lines that a check writes of problems.
+    pub fn limit(&self) -> u64 {
+        match self.0.get_one("limit").unwrap_or(LIMIT) {
+            0 => u64::MAX,
+            limit => limit,
+        }
+    }
+
+    /// Whether a plan is to be drafted for the files.
+    pub fn draft(&self) -> bool {
+        self.0.get_flag("draft")
+    }
+
+    /// The texts that are null in a draft.
+    pub fn null_values(&self) -> &[&'a str] {
+        self.0.get_strs("null-values").unwrap_or_default()
+    }
+
+    /// Whether to say more about a fault than its line.
+    pub fn details(&self) -> bool {
+        self.0.get_flag("details")
+    }
+
+    /// Whether to show how far the files are read.
+    pub fn progress(&self) -> bool {
+        self.0.get_flag("progress")
+    }
+
+    /// Whether more than one of the plan and the files is standard input.
+    pub fn reads_input_twice(&self) -> bool {
+        let plan = usize::from(self.plan() == Some(STANDARD_INPUT));
+        let files = self.files().iter().filter(|name| **name == STANDARD_INPUT);
+        plan + files.count() > 1
+    }
+}
+
+// The command line, and its help.
+fn command<'a>(alloc: Global) -> Result<Command<'a>, AllocError> {
+    Command::new(alloc, "frameq")
+        .no_binary_name(true)
+        .version(VERSION)
+        .about("Runs a plan over CSV files, and prints one CSV frame")
+        .after_long_help(AFTER_HELP)
+        .arg(plan(alloc)?)?
+        .arg(batch(alloc)?)?
+        .arg(workers(alloc)?)?
+        .arg(output(alloc)?)?
+        .arg(explain(alloc))?
+        .arg(check(alloc)?)?
+        .arg(limit(alloc)?)?
+        .arg(draft(alloc)?)?
+        .arg(null_values(alloc)?)?
+        .arg(details(alloc))?
+        .arg(progress(alloc))?
+        .arg(file(alloc)?)
+}
+
+fn plan<'a>(alloc: Global) -> Result<Arg<'a>, AllocError> {
+    let plan = Arg::new(alloc, "plan")
+        .long("plan")
+        .value_name("PLAN")
+        .required_unless_present("draft")?
+        .action(ArgAction::Set)
+        .help("The plan: a file with one JSON object, or - for standard input");
+    Ok(plan)
+}
+
+fn batch<'a>(alloc: Global) -> Result<Arg<'a>, AllocError> {
+    let batch = Arg::new(alloc, "batch")
+        .long("batch")
+        .value_name("N")
+        .overrides_with("batch")?
+        .value_parser(value_parser!(u32).range(1..=i64::from(MAX_BATCH_SIZE)))
+        .default_value("1024")
+        .help("Rows that are read and worked on at a time, from 1 to 65536");
+    Ok(batch)
+}
+
+fn workers<'a>(alloc: Global) -> Result<Arg<'a>, AllocError> {
+    let workers = Arg::new(alloc, "workers")
+        .long("workers")
+        .value_name("N")
+        .overrides_with("workers")?
+        .value_parser(value_parser!(u16).range(1..=i64::from(MAX_WORKERS)))
+        .default_value("2")
+        .help("Threads that work on batches, from 1 to 16");
+    Ok(workers)
+}
+
+fn output<'a>(alloc: Global) -> Result<Arg<'a>, AllocError> {
+    let output = Arg::new(alloc, "output")
+        .long("output")
+        .short('o')
+        .value_name("OUT")
+        .overrides_with("output")?
+        .conflicts_with("explain")?
+        .action(ArgAction::Set)
+        .help("The file that takes the frame once all of it is there, or - for standard output");
+    Ok(output)
+}
+
+fn explain<'a>(alloc: Global) -> Arg<'a> {
+    Arg::new(alloc, "explain")
+        .long("explain")
+        .action(ArgAction::SetTrue)
+        .help("Print what each step of the plan leaves and where it runs; no data is read")
+}
+
+fn check<'a>(alloc: Global) -> Result<Arg<'a>, AllocError> {
+    let check = Arg::new(alloc, "check")
+        .long("check")
+        .conflicts_with("explain")?
+        .conflicts_with("output")?
+        .action(ArgAction::SetTrue)
+        .help("Say what is wrong in the files by the columns of the plan; no step is run");
+    Ok(check)
+}
+
+fn limit<'a>(alloc: Global) -> Result<Arg<'a>, AllocError> {
+    let limit = Arg::new(alloc, "limit")
+        .long("limit")
+        .value_name("N")
+        .overrides_with("limit")?
+        .requires_arg("check")?
+        .value_parser(value_parser!(u64))
+        .default_value("100")
+        .help("Lines that --check writes of problems, or 0 for all");
+    Ok(limit)
+}
+
+fn draft<'a>(alloc: Global) -> Result<Arg<'a>, AllocError> {
+    let draft = Arg::new(alloc, "draft")
+        .long("draft")
+        .conflicts_with("plan")?
+        .conflicts_with("explain")?
+        .conflicts_with("check")?
+        .conflicts_with("output")?
+        .action(ArgAction::SetTrue)
+        .help("Print a plan without steps whose sources are the files");
+    Ok(draft)
+}
+
+fn null_values<'a>(alloc: Global) -> Result<Arg<'a>, AllocError> {
+    let texts = Arg::new(alloc, "null-values")
+        .long("null-values")
+        .value_name("TEXTS")
+        .requires_arg("draft")?
+        .allow_hyphen_values(true)
+        .value_delimiter(',')
+        .action(ArgAction::Append)
+        .help("Texts that --draft takes as null, with commas between them");
+    Ok(texts)
+}
+
+fn details<'a>(alloc: Global) -> Arg<'a> {
+    Arg::new(alloc, "details")
+        .long("details")
+        .action(ArgAction::SetTrue)
+        .help("Say more about a fault, in lines after its own: where it is, and what stands there")
+}
+
+fn progress<'a>(alloc: Global) -> Arg<'a> {
+    Arg::new(alloc, "progress")
+        .long("progress")
+        .action(ArgAction::SetTrue)
+        .help("Show on standard error how far the files are read, if it is a terminal")
+}
+
+fn file<'a>(alloc: Global) -> Result<Arg<'a>, AllocError> {
+    let file = Arg::new(alloc, "file")
+        .value_name("FILE")
+        .required_unless_present("explain")?
+        .action(ArgAction::Append)
+        .num_args(1..)
+        .help(
+            "The CSV files, or - for standard input: those of the plan's first source, then those of the next, and so on",
+        );
+    Ok(file)
+}
+
+const AFTER_HELP: &str =
+    r#"A plan has a version, its sources (how many files each has, and the names and kinds of its columns), and its
+steps. They run in order over the rows of the last source; a join names one of the sources before it. Neither
+--batch nor --workers changes what is printed.
+
+Without arguments, the first line of standard input is the plan, and the bytes after it are its one file.
+
+Exit status:
+  0  the frame, or the text asked for, is on standard output or in OUT
+  2  arguments that are refused, or the wrong number of files
+  3  the plan is refused
+  4  a fault of a file's text, or of a step on its rows; --check found problems
+  5  a file cannot be opened or read, or a write failed
+  6  out of memory
+Where it is not 0, a line on standard error says why.
+
+Example, with plan.json
+  {"version":1,"sources":[{"files":1,"columns":[["id","int"],["v","int"]]}],"steps":[{"filter":["gt",{"col":"v"},10]}]}
+and data.csv
+  id,v
+  1,5
+  3,20
+The command
+  frameq --plan plan.json data.csv
+prints
+  id,v
+  3,20"#;

@@ -1,0 +1,149 @@
+//! A check of the data files before a run, and a draft of a plan for them.
+ghost use Rattle.std.specs.Prelude.{◌≢◌, IfErr};
+ghost use Rattle.fq_run.specs.declared.faults.Fault.TheVariants as fault;
+ghost use Rattle.fq_shell.specs.declared.failures.Failure.TheVariants as failure;
+
+use crate::failures::Failure;
+use crate::files::Opener;
+use crate::inputs::{open, read_whole};
+use crate::options::Options;
+use fq_column::Memory;
+use fq_csv::{MAX_FILES, NullValues};
+use fq_language::{MAX_NULL_VALUES, MAX_SOURCES, Plan, Source};
+use fq_places::Unread;
+use fq_review::{Check, Draft, DraftFault, Expected};
+use fq_run::Fault;
+use std::alloc::Global;
+use std::io::Write;
+
+/// Writes on `err` what is wrong in the data files by the plan's sources, and each comparison of constants in its steps. `Problems` if
+/// anything is wrong in a file.
+pub fn check_files<O: Opener, E: Write>(
+    alloc: Global,
+    plan: &Plan,
+    options: &Options<'_>,
+    files: &mut O,
+    err: &mut E,
+) -> Result<(), Failure>
+    ensures failed { IfErr result (λ f. f ≢ failure.Run fault.Write) }
+{
+    write_warnings(alloc, plan, options.plan().unwrap_or_default(), err)?;
+    let mut check = Check::new(alloc, options.limit());
+    let mut names = options.files().iter();
+    let mut number = 0u16;
+    for source in plan.sources() {
+        for name in names.by_ref().take(usize::from(source.files())) {
+            check_file(alloc, &mut check, source, number, name, files, err)?;
+            number = number.saturating_add(1);
+        }
+    }
+    if check.problems() == 0 {
+        return Ok(());
+    }
+    check.write_summary(err);
+    Err(Failure::Problems)
+}
+
+// Writes each comparison of constants in a plan's steps.
+fn write_warnings<E: Write>(
+    alloc: Global,
+    plan: &Plan,
+    name: &str,
+    err: &mut E,
+) -> Result<(), Memory> {
+    for found in plan.constant_comparisons(alloc)? {
+        let _ = writeln!(err, "{name}: warning: {found}");
+    }
+    Ok(())
+}
+
+// Checks a file of a source.
+fn check_file<O: Opener, E: Write>(
+    alloc: Global,
+    check: &mut Check,
+    source: &Source,
+    number: u16,
+    name: &str,
+    files: &mut O,
+    err: &mut E,
+) -> Result<(), Failure>
+    ensures failed { IfErr result (λ f. f ≢ failure.Run fault.Write) }
+{
+    let failure = Failure::Run(Fault::Read { file: number });
+    let expected = Expected {
+        columns: source.columns(),
+        nulls: source.nulls(),
+    };
+    let answer = match files.reader_again(name) {
+        Ok(again) => {
+            let reader = open(files, name, failure)?;
+            check.read_file(number, name, expected, reader, again, err)
+        }
+        Err(Unread::Once) => {
+            let bytes = read_whole(alloc, open(files, name, failure)?, failure)?;
+            let bytes = bytes.as_slice();
+            check.read_file(number, name, expected, bytes, bytes, err)
+        }
+        Err(cause) => Err(cause),
+    };
+    match answer {
+        Ok(()) => Ok(()),
+        Err(Unread::Memory) => Err(Failure::MEMORY),
+        Err(_) => Err(failure),
+    }
+}
+
+/// What the data files draft. `DraftTooLarge` if a plan may not have as many files, sources or texts that are null.
+pub fn draft_of<O: Opener>(
+    alloc: Global,
+    options: &Options<'_>,
+    files: &mut O,
+) -> Result<Draft, Failure>
+    ensures failed { IfErr result (λ f. f ≢ failure.Run fault.Write) }
+{
+    let names = options.files();
+    if names.len() > usize::from(MAX_FILES) || options.null_values().len() > MAX_NULL_VALUES {
+        return Err(Failure::DraftTooLarge);
+    }
+    let mut draft = Draft::new(alloc, null_values(alloc, options)?);
+    for name in names {
+        draft_file(alloc, &mut draft, name, files)?;
+        if draft.sources() > MAX_SOURCES {
+            return Err(Failure::DraftTooLarge);
+        }
+    }
+    Ok(draft)
+}
+
+// The texts that are null.
+fn null_values(alloc: Global, options: &Options<'_>) -> Result<NullValues, Memory> {
+    let mut texts = Vec::with_capacity(alloc, options.null_values().len())?;
+    for text in options.null_values() {
+        texts.push(String::from_str(alloc, text)?)?;
+    }
+    Ok(NullValues::new(texts))
+}
+
+// Drafts one more file.
+fn draft_file<O: Opener>(
+    alloc: Global,
+    draft: &mut Draft,
+    name: &str,
+    files: &mut O,
+) -> Result<(), Failure>
+    ensures failed { IfErr result (λ f. f ≢ failure.Run fault.Write) }
+{
+    let failure = Failure::from(DraftFault::Read {
+        file: draft.files(),
+    });
+    match files.reader_again(name) {
+        Ok(again) => draft.read_file(open(files, name, failure)?, again)?,
+        Err(Unread::Once) => {
+            let bytes = read_whole(alloc, open(files, name, failure)?, failure)?;
+            draft.read_file(bytes.as_slice(), bytes.as_slice())?;
+        }
+        Err(Unread::Memory) => return Err(Failure::MEMORY),
+        Err(_) => return Err(failure),
+    }
+    Ok(())
+}
