@@ -11,17 +11,17 @@ pub enum Segment {
     Item(usize),
 }
 
-/// Why a part does not fit, and the path from it out to the whole.
+/// Why a part does not fit, and the path from it out to the whole. Empty as long as all fits.
 #[derive(Drop)]
 pub struct Reason {
-    pub path: Vec<Segment>,
+    path: Vec<Segment>,
     pub text: String,
 }
 
-/// Why something does not fit, or that an allocation failed.
-#[derive(Drop)]
+/// Why something does not fit: for a reason that is noted, or since an allocation failed.
+#[derive(Clone, Copy)]
 pub enum Unfit {
-    Because(Reason),
+    Noted,
     Memory,
 }
 
@@ -46,29 +46,31 @@ impl<T: Drop> From<AllocFailed<T>> for Unfit {
     }
 }
 
-/// Returns with the reason that a format writes, of the whole so far.
+/// Returns, once the reason is what a format writes, of the whole so far.
 macro_rules! bail {
-    ($alloc:expr, $($format:tt)+) => {
-        return Err($crate::reasons::because($alloc, format!(in $alloc; $($format)+)?))
-    };
+    ($reason:expr, $($format:tt)+) => {{
+        write!($reason.text, $($format)+)?;
+        return Err($crate::reasons::Unfit::Noted)
+    }};
 }
 
 pub(crate) use bail;
 
-/// A reason, of the whole so far.
-pub fn because(alloc: Global, text: String) -> Unfit {
-    let path = Vec::new(alloc);
-    Unfit::Because(Reason { path, text })
-}
-
-/// A part, or why it does not fit, seen from what it is a part of.
-pub fn within<T>(segment: Segment, part: Fit<T>) -> Fit<T> {
-    match part {
-        Err(Unfit::Because(mut reason)) => {
-            reason.path.push(segment)?;
-            Err(Unfit::Because(reason))
+impl Reason {
+    /// None so far.
+    pub fn new(alloc: Global) -> Reason {
+        Reason {
+            path: Vec::new(alloc),
+            text: String::new(alloc),
         }
-        part => part,
+    }
+
+    /// A part that fits or not, seen from what it is a part of.
+    pub fn within<T: Drop>(&mut self, segment: Segment, part: Fit<T>) -> Fit<T> {
+        if let Err(Unfit::Noted) = part {
+            self.path.push(segment)?;
+        }
+        part
     }
 }
 

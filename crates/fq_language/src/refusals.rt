@@ -1,6 +1,6 @@
 //! What a refusal of the check is about, for people.
 use crate::plans::{Plan, Source};
-use crate::reasons::{Fit, Unfit, bail};
+use crate::reasons::{Fit, Reason, Unfit, bail};
 use fq_column::{Memory, Schema};
 use std::alloc::Global;
 use std::fmt;
@@ -25,9 +25,10 @@ impl Plan {
     ///
     /// Sources and steps are judged as `Plan::check` judges them, in the same order.
     pub fn refusal(&self, alloc: Global) -> Result<Option<Refusal>, Memory> {
-        match judge(alloc, self) {
+        let mut why = Reason::new(alloc);
+        match judge(alloc, self, &mut why) {
             Ok(()) => Ok(None),
-            Err(Unfit::Because(reason)) => Ok(Some(Refusal { text: reason.text })),
+            Err(Unfit::Noted) => Ok(Some(Refusal { text: why.text })),
             Err(Unfit::Memory) => Err(Memory),
         }
     }
@@ -40,25 +41,25 @@ impl Display for Refusal {
 }
 
 // Nothing if the check does not refuse a plan.
-fn judge(alloc: Global, plan: &Plan) -> Fit {
+fn judge(alloc: Global, plan: &Plan, why: &mut Reason) -> Fit {
     let Some((main, sides)) = plan.sources.split_last() else {
         unreachable!()
     };
     let mut schemas = Vec::with_capacity(alloc, sides.len())?;
     for (number, source) in sides.iter().enumerate() {
-        schemas.push(source_schema(alloc, number, source)?)?;
+        schemas.push(source_schema(alloc, number, source, why)?)?;
     }
-    let mut schema = source_schema(alloc, sides.len(), main)?;
+    let mut schema = source_schema(alloc, sides.len(), main, why)?;
     for step in plan.steps.iter() {
-        schema = schema_after(alloc, schemas.as_slice(), &schema, step)?;
+        schema = schema_after(alloc, schemas.as_slice(), &schema, step, why)?;
     }
     Ok(())
 }
 
 // The schema of a source.
-fn source_schema(alloc: Global, number: usize, source: &Source) -> Fit<Schema> {
+fn source_schema(alloc: Global, number: usize, source: &Source, why: &mut Reason) -> Fit<Schema> {
     if source.columns.is_empty() {
-        bail!(alloc, "source {number} has no columns")
+        bail!(why, "source {number} has no columns")
     }
     let mut names = Vec::with_capacity(alloc, source.columns.len())?;
     let mut kinds = Vec::with_capacity(alloc, source.columns.len())?;
@@ -66,12 +67,12 @@ fn source_schema(alloc: Global, number: usize, source: &Source) -> Fit<Schema> {
         names.push(String::from_str(alloc, name.as_str())?)?;
         kinds.push(*kind)?;
     }
-    Schema::new(names, kinds).or_else(|fault| {
-        let names: Vec<&str> = source
-            .columns
-            .iter()
-            .map(|(name, _)| name.as_str())
-            .collect(alloc)?;
-        explain_columns(alloc, &names, names.len(), fault)
-    })
+    match Schema::new(names, kinds) {
+        Ok(schema) => Ok(schema),
+        Err(fault) => {
+            let names = source.columns.iter().map(|(name, _)| name.as_str());
+            let names: Vec<&str> = names.collect(alloc)?;
+            explain_columns(&names, names.len(), fault, why)
+        }
+    }
 }

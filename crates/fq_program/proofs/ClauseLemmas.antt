@@ -10,10 +10,10 @@ use Rattle.fq_run.specs.Run.{start_refusal, IsStartFault, IsOfMeaning, Tell}
 use Rattle.fq_language.specs.Plan.{file_streams}
 use Rattle.fq_run.specs.declared.faults.Fault.{Fault}
 use Rattle.fq_run.specs.declared.faults.Fault.TheVariants.{Inputs}
-use Rattle.fq_shell.specs.Ending.{IsOutside}
+use Rattle.fq_messages.specs.Ending.{IsOutside}
 use Rattle.fq_program.specs.Program.{AreSettings, frame_of}
-use Rattle.fq_shell.specs.declared.failures.Failure.TheVariants.{Run}
-use Rattle.fq_shell.proofs.EndingLemmas.{kind-of-fault}
+use Rattle.fq_messages.specs.declared.failures.Failure.TheVariants.{Run}
+use Rattle.fq_messages.proofs.EndingLemmas.{kind-of-fault}
 
 -- why a run does not start
 abbrev pub start_at : ℕ → ℕ → Query → List (List ℕ) → Option Fault

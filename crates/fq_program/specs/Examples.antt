@@ -7,10 +7,10 @@ use Rattle.fq_language.specs.Judged.{refused_at}
 use Rattle.fq_language.specs.declared.faults.PlanFault.TheVariants.{Json, Shape}
 use Rattle.fq_language.specs.declared.faults.Place.TheVariants.{Step}
 use Rattle.fq_run.specs.declared.faults.Fault.TheVariants.{Inputs, Header, BadCell}
-use Rattle.fq_shell.specs.Ending.{code_of}
+use Rattle.fq_messages.specs.Ending.{code_of}
 use Rattle.fq_program.specs.Program.{program}
-use Rattle.fq_shell.specs.declared.failures.Failure.{Failure}
-use Rattle.fq_shell.specs.declared.failures.Failure.TheVariants.{Plan, Check, Run}
+use Rattle.fq_messages.specs.declared.failures.Failure.{Failure}
+use Rattle.fq_messages.specs.declared.failures.Failure.TheVariants.{Plan, Check, Run}
 
 -- the output of an input, or its failure
 abbrev pub output : List ℕ → Result (List ℕ) Failure

@@ -1,4 +1,4 @@
-pub use Rattle.fq_shell.specs.Ending
-pub use Rattle.fq_shell.specs.Input
+pub use Rattle.fq_messages.specs.Ending
+pub use Rattle.fq_messages.specs.Input
 pub mod Program
 pub mod Examples

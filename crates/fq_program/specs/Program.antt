@@ -8,10 +8,10 @@ use Rattle.fq_language.specs.Plan.{Query, files_wanted}
 use Rattle.fq_language.specs.Plan.{file_streams}
 use Rattle.fq_language.specs.Spelling.{read_as_plan}
 use Rattle.fq_run.specs.Run.{start_refusal}
-use Rattle.fq_shell.specs.Input.{plan_line, file_after}
+use Rattle.fq_messages.specs.Input.{plan_line, file_after}
 use Rattle.fq_run.specs.declared.faults.Fault.TheVariants.{Inputs}
-use Rattle.fq_shell.specs.declared.failures.Failure.{Failure}
-use Rattle.fq_shell.specs.declared.failures.Failure.TheVariants.{Plan, Check, Run}
+use Rattle.fq_messages.specs.declared.failures.Failure.{Failure}
+use Rattle.fq_messages.specs.declared.failures.Failure.TheVariants.{Plan, Check, Run}
 
 -- the plan that a text spells, if the check does not refuse it
 abbrev pub checked_plan : List ℕ → Result Query Failure

@@ -2,16 +2,16 @@
 ghost use Rattle.std.specs.Prelude.{◌≢◌, ◌<◌, ◌^◌, length, IfErr, OnOk};
 ghost use Rattle.std.specs.Io.KnownBytes.{Keeps};
 ghost use Rattle.fq_run.specs.declared.faults.Fault.TheVariants as fault;
-ghost use Rattle.fq_shell.specs.Ending.{done, bad_device};
-ghost use Rattle.fq_shell.specs.declared.failures.Failure.TheVariants as failure;
+ghost use Rattle.fq_messages.specs.Ending.{done, bad_device};
+ghost use Rattle.fq_messages.specs.declared.failures.Failure.TheVariants as failure;
 
 use crate::program::{checked_plan, run_over};
 use clap::error::ErrorKind;
-use fq_plan::{Checked, Fault, read_plan};
-use fq_shell::{
-    Failure, Learned, Noted, OpenFault, Opener, Options, Output, Status, check_files, draft_of,
-    open, read_whole, report, write_details, write_refusal,
+use fq_messages::{
+    Failure, Learned, Status, check_files, draft_of, open, read_whole, report, write_details,
 };
+use fq_plan::{Checked, Fault, read_plan};
+use fq_shell::{Noted, OpenFault, Opener, Options, Output, write_refusal};
 use std::alloc::Global;
 use std::io::{Read, Write};
 use std::sync::Wait;

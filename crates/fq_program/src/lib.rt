@@ -9,7 +9,6 @@ mod command_line;
 mod program;
 
 pub use command_line::with_words;
-pub use fq_shell::{
-    Failure, Noted, OpenFault, Opener, Output, Status, SystemFiles, SystemOutput, Unread, report,
-};
+pub use fq_messages::{Failure, Status, report};
+pub use fq_shell::{Noted, OpenFault, Opener, Output, SystemFiles, SystemOutput, Unread};
 pub use program::one_input;

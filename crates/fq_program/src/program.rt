@@ -5,13 +5,14 @@ ghost use Rattle.fq_column.specs.Frame.{Frame};
 ghost use Rattle.fq_csv.specs.Printed.{printed};
 ghost use Rattle.fq_run.specs.declared.faults.Fault.TheVariants as fault;
 ghost use Rattle.fq_run.specs.Run.{Tell};
-ghost use Rattle.fq_shell.specs.Ending.{code_of, done, bad_device, no_memory, status_of, IsOutside};
+ghost use Rattle.fq_messages.specs.Ending.{code_of, done, bad_device, no_memory, status_of, IsOutside};
 ghost use Rattle.fq_program.specs.Program.{AreSettings, program, checked_plan as checked_plan_of, frame_of};
-ghost use Rattle.fq_shell.specs.declared.failures.Failure.TheVariants as failure;
-ghost use Rattle.fq_shell.specs.declared.status.Status.TheVariants.{NoMemory};
+ghost use Rattle.fq_messages.specs.declared.failures.Failure.TheVariants as failure;
+ghost use Rattle.fq_messages.specs.declared.status.Status.TheVariants.{NoMemory};
 
+use fq_messages::{Failure, read_whole, report, split_line};
 use fq_plan::{Check, Checked, Fault, read_plan};
-use fq_shell::{BATCH_SIZE, Failure, WORKERS, read_whole, report, split_line};
+use fq_shell::{BATCH_SIZE, WORKERS};
 use std::alloc::Global;
 use std::io::{Read, Write};
 use std::sync::Wait;

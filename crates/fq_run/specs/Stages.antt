@@ -11,7 +11,7 @@ use Rattle.fq_ops.specs.Join.{join_schema}
 use Rattle.fq_ops.specs.Roll.{roll_schema}
 use Rattle.fq_ops.specs.declared.joins.How.{How}
 use Rattle.fq_run.specs.Physical.{Physical, files_wanted, front_fields, side_fields, main_fields}
-use Rattle.fq_csv.specs.Sources.{Source, source_of_files}
+use Rattle.fq_csv.specs.Sources.{source_of_files}
 use Rattle.fq_csv.specs.declared.sources.TheConstants.{MAX_FILES}
 use Rattle.fq_csv.specs.declared.sources.SourceFiles.{SourceFiles}
 use Rattle.fq_run.specs.declared.operators.Operator.{Operator}

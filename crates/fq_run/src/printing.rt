@@ -1,5 +1,5 @@
 //! Printing beside the caller's thread.
-ghost use Rattle.std.specs.Prelude.{◌≡◌, ◌++◌, flat_map, Ok, IfOk, OnOk};
+ghost use Rattle.std.specs.Prelude.{◌≡◌, ◌++◌, Ok, IfOk, OnOk};
 ghost use Rattle.fq_csv.specs.Printed.{printed_names, printed_rows};
 ghost use Rattle.fq_run.specs.PrintedText.{rows_text, text_of};
 ghost use Rattle.fq_run.specs.Printing.{part_text, whole_text};

@@ -101,69 +101,77 @@ impl<'a> Options<'a> {
     }
 }
 
-// The command line, and its help.
+// The command line, and its help, in whose order the arguments stand.
 fn command<'a>(alloc: Global) -> Result<Command<'a>, AllocError> {
-    Command::new(alloc, "frameq")
+    let command = Command::new(alloc, "frameq")
         .no_binary_name(true)
         .version(VERSION)
         .about("Runs a plan over CSV files, and prints one CSV frame")
-        .after_long_help(AFTER_HELP)
-        .arg(plan(alloc)?)?
-        .arg(batch(alloc)?)?
-        .arg(workers(alloc)?)?
-        .arg(output(alloc)?)?
-        .arg(explain(alloc))?
-        .arg(check(alloc)?)?
-        .arg(limit(alloc)?)?
-        .arg(draft(alloc)?)?
-        .arg(null_values(alloc)?)?
-        .arg(details(alloc))?
-        .arg(progress(alloc))?
-        .arg(file(alloc)?)
+        .after_long_help(AFTER_HELP);
+    let command = with_run(alloc, command)?;
+    let command = with_reviews(alloc, command)?;
+    with_messages(alloc, command)?.arg(file(alloc)?)
+}
+
+// Adds the arguments of a run.
+fn with_run<'a>(alloc: Global, command: Command<'a>) -> Result<Command<'a>, AllocError> {
+    let command = command.arg(plan(alloc)?)?;
+    let command = command.arg(batch(alloc)?)?;
+    let command = command.arg(workers(alloc)?)?;
+    command.arg(output(alloc)?)
+}
+
+// Adds the arguments with which no plan is run.
+fn with_reviews<'a>(alloc: Global, command: Command<'a>) -> Result<Command<'a>, AllocError> {
+    let command = command.arg(explain(alloc))?.arg(check(alloc)?)?;
+    let command = command.arg(limit(alloc)?)?;
+    let command = command.arg(draft(alloc)?)?;
+    command.arg(null_values(alloc)?)
+}
+
+// Adds the arguments about what is said beside a frame.
+fn with_messages<'a>(alloc: Global, command: Command<'a>) -> Result<Command<'a>, AllocError> {
+    command.arg(details(alloc))?.arg(progress(alloc))
 }
 
 fn plan<'a>(alloc: Global) -> Result<Arg<'a>, AllocError> {
-    let plan = Arg::new(alloc, "plan")
+    Arg::new(alloc, "plan")
         .long("plan")
         .value_name("PLAN")
-        .required_unless_present("draft")?
         .action(ArgAction::Set)
-        .help("The plan: a file with one JSON object, or - for standard input");
-    Ok(plan)
+        .help("The plan: a file with one JSON object, or - for standard input")
+        .required_unless_present("draft")
 }
 
 fn batch<'a>(alloc: Global) -> Result<Arg<'a>, AllocError> {
-    let batch = Arg::new(alloc, "batch")
+    Arg::new(alloc, "batch")
         .long("batch")
         .value_name("N")
-        .overrides_with("batch")?
         .value_parser(value_parser!(u32).range(1..=i64::from(MAX_BATCH_SIZE)))
         .default_value("1024")
-        .help("Rows that are read and worked on at a time, from 1 to 65536");
-    Ok(batch)
+        .help("Rows that are read and worked on at a time, from 1 to 65536")
+        .overrides_with("batch")
 }
 
 fn workers<'a>(alloc: Global) -> Result<Arg<'a>, AllocError> {
-    let workers = Arg::new(alloc, "workers")
+    Arg::new(alloc, "workers")
         .long("workers")
         .value_name("N")
-        .overrides_with("workers")?
         .value_parser(value_parser!(u16).range(1..=i64::from(MAX_WORKERS)))
         .default_value("2")
-        .help("Threads that work on batches, from 1 to 16");
-    Ok(workers)
+        .help("Threads that work on batches, from 1 to 16")
+        .overrides_with("workers")
 }
 
 fn output<'a>(alloc: Global) -> Result<Arg<'a>, AllocError> {
-    let output = Arg::new(alloc, "output")
+    Arg::new(alloc, "output")
         .long("output")
         .short('o')
         .value_name("OUT")
-        .overrides_with("output")?
-        .conflicts_with("explain")?
         .action(ArgAction::Set)
-        .help("The file that takes the frame once all of it is there, or - for standard output");
-    Ok(output)
+        .help("The file that takes the frame once all of it is there, or - for standard output")
+        .overrides_with("output")?
+        .conflicts_with("explain")
 }
 
 fn explain<'a>(alloc: Global) -> Arg<'a> {
@@ -174,49 +182,45 @@ fn explain<'a>(alloc: Global) -> Arg<'a> {
 }
 
 fn check<'a>(alloc: Global) -> Result<Arg<'a>, AllocError> {
-    let check = Arg::new(alloc, "check")
+    Arg::new(alloc, "check")
         .long("check")
-        .conflicts_with("explain")?
-        .conflicts_with("output")?
         .action(ArgAction::SetTrue)
-        .help("Say what is wrong in the files by the columns of the plan; no step is run");
-    Ok(check)
+        .help("Say what is wrong in the files by the columns of the plan; no step is run")
+        .conflicts_with("explain")?
+        .conflicts_with("output")
 }
 
 fn limit<'a>(alloc: Global) -> Result<Arg<'a>, AllocError> {
-    let limit = Arg::new(alloc, "limit")
+    Arg::new(alloc, "limit")
         .long("limit")
         .value_name("N")
-        .overrides_with("limit")?
-        .requires_arg("check")?
         .value_parser(value_parser!(u64))
         .default_value("100")
-        .help("Lines that --check writes of problems, or 0 for all");
-    Ok(limit)
+        .help("Lines that --check writes of problems, or 0 for all")
+        .overrides_with("limit")?
+        .requires_arg("check")
 }
 
 fn draft<'a>(alloc: Global) -> Result<Arg<'a>, AllocError> {
-    let draft = Arg::new(alloc, "draft")
+    Arg::new(alloc, "draft")
         .long("draft")
+        .action(ArgAction::SetTrue)
+        .help("Print a plan without steps whose sources are the files")
         .conflicts_with("plan")?
         .conflicts_with("explain")?
         .conflicts_with("check")?
-        .conflicts_with("output")?
-        .action(ArgAction::SetTrue)
-        .help("Print a plan without steps whose sources are the files");
-    Ok(draft)
+        .conflicts_with("output")
 }
 
 fn null_values<'a>(alloc: Global) -> Result<Arg<'a>, AllocError> {
-    let texts = Arg::new(alloc, "null-values")
+    Arg::new(alloc, "null-values")
         .long("null-values")
         .value_name("TEXTS")
-        .requires_arg("draft")?
         .allow_hyphen_values(true)
         .value_delimiter(',')
         .action(ArgAction::Append)
-        .help("Texts that --draft takes as null, with commas between them");
-    Ok(texts)
+        .help("Texts that --draft takes as null, with commas between them")
+        .requires_arg("draft")
 }
 
 fn details<'a>(alloc: Global) -> Arg<'a> {
@@ -234,15 +238,14 @@ fn progress<'a>(alloc: Global) -> Arg<'a> {
 }
 
 fn file<'a>(alloc: Global) -> Result<Arg<'a>, AllocError> {
-    let file = Arg::new(alloc, "file")
+    Arg::new(alloc, "file")
         .value_name("FILE")
-        .required_unless_present("explain")?
         .action(ArgAction::Append)
         .num_args(1..)
         .help(
             "The CSV files, or - for standard input: those of the plan's first source, then those of the next, and so on",
-        );
-    Ok(file)
+        )
+        .required_unless_present("explain")
 }
 
 const AFTER_HELP: &str =

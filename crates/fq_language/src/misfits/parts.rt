@@ -6,7 +6,7 @@ ghost use Rattle.std.specs.Prelude.{◌≤◌, OnOk};
 use crate::plans::Version;
 use crate::reading::Spelled;
 use crate::reading::values::two_items;
-use crate::reasons::{Fit, Segment, bail, within};
+use crate::reasons::{Fit, Reason, Segment, bail};
 use crate::words::{HOWS, KINDS, Words};
 use fq_column::Kind;
 use fq_expr::Expr;
@@ -20,7 +20,7 @@ use std::fmt::{Display, Formatter, Write};
 /// A part of a plan, of which it can be said why a value does not spell it.
 pub trait Explained: Spelled {
     /// Why a value that spells no such part does not.
-    fn explain(judge: Judge, value: &Value) -> Fit;
+    fn explain(judge: &mut Judge, value: &Value) -> Fit;
 }
 
 /// A part that stands in arrays of its sort.
@@ -29,38 +29,46 @@ pub trait Listed: Explained {
     const ITEMS: &'static str;
 }
 
-/// Judges values by a version of the language; its methods give what a value spells, or why it does not.
-#[derive(Clone, Copy)]
+/// Judges values by a version of the language; its methods give what a value spells, or note why it does not.
+#[derive(Drop)]
 pub struct Judge {
     pub alloc: Global,
     pub version: Version,
+    pub reason: Reason,
 }
 
 impl Judge {
     /// The part that a value spells.
-    pub fn part<T: Explained>(self, value: &Value) -> Fit<T> {
+    pub fn part<T: Explained>(&mut self, value: &Value) -> Fit<T> {
         if let Some(part) = T::read(self.alloc, self.version, value)? {
             return Ok(part);
         }
         T::explain(self, value)?;
-        bail!(self.alloc, "the plan has the wrong shape")
+        bail!(self.reason, "the plan has the wrong shape")
+    }
+
+    /// A part that fits or not, seen from what it is a part of.
+    pub fn within<T: Drop>(&mut self, segment: Segment, part: Fit<T>) -> Fit<T> {
+        self.reason.within(segment, part)
     }
 
     /// The part that an item of an array spells.
-    pub fn item<T: Explained>(self, number: usize, item: &Value) -> Fit<T> {
-        within(Segment::Item(number), self.part(item))
+    pub fn item<T: Explained>(&mut self, number: usize, item: &Value) -> Fit<T> {
+        let part = self.part(item);
+        self.within(Segment::Item(number), part)
     }
 
     /// The part that an object's member spells.
-    pub fn member<T: Explained>(self, value: &Value, name: &'static str) -> Fit<T> {
-        match value.get(name) {
-            Some(part) => within(Segment::Member(name), self.part(part)),
-            None => bail!(self.alloc, "\"{name}\" is missing"),
-        }
+    pub fn member<T: Explained>(&mut self, value: &Value, name: &'static str) -> Fit<T> {
+        let Some(part) = value.get(name) else {
+            bail!(self.reason, "\"{name}\" is missing")
+        };
+        let part = self.part(part);
+        self.within(Segment::Member(name), part)
     }
 
     /// The part that an object's member spells, if it is there.
-    pub fn given<T: Explained>(self, value: &Value, name: &'static str) -> Fit<Option<T>> {
+    pub fn given<T: Explained>(&mut self, value: &Value, name: &'static str) -> Fit<Option<T>> {
         match value.get(name) {
             Some(_) => Ok(Some(self.member(value, name)?)),
             None => Ok(None),
@@ -68,38 +76,45 @@ impl Judge {
     }
 
     /// Nothing if a value is an object with no members but these; they may be missing.
-    pub fn members(self, value: &Value, members: Words) -> Fit {
+    pub fn members(&mut self, value: &Value, members: Words) -> Fit {
         let allowed = members.of(self.version);
         let Some(object) = value.as_object() else {
-            bail!(self.alloc, "{} is not an object of {allowed}", Found(value));
+            bail!(
+                self.reason,
+                "{} is not an object of {allowed}",
+                Found(value)
+            );
         };
         let Some(name) = object.keys().find(|name| !allowed.has(name.as_str())) else {
             return Ok(());
         };
         let found = Quoted(name.as_bytes());
         if members.has(name.as_str()) {
-            bail!(self.alloc, "{found} needs version 2");
+            bail!(self.reason, "{found} needs version 2");
         }
-        bail!(self.alloc, "{found} is not a member; there are {allowed:#}")
+        bail!(
+            self.reason,
+            "{found} is not a member; there are {allowed:#}"
+        )
     }
 
     /// Nothing if there are at most so many.
-    pub fn at_most(self, count: usize, most: usize, what: &str) -> Fit
+    pub fn at_most(&mut self, count: usize, most: usize, what: &str) -> Fit
         ensures { OnOk result (count ≤ most) }
     {
         if count > most {
-            bail!(self.alloc, "{count} {what}; at most {most}");
+            bail!(self.reason, "{count} {what}; at most {most}");
         }
         Ok(())
     }
 
     /// What stands there, and what is wrong with it.
-    pub fn wrong(self, value: &Value, what: &str) -> Fit {
-        bail!(self.alloc, "{} {what}", Found(value))
+    pub fn wrong(&mut self, value: &Value, what: &str) -> Fit {
+        bail!(self.reason, "{} {what}", Found(value))
     }
 
     /// Why a value is not one of the words of the version.
-    pub fn no_word(self, value: &Value, words: Words) -> Fit {
+    pub fn no_word(&mut self, value: &Value, words: Words) -> Fit {
         let allowed = words.of(self.version);
         if let Some(word) = value.as_str()
             && words.has(word)
@@ -107,11 +122,11 @@ impl Judge {
         {
             return self.wrong(value, "needs version 2");
         }
-        bail!(self.alloc, "{} is not one of {allowed}", Found(value))
+        bail!(self.reason, "{} is not one of {allowed}", Found(value))
     }
 
     /// `no_word`, of a word that may be one of others, of which it is said what they take.
-    pub fn other_word(self, value: &Value, words: Words, others: Words, takes: &str) -> Fit {
+    pub fn other_word(&mut self, value: &Value, words: Words, others: Words, takes: &str) -> Fit {
         match value.as_str() {
             Some(word) if others.has(word) => self.wrong(value, takes),
             _ => self.no_word(value, words),
@@ -119,13 +134,13 @@ impl Judge {
     }
 
     /// Why a value is no array of the right length.
-    pub fn wrong_length(self, value: &Value, form: &str) -> Fit {
+    pub fn wrong_length(&mut self, value: &Value, form: &str) -> Fit {
         let Some(items) = value.as_array() else {
-            bail!(self.alloc, "{} is not an array; {form}", Found(value));
+            bail!(self.reason, "{} is not an array; {form}", Found(value));
         };
         let (found, count) = (Found(value), items.len());
         let plural = if count == 1 { "" } else { "s" };
-        bail!(self.alloc, "{found} has {count} item{plural}; {form}")
+        bail!(self.reason, "{found} has {count} item{plural}; {form}")
     }
 }
 
@@ -145,7 +160,7 @@ impl Display for Found<'_> {
 }
 
 impl Explained for String {
-    fn explain(judge: Judge, value: &Value) -> Fit {
+    fn explain(judge: &mut Judge, value: &Value) -> Fit {
         judge.wrong(value, "is not a string")
     }
 }
@@ -155,28 +170,28 @@ impl Listed for String {
 }
 
 impl Explained for i64 {
-    fn explain(judge: Judge, value: &Value) -> Fit {
+    fn explain(judge: &mut Judge, value: &Value) -> Fit {
         judge.wrong(value, "is not a whole number of 64 bits")
     }
 }
 
 impl Explained for Kind {
-    fn explain(judge: Judge, value: &Value) -> Fit {
+    fn explain(judge: &mut Judge, value: &Value) -> Fit {
         judge.no_word(value, KINDS)
     }
 }
 
 impl Explained for How {
-    fn explain(judge: Judge, value: &Value) -> Fit {
+    fn explain(judge: &mut Judge, value: &Value) -> Fit {
         judge.no_word(value, HOWS)
     }
 }
 
 impl<T: Listed> Explained for Vec<T> {
-    fn explain(judge: Judge, value: &Value) -> Fit {
+    fn explain(judge: &mut Judge, value: &Value) -> Fit {
         let Some(items) = value.as_array() else {
             bail!(
-                judge.alloc,
+                judge.reason,
                 "{} is not an array of {}",
                 Found(value),
                 T::ITEMS
@@ -190,7 +205,7 @@ impl<T: Listed> Explained for Vec<T> {
 }
 
 impl Explained for (String, Kind) {
-    fn explain(judge: Judge, value: &Value) -> Fit {
+    fn explain(judge: &mut Judge, value: &Value) -> Fit {
         explain_pair::<String, Kind>(judge, value, "a column is [NAME, KIND]")
     }
 }
@@ -200,7 +215,7 @@ impl Listed for (String, Kind) {
 }
 
 impl Explained for (String, Expr) {
-    fn explain(judge: Judge, value: &Value) -> Fit {
+    fn explain(judge: &mut Judge, value: &Value) -> Fit {
         explain_pair::<String, Expr>(judge, value, "an output is [NAME, EXPRESSION]")
     }
 }
@@ -210,7 +225,7 @@ impl Listed for (String, Expr) {
 }
 
 // Why a value is no array of two parts, of which the form says what they are.
-fn explain_pair<A: Explained, B: Explained>(judge: Judge, value: &Value, form: &str) -> Fit {
+fn explain_pair<A: Explained, B: Explained>(judge: &mut Judge, value: &Value, form: &str) -> Fit {
     let Some((first, second)) = two_items(value) else {
         return judge.wrong_length(value, form);
     };

@@ -1,8 +1,8 @@
 use Rattle.std.proofs.Common.{◌≡◌, ◌∙◌, sym, subst, ℕ}
 use Rattle.std.specs.Prelude.{◌⊎◌}
-use Rattle.fq_shell.specs.Ending.{code_of, bad_device, no_memory}
+use Rattle.fq_messages.specs.Ending.{code_of, bad_device, no_memory}
 use Rattle.fq_program.specs.Program.{program}
-use Rattle.fq_shell.proofs.EndingLemmas.{ended-well, ended-as}
+use Rattle.fq_messages.proofs.EndingLemmas.{ended-well, ended-as}
 use Rattle.fq_program.proofs.program.one_input.Goals as goal
 
 pub returns-clause-status : goal.returns-clause-status

@@ -1,12 +1,11 @@
 //! What more can be said of a failure than its one line says.
 use crate::failures::Failure;
 use crate::file_details::FileDetails;
-use crate::files::{OpenFault, Opener, STANDARD_INPUT};
-use crate::options::Options;
 use fq_column::Kind;
 use fq_language::{Plan, misfit_of, read_plan};
 use fq_places::{Quoted, Unread};
 use fq_run::Fault;
+use fq_shell::{OpenFault, Opener, Options, STANDARD_INPUT};
 use std::alloc::Global;
 use std::fmt::{Display, Formatter};
 use std::io::Write;
@@ -142,54 +141,86 @@ fn write_run<O: Opener, E: Write>(
     err: &mut E,
 ) -> Option<()> {
     let plan = read_plan(alloc, text).ok()?;
+    write_fault(alloc, fault, &plan, names, files, err)
+}
+
+// What a run's fault is about, by the plan.
+fn write_fault<O: Opener, E: Write>(
+    alloc: Global,
+    fault: Fault,
+    plan: &Plan,
+    names: &[&str],
+    files: &mut O,
+    err: &mut E,
+) -> Option<()> {
     match fault {
-        Fault::Inputs { .. } => write_sources(&plan, names, err),
+        Fault::Inputs { .. } => write_sources(plan, names, err),
         Fault::Overflow { step, item } | Fault::SumRange { step, item } => {
             writeln!(err, "  {}", plan.step_text(step, item)).ok()
         }
         Fault::JoinRows { step } | Fault::RollRange { step } => {
             writeln!(err, "  {}", plan.step_text(step, 0)).ok()
         }
-        Fault::Header { file } => FileDetails::of(&plan, names, file)?.write_header(
+        Fault::Header { file } => FileDetails::of(plan, names, file)?.write_header(
             alloc, files, err,
         ),
         Fault::Width { file, row } => {
-            FileDetails::of(&plan, names, file)?.write_width(alloc, row, files, err)
+            FileDetails::of(plan, names, file)?.write_width(alloc, row, files, err)
         }
         Fault::BadCell { file, row, column } => {
-            FileDetails::of(&plan, names, file)?.write_cell(alloc, row, column, files, err)
+            FileDetails::of(plan, names, file)?.write_cell(alloc, row, column, files, err)
         }
-        Fault::TooLong { file } => FileDetails::of(&plan, names, file)?.write_length(err),
+        Fault::TooLong { file } => FileDetails::of(plan, names, file)?.write_length(err),
         Fault::Setting | Fault::Memory | Fault::Read { .. } | Fault::Write => None,
     }
 }
 
 // The sources of a plan, with the files that they get.
-fn write_sources<E: Write>(plan: &Plan, names: &[&str], err: &mut E) -> Option<()> {
-    let mut names = names.iter();
+fn write_sources<'a, E: Write>(plan: &'a Plan, names: &'a [&'a str], err: &mut E) -> Option<()> {
+    let mut before = 0usize;
     for (number, source) in plan.sources().iter().enumerate() {
         let files = usize::from(source.files());
-        write!(err, "  source {number} ({}):", Columns(source.columns())).ok()?;
-        let mut given = 0usize;
-        for name in names.by_ref().take(files) {
-            write!(err, "{} {name}", comma_after(given)).ok()?;
-            given = given.saturating_add(1);
-        }
-        match files.saturating_sub(given) {
-            0 => writeln!(err, "").ok()?,
-            1 => writeln!(err, "{} missing", comma_after(given)).ok()?,
-            missing => writeln!(err, "{} {missing} missing", comma_after(given)).ok()?,
-        }
+        let after = before.saturating_add(files);
+        let given = Given {
+            number,
+            columns: source.columns(),
+            files,
+            names: names
+                .get(before..after.min(names.len()))
+                .unwrap_or_default(),
+        };
+        writeln!(err, "  {given}").ok()?;
+        before = after;
     }
-    for name in names {
+    for name in names.iter().skip(before) {
         writeln!(err, "  not wanted: {name}").ok()?;
     }
     Some(())
 }
 
-// What stands before another of these.
-fn comma_after(count: usize) -> &'static str {
-    if count == 0 { "" } else { "," }
+// A source of a plan by its number and its columns, how many files it has, and the names of those that it gets.
+#[derive(Clone, Copy)]
+struct Given<'a> {
+    number: usize,
+    columns: &'a [(String, Kind)],
+    files: usize,
+    names: &'a [&'a str],
+}
+
+impl Display for Given<'_> {
+    fn fmt<W: fmt::Write>(&self, f: &mut Formatter<W>) -> fmt::Result {
+        write!(f, "source {} ({}):", self.number, Columns(self.columns))?;
+        for (place, name) in self.names.iter().enumerate() {
+            let comma = if place == 0 { "" } else { "," };
+            write!(f, "{comma} {name}")?;
+        }
+        let comma = if self.names.is_empty() { "" } else { "," };
+        match self.files.saturating_sub(self.names.len()) {
+            0 => Ok(()),
+            1 => write!(f, "{comma} missing"),
+            missing => write!(f, "{comma} {missing} missing"),
+        }
+    }
 }
 
 // The names of the first two columns, and whether there are more.

@@ -1,18 +1,17 @@
 //! A check of the data files before a run, and a draft of a plan for them.
 ghost use Rattle.std.specs.Prelude.{◌≢◌, IfErr};
 ghost use Rattle.fq_run.specs.declared.faults.Fault.TheVariants as fault;
-ghost use Rattle.fq_shell.specs.declared.failures.Failure.TheVariants as failure;
+ghost use Rattle.fq_messages.specs.declared.failures.Failure.TheVariants as failure;
 
 use crate::failures::Failure;
-use crate::files::Opener;
 use crate::inputs::{open, read_whole};
-use crate::options::Options;
 use fq_column::Memory;
 use fq_csv::{MAX_FILES, NullValues};
 use fq_language::{MAX_NULL_VALUES, MAX_SOURCES, Plan, Source};
 use fq_places::Unread;
 use fq_review::{Check, Draft, DraftFault, Expected};
 use fq_run::Fault;
+use fq_shell::{Opener, Options};
 use std::alloc::Global;
 use std::io::Write;
 

@@ -1,11 +1,11 @@
 //! What more can be said of a fault of a file: the line, and what stands there.
-use crate::files::Opener;
 use csv::ByteRecord;
 use fq_column::Kind;
 use fq_csv::MAX_ROWS;
 use fq_language::Plan;
 use fq_places::{Quoted, Unread, ends_in_quotes, line_of_record, record_at};
 use fq_review::{BadField, Header, Width, wanted};
+use fq_shell::Opener;
 use std::alloc::Global;
 use std::fmt;
 use std::fmt::{Display, Formatter};

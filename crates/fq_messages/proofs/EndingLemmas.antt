@@ -8,10 +8,10 @@ use Rattle.fq_run.specs.Run.{IsStartFault, IsOfMeaning}
 use Rattle.fq_run.specs.declared.faults.Fault.{Fault}
 use Rattle.fq_run.specs.declared.faults.Fault.TheVariants as fault
 use Rattle.fq_language.specs.declared.faults.PlanFault.TheVariants as plan
-use Rattle.fq_shell.specs.Ending.{status_of_fault, status_of, number_of, done, bad_device, no_memory, code_of, IsOutside}
-use Rattle.fq_shell.specs.declared.failures.Failure.{Failure}
-use Rattle.fq_shell.specs.declared.status.Status.TheVariants.{BadPlan, NoMemory}
-use Rattle.fq_shell.specs.declared.failures.Failure.TheVariants.{Arguments, InputTwice, PlanFile, Plan, Check, Run, Problems, Draft, DraftTooLarge}
+use Rattle.fq_messages.specs.Ending.{status_of_fault, status_of, number_of, done, bad_device, no_memory, code_of, IsOutside}
+use Rattle.fq_messages.specs.declared.failures.Failure.{Failure}
+use Rattle.fq_messages.specs.declared.status.Status.TheVariants.{BadPlan, NoMemory}
+use Rattle.fq_messages.specs.declared.failures.Failure.TheVariants.{Arguments, InputTwice, PlanFile, Plan, Check, Run, Problems, Draft, DraftTooLarge}
 use Rattle.fq_review.specs.declared.drafts.DraftFault.TheVariants as draft
 
 -- a run's fault: it did not start, or the fault is the plan's meaning, or it came from outside

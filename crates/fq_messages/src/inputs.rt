@@ -1,9 +1,9 @@
 //! What is read into memory: an input as a whole, and its two parts, a plan's line and the file after it.
 ghost use Rattle.std.specs.Prelude.{◌≡◌, ◌⊎◌, ℕ, List, Some, IfOk, IfErr};
-ghost use Rattle.fq_shell.specs.Input.{plan_line, file_after};
+ghost use Rattle.fq_messages.specs.Input.{plan_line, file_after};
 
 use crate::failures::Failure;
-use crate::files::{OpenFault, Opener};
+use fq_shell::{OpenFault, Opener};
 use std::alloc::Global;
 use std::io;
 use std::io::{ErrorKind, Read};

@@ -1,7 +1,7 @@
 //! Why the program ends without a frame, and what it says then.
 ghost use Rattle.std.specs.Prelude.{◌≡◌};
-ghost use Rattle.fq_shell.specs.Ending.{code_of, status_of, status_of_fault};
-ghost use Rattle.fq_shell.specs.declared.failures.Failure.TheVariants as failure;
+ghost use Rattle.fq_messages.specs.Ending.{code_of, status_of, status_of_fault};
+ghost use Rattle.fq_messages.specs.declared.failures.Failure.TheVariants as failure;
 ghost use Rattle.fq_run.specs.declared.faults.Fault.TheVariants as fault;
 
 use crate::status::Status;
@@ -99,7 +99,7 @@ pub fn report<E: Write>(ending: Result<(), Failure>, err: &mut E) -> u8
 }
 
 impl From<PlanFault> for Failure {
-    ghost use Rattle.fq_shell.specs.Ending.{misread};
+    ghost use Rattle.fq_messages.specs.Ending.{misread};
 
     ghost from_gives = { λ f e. e ≡ misread f };
 
@@ -112,7 +112,7 @@ impl From<PlanFault> for Failure {
 }
 
 impl From<CheckFault> for Failure {
-    ghost use Rattle.fq_shell.specs.Ending.{refused};
+    ghost use Rattle.fq_messages.specs.Ending.{refused};
 
     ghost from_gives = { λ f e. e ≡ refused f };
 
@@ -125,7 +125,7 @@ impl From<CheckFault> for Failure {
 }
 
 impl From<DraftFault> for Failure {
-    ghost use Rattle.fq_shell.specs.Ending.{undrafted};
+    ghost use Rattle.fq_messages.specs.Ending.{undrafted};
 
     ghost from_gives = { λ f e. e ≡ undrafted f };
 

@@ -6,12 +6,12 @@ use Rattle.fq_run.specs.declared.faults.Fault.{Fault}
 use Rattle.fq_run.specs.declared.faults.Fault.TheVariants.{Inputs, Setting, Memory, Read, Write}
 use Rattle.fq_language.specs.declared.faults.PlanFault.{PlanFault}
 use Rattle.fq_language.specs.declared.faults.PlanFault.TheVariants as plan
-use Rattle.fq_shell.specs.declared.failures.Failure.{Failure}
+use Rattle.fq_messages.specs.declared.failures.Failure.{Failure}
 use Rattle.fq_review.specs.declared.drafts.DraftFault.{DraftFault}
 use Rattle.fq_review.specs.declared.drafts.DraftFault.TheVariants as draft
-use Rattle.fq_shell.specs.declared.failures.Failure.TheVariants.{Arguments, InputTwice, PlanFile, Plan, Check, Run, Problems, Draft, DraftTooLarge}
-use Rattle.fq_shell.specs.declared.status.Status.{Status}
-use Rattle.fq_shell.specs.declared.status.Status.TheVariants.{Done, BadArguments, BadPlan, BadFile, BadDevice, NoMemory}
+use Rattle.fq_messages.specs.declared.failures.Failure.TheVariants.{Arguments, InputTwice, PlanFile, Plan, Check, Run, Problems, Draft, DraftTooLarge}
+use Rattle.fq_messages.specs.declared.status.Status.{Status}
+use Rattle.fq_messages.specs.declared.status.Status.TheVariants.{Done, BadArguments, BadPlan, BadFile, BadDevice, NoMemory}
 
 -- the status of a run's fault
 abbrev pub status_of_fault : Fault → Status

@@ -1,6 +1,6 @@
 use Rattle.std.proofs.Common.{sym, arith}
-use Rattle.fq_shell.proofs.InputLemmas.{plan_line-at, plan_line-all, file_after-at, file_after-none}
-use Rattle.fq_shell.proofs.inputs.split_line.Goals as goal
+use Rattle.fq_messages.proofs.InputLemmas.{plan_line-at, plan_line-all, file_after-at, file_after-none}
+use Rattle.fq_messages.proofs.inputs.split_line.Goals as goal
 
 pub returns-then-input-i-eq10-clause-line : goal.returns-then-input-i-eq10-clause-line
 returns-then-input-i-eq10-clause-line c = sym (plan_line-at c.args.input.now c.loop-i.i c.loop-i-test.true c.loop-i.invariant c.if-input-i-eq10.true)

@@ -6,7 +6,7 @@ use Rattle.std.proofs.Math.Seq.{take_all, take-length}
 use Rattle.std.proofs.lemmas.List.{length-take-le, length-drop, drop_all}
 use Rattle.std.proofs.lemmas.Bool.{eq-eqb}
 use Rattle.std.proofs.lemmas.Bool.Decides.{Decides-eqb}
-use Rattle.fq_shell.specs.Input.{plan_line, file_after}
+use Rattle.fq_messages.specs.Input.{plan_line, file_after}
 
 other : (c : ℕ) → (c ≡ 10 → ⊥) → (c == 10) ≡ false
 other c n = go (c == 10) refl
