@@ -1,15 +1,17 @@
 #!/usr/bin/env python3
 """Times frameq on whole plans beside the other programs on PATH that do the same work.
 
-    bench/program.py [--rows N] [--runs N] [--task NAME]... [--program PATH] [--beside PATH] [--save FILE]
+    bench/program.py [--rows N] [--runs N] [--task NAME]... [--program PATH] [--other PATH] [--beside N] [--save FILE]
     bench/program.py --draw FILE
 
 Inputs are made first, the same at each call. In each round every program runs once on each task, one after another; the
-first round is not timed, and there the answers are compared, as sets of rows. Peers: another frameq (--beside), mawk, Miller,
-SQLite, pandas, and R's data.table, if they are installed. Under `taskset -c 0` all run on one core. The figures can be saved as JSON
-and are then drawn beside it, as speed.svg and workers.svg; --draw draws saved figures again and runs nothing.
+first round is not timed, and there the answers are compared, as sets of rows. Peers: another frameq (--other), mawk, Miller,
+SQLite, pandas, and R's data.table, if they are installed. With --beside N the timed rounds run beside N processes that never
+rest; under `taskset -c 0` all run on one core. The figures can be saved as JSON and are then drawn beside it, as speed.svg and
+workers.svg; --draw draws saved figures again and runs nothing.
 """
 import argparse
+import contextlib
 import csv
 import multiprocessing
 import os
@@ -462,11 +464,24 @@ def compare_answers(key, task, programs, folder):
         return sum(1 for _ in file) - 1
 
 
-def timed_rounds(key, task, programs, folder, runs):
+@contextlib.contextmanager
+def busy(count):
+    """Runs so many processes that never rest, as on a machine that has other work."""
+    others = [subprocess.Popen(["sh", "-c", "while :; do :; done"]) for _ in range(count)]
+    try:
+        yield
+    finally:
+        for other in others:
+            other.kill()
+            other.wait()
+
+
+def timed_rounds(key, task, programs, folder, runs, others):
     measures: Dict[str, List[Measure]] = {program.name: [] for program in programs}
-    for _ in range(runs):
-        for program in programs:
-            measures[program.name].append(measure(program.words(key, task), folder, os.path.join(folder, "output")))
+    with busy(others):
+        for _ in range(runs):
+            for program in programs:
+                measures[program.name].append(measure(program.words(key, task), folder, os.path.join(folder, "output")))
     return measures
 
 
@@ -506,7 +521,8 @@ def arguments():
     parser.add_argument("--runs", type=int, default=5, help="timed runs of each program on each task [5]")
     parser.add_argument("--task", action="append", choices=TASKS, help="a task; may be given again [all]")
     parser.add_argument("--program", help="the frameq to time [the one that tools/build builds]")
-    parser.add_argument("--beside", help="another frameq to time beside it")
+    parser.add_argument("--other", metavar="PATH", help="another frameq to time in the same rounds")
+    parser.add_argument("--beside", type=int, default=0, metavar="N", help="time beside N busy processes [0]")
     parser.add_argument("--save", metavar="FILE", help="save the figures as JSON, and draw them as speed.svg and workers.svg in its folder")
     parser.add_argument("--draw", metavar="FILE", help="only draw figures that were saved")
     return parser.parse_args()
@@ -518,8 +534,8 @@ def main():
         pictures.draw(given.draw)
         return
     own = frameq(binary(given.program))
-    if given.beside:
-        own += frameq(os.path.abspath(given.beside), "other")
+    if given.other:
+        own += frameq(os.path.abspath(given.other), "other")
     peers = [peer for peer in (mawk(), miller(), sqlite(), pandas(), data_table()) if peer]
     cores = len(os.sched_getaffinity(0))
     tables = []
@@ -527,7 +543,7 @@ def main():
     with tempfile.TemporaryDirectory() as folder:
         keys = given.task or list(TASKS)
         make_inputs(folder, given.rows, {file for key in keys for file in TASKS[key].files})
-        print(f"{given.runs} runs of each")
+        print(f"{given.runs} runs of each" + (f", beside {given.beside} busy processes" if given.beside else ""))
         for key in keys:
             task = TASKS[key]
             with open(os.path.join(folder, f"{key}.json"), "w", encoding="ascii") as file:
@@ -536,11 +552,12 @@ def main():
             rows = compare_answers(key, task, programs, folder)
             size = sum(os.path.getsize(os.path.join(folder, file)) for file in task.files)
             print(f"\n{task.name}: {size / 1e6:.1f} MB, {rows} rows out, all answers alike", flush=True)
-            figures = figures_of(programs, timed_rounds(key, task, programs, folder, given.runs))
+            figures = figures_of(programs, timed_rounds(key, task, programs, folder, given.runs, given.beside))
             print_table(figures)
             tables.append({"task": task.name, "programs": figures})
     if given.save:
         note = f"{given.rows:,} rows ({given.rows // 6:,} with 12 columns); best of {given.runs} runs, interleaved; cores: {cores}"
+        note += f"; beside {given.beside} busy processes" if given.beside else ""
         pictures.save({"note": note, "tables": tables}, given.save)
         pictures.draw(given.save)
 
