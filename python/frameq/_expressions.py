@@ -374,6 +374,25 @@ def expanded(expr: Expr, schema: Schema) -> List[Expr]:
     return [Expr(replaced(expr._node, {part: ("col", name)}), expr._alias) for name in names]
 
 
+def flat(given: Iterable[Any]) -> List[Any]:
+    """Inputs, and those of lists among them."""
+    each: List[Any] = []
+    for it in given:
+        if isinstance(it, (str, Expr)) or not isinstance(it, Iterable):
+            each.append(it)
+        else:
+            each.extend(it)
+    return each
+
+
+def plain_names(given: Iterable[Any], schema: Schema, what: str) -> List[str]:
+    """The names of columns. What is computed, or has another name, is refused."""
+    each = [expr for it in flat(given) for expr in expanded(named(it), schema)]
+    if any(expr._node[0] != "col" or expr._alias is not None for expr in each):
+        raise UnsupportedError(f"{what} takes columns as they are: compute or rename them before, by with_columns or rename")
+    return [expr._node[1] for expr in each]
+
+
 def kind_of(node: Node, schema: Schema) -> Kind:
     """The kind of a node over these columns. Raises where a column is not there or a part has another kind than it needs."""
     head = node[0]

@@ -4,7 +4,8 @@ import os
 from typing import Any, Iterable, List, Mapping, NamedTuple, NoReturn, Optional, Sequence, Tuple, Union
 
 from . import _program
-from ._expressions import FUNCTIONS, TOO_DEEP, Expr, Node, columns_of, expanded, has, kind_of, name_of, named, parts, replaced, written
+from ._expressions import FUNCTIONS, TOO_DEEP, Expr, Node
+from ._expressions import columns_of, expanded, flat, has, kind_of, name_of, named, parts, plain_names, replaced, written
 from ._faults import DuplicateError, NoColumnError, UnsupportedError, WrongKindError
 from ._kinds import AnyKind, Kind, Schema, schema_of
 from ._results import DataFrame
@@ -18,11 +19,11 @@ _MOST_NESTED, _NESTING_AROUND_STEPS = 127, 2
 
 # What Polars has and the plan language has not, and what to do instead.
 _INSTEAD = {
-    "sort": "the order is that of the files' rows: sort the result",
-    "head": "take the first rows of the result",
-    "limit": "take the first rows of the result",
-    "tail": "take the last rows of the result",
-    "slice": "take the rows of the result",
+    "sort": "the order is that of the files' rows: sort the result, as collect().sort(..)",
+    "head": "take the first rows of the result, as collect().head(..)",
+    "limit": "take the first rows of the result, as collect().limit(..)",
+    "tail": "take the last rows of the result, as collect().tail(..)",
+    "slice": "take the rows of the result, as collect().rows()",
     "cast": "there are no casts: give the columns their kinds in the schema",
     "with_row_index": "a row has no number",
     "explode": "there are no lists",
@@ -122,7 +123,7 @@ class LazyFrame:
     def filter(self, *predicates: Any, **constraints: Any) -> "LazyFrame":
         """The rows for which all predicates are true; `name=value` is `col(name) == value`."""
         call = _call("filter", predicates, constraints)
-        conditions = [expr for given in _flat(predicates) for expr in expanded(named(given), self._schema)]
+        conditions = [expr for given in flat(predicates) for expr in expanded(named(given), self._schema)]
         conditions += [named(name) == value for name, value in constraints.items()]
         if not conditions:
             return self
@@ -158,7 +159,7 @@ class LazyFrame:
 
     def drop(self, *columns: Any) -> "LazyFrame":
         """All columns but these."""
-        dropped = _names(columns, self._schema, "drop")
+        dropped = plain_names(columns, self._schema, "drop")
         for name in dropped:
             kind_of(("col", name), self._schema)
         return self.select([name for name in self._schema if name not in dropped])
@@ -171,7 +172,7 @@ class LazyFrame:
 
     def _outputs(self, exprs: Iterable[Any], named_exprs: Mapping[str, Any], step: str) -> List[Output]:
         """The names and nodes of the outputs of a step."""
-        each = [expr for given in _flat(exprs) for expr in expanded(named(given), self._schema)]
+        each = [expr for given in flat(exprs) for expr in expanded(named(given), self._schema)]
         each += [it.alias(name) for name, given in named_exprs.items() for it in expanded(named(given), self._schema)]
         for expr in each:
             _no_aggregates(expr, step)
@@ -303,7 +304,7 @@ class LazyFrame:
         """The first row of those that are equal, in all columns or in these."""
         if keep not in ("any", "first"):
             raise UnsupportedError('of equal rows the first is kept: keep="first"')
-        keys = list(self._schema) if subset is None else list(dict.fromkeys(_names((subset,), self._schema, "subset= of unique")))
+        keys = list(self._schema) if subset is None else list(dict.fromkeys(plain_names((subset,), self._schema, "subset= of unique")))
         rest = [named(name).first() for name in self._schema if name not in keys]
         return self.group_by(keys).agg(rest)._only(self._schema, "unique()")
 
@@ -362,7 +363,7 @@ class GroupBy:
         call = f"{self._call}.{_call('agg', aggs, named_aggs)}"
         schema, keys = self._frame._schema, dict(self._keys)
         rest = {name: kind for name, kind in schema.items() if name not in keys}  # which all() means here
-        each = [expr for given in _flat(aggs) for expr in expanded(named(given), rest)]
+        each = [expr for given in flat(aggs) for expr in expanded(named(given), rest)]
         each += [it.alias(name) for name, given in named_aggs.items() for it in expanded(named(given), rest)]
         outputs = [(name_of(expr), expr._node) for expr in each]
         _no_doubles([name for name, _ in (*self._keys, *outputs)], "group_by")
@@ -468,18 +469,10 @@ def _keys(on: Any, left_on: Any, right_on: Any, schema: Schema) -> List[str]:
     """The names of the keys of a join: those of `on`, or of `left_on` and `right_on` if these are the same."""
     sides = [it for it in (left_on, right_on) if it is not None]
     given = sides if on is None and len(sides) == 2 else [on] if on is not None and not sides else []
-    keys = [_names((it,), schema, "a join") for it in given]
+    keys = [plain_names((it,), schema, "a join") for it in given]
     if not keys or not keys[0] or keys[0] != keys[-1]:
         raise UnsupportedError("a join takes on=: the keys have the same names on both sides. Rename those of the left side by rename")
     return keys[0]
-
-
-def _names(given: Iterable[Any], schema: Schema, what: str) -> List[str]:
-    """The names of columns. What is computed, or has another name, is refused."""
-    each = [expr for it in _flat(given) for expr in expanded(named(it), schema)]
-    if any(expr._node[0] != "col" or expr._alias is not None for expr in each):
-        raise UnsupportedError(f"{what} takes columns as they are: compute or rename them before, by with_columns or rename")
-    return [expr._node[1] for expr in each]
 
 
 def _nesting(value: Any) -> int:
@@ -487,17 +480,6 @@ def _nesting(value: Any) -> int:
     if not isinstance(value, (dict, list)):
         return 0
     return 1 + max(map(_nesting, value.values() if isinstance(value, dict) else value), default=0)
-
-
-def _flat(given: Iterable[Any]) -> List[Any]:
-    """Inputs, and those of lists among them."""
-    flat: List[Any] = []
-    for it in given:
-        if isinstance(it, (str, Expr)) or not isinstance(it, Iterable):
-            flat.append(it)
-        else:
-            flat.extend(it)
-    return flat
 
 
 def _call(name: str, given: Iterable[Any], named_given: Mapping[str, Any]) -> str:

@@ -1,6 +1,6 @@
 """The kinds of columns."""
 import enum
-from typing import Dict, Mapping, Union
+from typing import Dict, List, Mapping, Union
 
 from ._faults import UnsupportedError
 
@@ -26,6 +26,10 @@ _OF_TYPES: Dict[type, Kind] = {int: Kind.INT, str: Kind.TEXT, bool: Kind.BOOL}
 # What names a kind: one of this module, or Python's own type.
 AnyKind = Union[Kind, type]
 Schema = Dict[str, Kind]
+
+# A cell of a result, and those of a column. A null is None.
+Value = Union[int, str, bool, None]
+Column = List[Value]
 
 
 def kind_of_type(given: AnyKind) -> Kind:

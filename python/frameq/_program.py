@@ -1,6 +1,5 @@
 """Finds the program, and runs plans by it."""
 import contextlib
-import io
 import json
 import os
 import shutil
@@ -106,8 +105,7 @@ def collect(plan: Union[Path, dict], files: Sequence[str], schema: Optional[Sche
     with tempfile.TemporaryFile() as out:
         _run(plan, [], files, calls, settings, out)
         out.seek(0)
-        with io.TextIOWrapper(out, encoding="utf-8", newline="") as text:
-            return read_frame(text, schema)
+        return read_frame(out.read(), schema)
 
 
 def sink(plan: dict, files: Sequence[str], path: str, calls: Sequence[str], settings: Settings) -> None:
@@ -127,4 +125,7 @@ def run_plan(
     """Runs a plan that exists, a file or its JSON object, over files. Without the schema of its result each column is a text."""
     names = [os.fspath(file) for file in ([files] if isinstance(files, (str, os.PathLike)) else files)]
     columns = None if schema is None else schema_of(schema)
-    return collect(plan, names, columns, (), Settings(batch, workers, program))
+    frame = collect(plan, names, columns, (), Settings(batch, workers, program))
+    if columns is not None:
+        frame._values()  # (so a kind that is not the result's is refused by this call)
+    return frame
