@@ -333,14 +333,28 @@ class LazyFrame:
         """What the program says of the plan: the columns after each step, and where it runs."""
         return _program.explain(self.plan(), self._calls, program)
 
-    def collect(self, *, batch: Optional[int] = None, workers: Optional[int] = None, program: Optional[Path] = None) -> DataFrame:
-        """Runs the plan. `batch` is a number of rows, 1 to 65,536, and `workers` one of threads, 1 to 16; no answer depends on them."""
-        settings = _program.Settings(batch, workers, program)
+    def collect(
+        self, *, batch: Optional[int] = None, workers: Optional[int] = None, program: Optional[Path] = None, progress: bool = False
+    ) -> DataFrame:
+        """Runs the plan. `batch` is a number of rows, 1 to 65,536, and `workers` one of threads, 1 to 16; no answer depends on them.
+
+        `progress` shows how much of a file has been read, on standard error, if that is a terminal or a notebook's.
+        """
+        settings = _program.Settings(batch, workers, program, progress)
         return _program.collect(self.plan(), self.files(), self._schema, self._calls, settings)
 
-    def sink_csv(self, path: Path, *, batch: Optional[int] = None, workers: Optional[int] = None, program: Optional[Path] = None) -> None:
+    def sink_csv(
+        self,
+        path: Path,
+        *,
+        batch: Optional[int] = None,
+        workers: Optional[int] = None,
+        program: Optional[Path] = None,
+        progress: bool = False,
+    ) -> None:
         """Runs the plan, and writes its result to a file, whole or not at all. The path may be one of the plan's files."""
-        _program.sink(self.plan(), self.files(), os.fspath(path), self._calls, _program.Settings(batch, workers, program))
+        settings = _program.Settings(batch, workers, program, progress)
+        _program.sink(self.plan(), self.files(), os.fspath(path), self._calls, settings)
 
 
 class GroupBy:

@@ -6,10 +6,11 @@ import shutil
 import subprocess
 import tempfile
 import warnings
-from typing import IO, Iterator, List, Mapping, NamedTuple, Optional, Sequence, Union
+from typing import IO, Iterator, List, Mapping, NamedTuple, Optional, Sequence, Tuple, Union
 
 from ._faults import ProgramNotFoundError, fault
 from ._kinds import AnyKind, Schema, schema_of
+from ._progress import open_screen, run_shown
 from ._results import DataFrame, read_frame
 
 Path = Union[str, "os.PathLike[str]"]
@@ -18,11 +19,12 @@ _REPOSITORY = os.path.dirname(os.path.dirname(os.path.dirname(os.path.abspath(__
 
 
 class Settings(NamedTuple):
-    """How to run a plan: rows in a batch, threads, and the program, each None for its default."""
+    """How to run a plan: rows in a batch, threads, and the program, each None for its default; and whether to show how far it is."""
 
     batch: Optional[int] = None
     workers: Optional[int] = None
     program: Optional[Path] = None
+    progress: bool = False
 
     def words(self) -> List[str]:
         """The arguments that say so."""
@@ -85,14 +87,23 @@ def _run(
     program = find_program(settings.program)
     with _plan_file(plan) as path:
         command = [program, "--plan", path, "--details", *settings.words(), *words, *_words_of_files(files)]
-        ran = subprocess.run(command, stdout=out, stderr=subprocess.PIPE, check=False)
-    said = ran.stderr.decode("utf-8", "replace")
-    if ran.returncode != 0:
-        raise fault(said, ran.returncode, _plan_object(plan), files, calls)
+        status, written, said = _ran(command, out, settings.progress)
+    if status != 0:
+        raise fault(said, status, _plan_object(plan), files, calls)
     if said:
         # (a program that is not built says that what ran is not proved; it is said of the call of the package's user)
         warnings.warn(said.strip(), stacklevel=4)
-    return ran.stdout or b""
+    return written
+
+
+def _ran(command: List[str], out: Union[int, IO[bytes]], progress: bool) -> Tuple[int, bytes, str]:
+    """The exit status of a run, what it wrote if that is not written elsewhere, and what it said."""
+    screen = open_screen() if progress else None
+    if screen is not None:
+        status, said = run_shown(command, out, screen)
+        return status, b"", said.decode("utf-8", "replace")
+    ran = subprocess.run(command, stdout=out, stderr=subprocess.PIPE, check=False)
+    return ran.returncode, ran.stdout or b"", ran.stderr.decode("utf-8", "replace")
 
 
 def explain(plan: dict, calls: Sequence[str], program: Optional[Path]) -> str:
@@ -121,11 +132,12 @@ def run_plan(
     batch: Optional[int] = None,
     workers: Optional[int] = None,
     program: Optional[Path] = None,
+    progress: bool = False,
 ) -> DataFrame:
     """Runs a plan that exists, a file or its JSON object, over files. Without the schema of its result each column is a text."""
     names = [os.fspath(file) for file in ([files] if isinstance(files, (str, os.PathLike)) else files)]
     columns = None if schema is None else schema_of(schema)
-    frame = collect(plan, names, columns, (), Settings(batch, workers, program))
+    frame = collect(plan, names, columns, (), Settings(batch, workers, program, progress))
     if columns is not None:
         frame._values()  # (so a kind that is not the result's is refused by this call)
     return frame

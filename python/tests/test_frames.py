@@ -372,6 +372,134 @@ class Shown(unittest.TestCase):
             result.glimpse(return_type="frame")
 
 
+class Screen(io.StringIO):
+    """A stream that is a terminal."""
+
+    def isatty(self):
+        return True
+
+
+class NotebookStream(io.StringIO):
+    """A stream as notebooks have it."""
+
+    __module__ = "ipykernel.iostream"
+
+
+class Progress(unittest.TestCase):
+    """progress=True."""
+
+    CLEAR = "\r\x1b[K"
+    STATES = [f"{CLEAR}frameq: file 0: 1 of 2 MB", f"{CLEAR}frameq: file 1: 12 MB", CLEAR, f"{CLEAR}frameq: file 0: 2 of 2 MB"]
+
+    def setUp(self):
+        room = tempfile.TemporaryDirectory()
+        self.addCleanup(room.cleanup)
+        self.room = room.name
+        self.file("main.csv", "n\n")
+
+    def file(self, name, data):
+        path = os.path.join(self.room, name)
+        with open(path, "w", encoding="utf-8") as file:
+            file.write(data)
+        return path
+
+    def program(self, *lines):
+        path = self.file("frameq", "\n".join(["#!/bin/sh", *lines, ""]))
+        os.chmod(path, 0o755)
+        return path
+
+    def scan(self):
+        return fq.scan_csv(os.path.join(self.room, "main.csv"), schema={"n": INT})
+
+    def drawing(self):
+        """A line of a program that draws all states, where its standard error is a terminal."""
+        states = "".join(self.STATES).replace("\r", "\\r").replace("\x1b", "\\033")
+        return f'case "$*" in *--progress*) [ -t 2 ] && printf "{states}" >&2;; esac'
+
+    def collected(self, stream, *lines):
+        """What a run by a program of these lines gives or raises, and what was drawn."""
+        with contextlib.redirect_stderr(stream):
+            try:
+                answer = self.scan().collect(program=self.program(*lines), progress=True).rows()
+            except fq.FrameqError as error:
+                answer = error
+        return answer, stream.getvalue()
+
+    def test_drawn(self):
+        """On a terminal and in a notebook all is drawn as the program draws it, and taken away; in a file nothing is."""
+        drawn_states = "".join([*self.STATES, self.CLEAR])
+        for stream, shown in [(Screen(), drawn_states), (NotebookStream(), drawn_states), (io.StringIO(), "")]:
+            with self.subTest(type(stream)):
+                lines = [self.drawing(), f'printf "{self.CLEAR}" >&2' if shown else "", "echo n", "echo 5"]
+                self.assertEqual(self.collected(stream, *lines), ([(5,)], shown))
+
+    def test_without(self):
+        """Where no terminal can be opened, or there is no standard error, a run is as without progress."""
+        lines = [self.drawing(), "echo n", "echo 5"]
+        with mock.patch("os.openpty", side_effect=OSError("no more")):
+            self.assertEqual(self.collected(Screen(), *lines), ([(5,)], ""))
+        with mock.patch("sys.stderr", None):
+            self.assertEqual(self.scan().collect(program=self.program(*lines), progress=True).rows(), [(5,)])
+
+    def test_said(self):
+        """What a program says beside its progress is a fault or a warning, as without progress."""
+        clear = f'printf "{self.CLEAR}" >&2'
+        said = ["echo 'frameq: file 0: header differs' >&2", "echo '  main.csv:1: column 1 is \"é\"' >&2", "exit 4"]
+        error, shown = self.collected(Screen(), self.drawing(), clear, *said)
+        self.assertIs(type(error), fq.HeaderError)
+        self.assertEqual((error.line, error.status), ("frameq: file 0: header differs", 4))
+        self.assertEqual(error.details, ('main.csv:1: column 1 is "é"',))
+        self.assertEqual(shown, "".join([*self.STATES, self.CLEAR]))
+        error, shown = self.collected(Screen(), self.drawing(), "kill -9 $$")
+        self.assertIn("signal 9", str(error))
+        self.assertNotIn("MB", str(error))
+        with self.assertWarnsRegex(UserWarning, "^frameq: not proved$"):
+            answer = self.collected(Screen(), "echo 'frameq: not proved' >&2", self.drawing(), clear, "echo n")
+        self.assertEqual(answer, ([], "".join([*self.STATES, self.CLEAR])))
+
+    def test_pieces(self):
+        """What arrives in pieces is drawn as if it came at once."""
+        from frameq import _progress
+
+        arriving = "".join(["before\n", *self.STATES, self.CLEAR, "frameq: file 0: header differs\n"]).encode()
+        for size in (1, 2, 3, 5, 8, len(arriving)):
+            pieces = [arriving[at : at + size] for at in range(0, len(arriving), size)]
+            arrivals = mock.Mock(**{"read.side_effect": [*pieces, OSError("closed")]})
+            stream = io.StringIO()
+            with self.subTest(size):
+                self.assertEqual(_progress._pass_on(_progress.Screen(-1, arrivals, stream)), b"before\nframeq: file 0: header differs\n")
+                self.assertEqual(stream.getvalue(), "".join([*self.STATES, self.CLEAR]))
+
+    def test_program(self):
+        """The program's own progress, in all three calls, and beside a fault."""
+        path = program()
+        self.file("main.csv", "n\n" + "1234567\n" * 300_000)
+        shown = self.CLEAR.join(["", "frameq: file 0: 1 of 2 MB", "frameq: file 0: 2 of 2 MB", "", ""])
+        lazy, result = self.scan(), os.path.join(self.room, "result.csv")
+        for call in [
+            lambda: self.assertEqual(lazy.collect(program=path, progress=True).height, 300_000),
+            lambda: lazy.sink_csv(result, program=path, progress=True),
+            lambda: self.assertEqual(fq.run_plan(lazy.plan(), lazy.files(), program=path, progress=True).height, 300_000),
+        ]:
+            with contextlib.redirect_stderr(Screen()) as stream:
+                call()
+            self.assertEqual(stream.getvalue(), shown)
+        self.assertEqual(os.path.getsize(result), os.path.getsize(lazy.files()[0]))
+        self.file("main.csv", "n\n" + "1234567\n" * 300_000 + "x\n")
+        errors = []
+        for progress in (False, True):
+            with contextlib.redirect_stderr(Screen()) as stream, self.assertRaises(fq.BadCellError) as raised:
+                lazy.collect(program=path, progress=progress)
+            errors.append({**vars(raised.exception), "args": raised.exception.args})
+            self.assertEqual("1 of 2 MB" in stream.getvalue(), progress)
+        self.assertEqual(errors[0], errors[1])
+        for progress in (False, True):
+            with contextlib.redirect_stderr(Screen()), self.assertRaises(fq.ArgumentsError) as raised:
+                lazy.collect(workers=17, program=path, progress=progress)
+            errors.append(str(raised.exception))
+        self.assertEqual(errors[2], errors[3])
+
+
 class Pandas(unittest.TestCase):
     """Beside pandas."""
 
