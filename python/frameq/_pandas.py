@@ -1,34 +1,25 @@
 """Frames of pandas, with nullable columns."""
 import io
-from typing import Any, List, Sequence, Tuple
+from typing import Any, Callable, Sequence
 
 from ._kinds import Column, Kind, Schema
 
 _KINDS = {Kind.INT: "Int64", Kind.TEXT: "string", Kind.BOOL: "boolean"}
 
-# Whole numbers up to this one, and down to its negative, are floats without loss.
+# Whole numbers from the negative of this one to it are floats without loss.
 _MOST_EXACT = 2**53 - 1
+_LEAST = str(-(2**63)).encode()
 
 
 def frame_of_columns(schema: Schema, columns: Sequence[Column]) -> Any:
-    """A frame of values."""
+    """The frame of these values."""
     import pandas
 
-    return pandas.DataFrame({name: array_of(kind, values) for (name, kind), values in zip(schema.items(), columns)})
+    return pandas.DataFrame({name: _array_of(kind, values) for (name, kind), values in zip(schema.items(), columns)})
 
 
-def array_of(kind: Kind, values: Column) -> Any:
-    """A column of values."""
-    import pandas
-
-    return pandas.array(values, dtype=_KINDS[kind])
-
-
-def read_by_pandas(schema: Schema, text: bytes) -> Tuple[Any, List[str]]:
-    """A frame of its CSV text, by the reader of pandas, and the names of those columns whose values that reader rounds.
-
-    It reads whole numbers as floats where a column has nulls. It knows nothing of a character 0.
-    """
+def frame_of_text(schema: Schema, text: bytes, values_of: Callable[[str], Column]) -> Any:
+    """The frame of a CSV text without a character 0, by the reader of pandas. `values_of` gives a column that this reader may change."""
     import pandas
 
     frame = pandas.read_csv(
@@ -42,6 +33,26 @@ def read_by_pandas(schema: Schema, text: bytes) -> Tuple[Any, List[str]]:
         skip_blank_lines=False,
         low_memory=False,
     )
-    ints = [name for name, kind in schema.items() if kind == Kind.INT]
-    rounded = [name for name in ints if frame[name].dtype.kind == "f" and (frame[name].abs() > _MOST_EXACT).any()]
-    return frame.astype({name: _KINDS[Kind.INT] for name in ints if name not in rounded}), rounded
+    frame.index = pandas.RangeIndex(len(frame))  # (without rows it is another)
+    for name, kind in schema.items():
+        if kind == Kind.INT:
+            frame[name] = _array_of(kind, values_of(name)) if _may_be_changed(frame[name], text) else _nullable(frame[name])
+    return frame
+
+
+def _array_of(kind: Kind, values: Column) -> Any:
+    import pandas
+
+    return pandas.array(values, dtype=_KINDS[kind])
+
+
+def _may_be_changed(column: Any, text: bytes) -> bool:
+    """Whether whole numbers may be others than in the text. Beside nulls pandas reads them as floats, and the least of them as a null."""
+    return column.dtype.kind == "f" and (_LEAST in text or bool((column.abs() > _MOST_EXACT).any()))
+
+
+def _nullable(column: Any) -> Any:
+    """Whole numbers, and nulls, that were read as numbers of another kind."""
+    import pandas
+
+    return pandas.arrays.IntegerArray(column.fillna(0).to_numpy().astype("int64"), column.isna().to_numpy())

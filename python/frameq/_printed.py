@@ -6,7 +6,7 @@ from typing import Callable, Dict, Iterable, Iterator, List, Sequence
 from ._kinds import Column, Kind, Schema, Value
 
 # How many bytes become cells at a time: few enough to stay in the caches meanwhile.
-_PIECE = 1 << 16
+_PIECE = 1 << 14
 
 _NEEDS_QUOTES = re.compile('[,"\r\n]')
 _TRUTHS = {"": None, "true": True, "false": False}
@@ -69,7 +69,9 @@ def _cells(piece: str) -> List[str]:
     if len(parts) == 1:
         return cells
     quoted = iter(parts[1::2])
-    return ['"'.join(islice(quoted, len(cell))) if '"' in cell else cell for cell in cells]
+    return [
+        cell if '"' not in cell else next(quoted) if cell == '"' else '"'.join(islice(quoted, len(cell))) for cell in cells
+    ]
 
 
 def _read_ints(cells: List[str]) -> List[Value]:

@@ -7,7 +7,7 @@ from ._expressions import kind_of, plain_names
 from ._faults import ArgumentsError, UnsupportedError, WrongKindError
 from ._kinds import Column, Kind, Schema, Value
 from ._order import SortKey, each_of, order_of
-from ._pandas import array_of, frame_of_columns, read_by_pandas
+from ._pandas import frame_of_columns, frame_of_text
 from ._printed import columns_of, names_of, text_of
 from ._shown import SHOWN_ROWS, as_glimpse, as_html, as_text
 from ._whole import write_whole
@@ -173,7 +173,7 @@ class DataFrame:
         columns = [self._column(name) for name in names]
         ways = zip(columns, each_of(descending, len(names), "descending"), each_of(nulls_last, len(names), "nulls_last"))
         order = order_of([SortKey(*way) for way in ways], self.height)
-        return self._of(self._schema, columns=[[values[place] for place in order] for values in self._values()])
+        return self._of(self._schema, columns=[list(map(values.__getitem__, order)) for values in self._values()])
 
     # What is made of it.
 
@@ -197,10 +197,7 @@ class DataFrame:
         """A frame of pandas, with nullable columns. What the program printed is read by pandas' own reader."""
         if not self._text or b"\0" in self._text:
             return frame_of_columns(self._schema, self._values())
-        frame, rounded = read_by_pandas(self._schema, self._text)
-        for name in rounded:
-            frame[name] = array_of(Kind.INT, self._column(name))
-        return frame
+        return frame_of_text(self._schema, self._text, self._column)
 
     def to_polars(self) -> Any:
         """A frame of Polars."""

@@ -6,12 +6,15 @@ import html.parser
 import io
 import os
 import pathlib
+import re
 import stat
+import subprocess
+import sys
 import tempfile
 import unittest
 from unittest import mock
 
-from repository import fq, program
+from repository import ROOT, fq, program
 
 from frameq import _printed
 from frameq._results import read_frame
@@ -59,7 +62,7 @@ class Texts(unittest.TestCase):
         for number in range(300):
             draw = cases.Draw(f"read {number}")
             columns, rows = drawn(draw)
-            with self.subTest(number), mock.patch.object(_printed, "_PIECE", draw.choice([1, 7, 30, 1 << 16])):
+            with self.subTest(number), mock.patch.object(_printed, "_PIECE", draw.choice([1, 7, 30, 1 << 14])):
                 read = read_frame(text(columns, rows), columns)
                 self.assertEqual((read.schema, read.shape, read.rows()), (columns, (len(rows), len(columns)), rows))
                 self.assertEqual(read.to_dict(), {name: [row[place] for row in rows] for place, name in enumerate(columns)})
@@ -535,6 +538,8 @@ class Pandas(unittest.TestCase):
             ({"n": INT}, [(2**53 + 1,), (None,), (MOST,), (LEAST,)]),
             ({"n": INT, "m": INT}, [(2**53 - 1, 1), (None, None), (-(2**53) - 1, 2)]),
             ({"n": INT}, [(MOST,), (2**53 + 1,)]),
+            ({"n": INT}, [(LEAST,), (None,)]),
+            ({"n": INT}, [(LEAST,), (1,)]),
             ({"n": INT, "t": TEXT, "p": BOOL}, [(None, None, None)] * 3),
             ({"n": INT, "t": TEXT, "p": BOOL}, []),
             ({"t": TEXT, "n": INT}, [("a\0b", 1), ("\0", None)]),
@@ -562,6 +567,23 @@ class Pandas(unittest.TestCase):
                 self.same(result.sort(keys, descending=descending, nulls_last=nulls_last).to_pandas(), ordered)
                 self.same(result.head(n).to_pandas(), beside.head(n).reset_index(drop=True))
                 self.same(result.tail(n).to_pandas(), beside.tail(n).reset_index(drop=True))
+
+
+class Page(unittest.TestCase):
+    """The page of the package."""
+
+    def test_examples(self):
+        """Each piece of code that text follows prints this text, over the files of its example."""
+        path = program()
+        with open(os.path.join(ROOT, "docs", "PYTHON.md"), encoding="utf-8") as file:
+            pieces = re.findall(r"```python\n(.*?)```\n\n```text\n(.*?)```", file.read(), re.DOTALL)
+        self.assertGreater(len(pieces), 1)
+        code = "print('----')\n".join(piece for piece, _ in pieces)
+        environment = {**os.environ, "PYTHONPATH": os.path.join(ROOT, "python"), "FRAMEQ": path}
+        folder = os.path.join(ROOT, "examples", "monthly_sales")
+        ran = subprocess.run([sys.executable, "-c", code], cwd=folder, env=environment, capture_output=True, check=False)
+        self.assertEqual((ran.returncode, ran.stderr.decode()), (0, ""))
+        self.assertEqual(ran.stdout.decode().split("----\n"), [shown for _, shown in pieces])
 
 
 if __name__ == "__main__":
