@@ -3,9 +3,9 @@
 
     bench/frames.py [--rows N] [--runs N] [--program PATH]
 
-Two files are made, those of bench/program.py: N rows of sales, with 4 columns, and N/6 of visits, with 12, some of them quoted. A plan without
-steps gives the same rows again. A line has the best and the median seconds of a call, and the best as a part of what csv.reader takes to
-read the file into a list. In each round each call runs once, in a process of its own.
+Two files are made, those of bench/program.py: N rows of sales, with 4 columns, and N/6 of visits, with 12, some of them quoted. A plan
+without steps gives the same rows again. A line has the best and the median seconds of a call, and the best as a part of what csv.reader
+takes to read the file into a list. In each round each call runs once, in a process of its own.
 """
 import argparse
 import csv

@@ -218,7 +218,7 @@ class DataFrame:
     ) -> Union[str, "DataFrame", None]:
         """Prints a line for each column: its name, its kind and its first values.
 
-        With `return_type="string"`, or `return_as_string`, the text is given and not printed. With "self" it is printed, and this frame given.
+        With `return_type="string"`, or `return_as_string`, the text is given and not printed; with "self", this frame is given, too.
         """
         if return_type not in (None, "self", "string"):
             raise UnsupportedError(f'a glimpse is a "string", or it gives "self", and not {return_type!r}: there are no lists')
