@@ -28,19 +28,19 @@ def open_screen() -> Optional[Screen]:
     if not in_notebook and not getattr(stream, "isatty", bool)():
         return None
     try:
+        import tty
+
         arrivals, terminal = os.openpty()
-    except (AttributeError, OSError):  # (this system has no terminals to open, or no more of them)
+    except (ImportError, OSError):  # (this system has no terminals to open, or no more of them)
         return None
+    tty.setraw(terminal)
     return Screen(terminal, open(arrivals, "rb", buffering=0), stream)
 
 
 def run_shown(command: List[str], out: Union[int, IO[bytes]], screen: Screen) -> Tuple[int, bytes]:
     """Runs the program, and draws what it draws. Gives its exit status, and what else it said."""
-    import tty
-
     with screen.arrivals:
         try:
-            tty.setraw(screen.terminal)
             process = subprocess.Popen([command[0], "--progress", *command[1:]], stdout=out, stderr=screen.terminal)
         finally:
             os.close(screen.terminal)
