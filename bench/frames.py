@@ -5,7 +5,8 @@
 
 Two files are made, those of bench/program.py: N rows of sales, with 4 columns, and N/6 of visits, with 12, some of them quoted. A plan
 without steps gives the same rows again. A line has the best and the median seconds of a call, and the best as a part of what csv.reader
-takes to read the file into a list. In each round each call runs once, in a process of its own.
+takes to read the file into a list, and to go over its rows without keeping them. In each round each call runs once, in a process of its
+own.
 """
 import argparse
 import csv
@@ -33,6 +34,12 @@ VISITS = {
 FILES = {"sales": (SALES, program.make_sales), "visits": (VISITS, lambda path, rows: program.make_visits(path, rows // 6))}
 
 
+def go_over_csv(path, _):
+    with open(path, encoding="utf-8", newline="") as file:
+        for _ in csv.reader(file):
+            pass
+
+
 def read_by_csv(path, _):
     with open(path, encoding="utf-8", newline="") as file:
         return list(csv.reader(file))
@@ -49,6 +56,7 @@ def collect(path, schema):
 
 
 CALLS = {
+    "csv.reader, none kept": go_over_csv,
     "csv.reader": read_by_csv,
     "collect()": collect,
     "collect().get_columns()": lambda *it: collect(*it).get_columns(),
@@ -85,10 +93,11 @@ def compare(name, path, runs):
     for _ in range(runs):
         for call, taken in seconds.items():
             taken.append(timed(call, path, name))
+    bases = [min(seconds["csv.reader"]), min(seconds["csv.reader, none kept"])]
     for call, taken in seconds.items():
         if None not in taken:
-            best = min(taken)
-            print(f"{name:7} {call:24} {best:6.2f} s, median {statistics.median(taken):6.2f}, {best / min(seconds['csv.reader']):5.2f}")
+            parts = "".join(f", {min(taken) / base:5.2f}" for base in bases)
+            print(f"{name:7} {call:24} {min(taken):6.2f} s, median {statistics.median(taken):6.2f}{parts}")
 
 
 def main():
