@@ -8,6 +8,7 @@ pub mod columns;
 pub mod csv;
 pub mod expressions;
 pub mod lanes;
+pub mod limits;
 pub mod operators;
 pub mod places;
 pub mod plans;

@@ -4,7 +4,7 @@ ghost use Rattle.std.specs.Prelude.{◌≡◌, ◌<◌, length, IfOk};
 use crate::faults::Memory;
 use std::alloc::Global;
 use std::sync::Wait;
-use std::thread::{Parker, yield_now};
+use std::thread::Parker;
 
 /// The two threads at a lane, as one of them has it: it sleeps until it is woken, and wakes the other.
 ///
@@ -19,7 +19,7 @@ pub(crate) struct Waiter<'s> {
 impl<'s> Waiter<'s> {
     /// Sleeps until this thread is woken.
     pub(crate) fn wait<R: Wait>(self, rt: &R) {
-        sleep(rt, self.own);
+        self.own.park(rt);
     }
 
     /// Wakes the other thread.
@@ -34,15 +34,6 @@ impl<'s> Waiter<'s> {
             other: self.own,
         }
     }
-}
-
-/// Sleeps until this thread is woken.
-///
-/// It yields once before it sleeps: if threads share a core, the others then run until they wait themselves, and
-/// what they put meanwhile wakes nobody, so a batch costs fewer switches between threads.
-pub(crate) fn sleep<R: Wait>(rt: &R, parker: &Parker) {
-    yield_now();
-    parker.park(rt);
 }
 
 /// A parker for each thread of a run: the hub, the feeds and the workers.

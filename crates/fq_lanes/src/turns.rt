@@ -13,7 +13,6 @@ use crate::feed_lane::{FeedLane, Polled};
 use crate::feeds::MAX_FEEDS;
 use crate::hub::Hub;
 use crate::job::Job;
-use crate::sleeping::sleep;
 use crate::tails::Tail;
 use crate::worker_lanes::{MOST_OUTSTANDING, WorkerLanes};
 use std::sync::Wait;
@@ -199,7 +198,7 @@ where
             return Ok(());
         }
         if !found {
-            sleep(rt, parker);
+            parker.park(rt);
         }
     }
     unreachable!()

@@ -115,7 +115,7 @@ impl PhysicalPlan {
         let press = Press {
             rt,
             alloc,
-            threads: workers as usize,
+            threads: self.printing_threads(workers),
         };
         let tail = RunTail::new(press, self.leading.side_files, waiting);
         let (tail, outcome) = run_lanes(rt, alloc, feeds, &self.leading, gate, tail, workers);
@@ -125,6 +125,15 @@ impl PhysicalPlan {
                 tail.stop();
                 Err(fault.into())
             }
+        }
+    }
+
+    // The most threads that print at once. Where the tail has nothing else to do, the caller's thread prints.
+    fn printing_threads(&self, workers: u16) -> usize {
+        if self.stages.is_empty() {
+            1
+        } else {
+            workers as usize
         }
     }
 }
