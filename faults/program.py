@@ -64,7 +64,9 @@ ROWS = [
         ["i,v\n1,1\n2,\n", "i,v\n3,4\n4,\n5,\n6,7\n"], frame("i,v,r\n1,1,\n2,,\n3,4,5\n4,,\n5,,\n6,7,\n"), ("--batch", "1")),
     Row("a bad cell", plan([source(1, "x int")], ""), ["x\n9223372036854775808\n"],
         fault(4, "file 0, row 1, column 0: bad cell")),
-    Row("printed in parts", plan([source(1, "v int")], ""), ["v\n" + "12345\n" * 5000], frame("v\n" + "12345\n" * 5000), ("--batch", "2048")),
+    # (the caller's thread prints the rows of a plan that leaves it nothing else to do)
+    Row("printed in parts", plan([source(1, "v int")], '{"rolling_sum":{"column":"v","window":1,"min_samples":1,"name":"s"}}'),
+        ["v\n" + "12345\n" * 5000], frame("v,s\n" + "12345,12345\n" * 5000), ("--batch", "2048")),
     Row("no such column", plan([source(1, "id int")], OVER_TEN), ["id\n1\n"], fault(3, "plan: step 0: no such column")),
     Row("standard input", plan([source(1, "id int", "v int")], OVER_TEN), ["id,v\n1,5\n2,\n3,20\n"], frame("id,v\n3,20\n"), None),
     Row("a bad cell on standard input", plan([source(1, "x int")], ""), ["x\n9223372036854775808\n"],
