@@ -65,7 +65,7 @@ impl<'s, X> FeedLane<'s, X> {
             return Polled::Nothing;
         }
         let told = self.take.take();
-        if told.is_some() {
+        if told.is_some() && self.take.waiting() == 0 {
             self.waiter.wake();
         }
         match told {

@@ -4,7 +4,7 @@ ghost use Rattle.fq_lanes.specs.Lane.{put_items, taken_items, SamePut, SameTake}
 ghost use Rattle.fq_lanes.specs.WorkerThread.{Replied};
 
 use crate::faults::Memory;
-use crate::feed_thread::put_waiting;
+use crate::feed_thread::put_quietly;
 use crate::gates::Gate;
 use crate::job::Job;
 use crate::lanes::{Put, Take};
@@ -40,9 +40,20 @@ pub(crate) fn run_worker<R: Wait, W: Work, G: Gate<W::Out>>(
                 if let Ok(out) = &answer {
                     gate.pass(number, file, serial, out);
                 }
-                put_waiting(rt, waiter, &mut answers, answer);
+                put_quietly(rt, waiter, &mut answers, answer);
+                wake_hub(waiter, &mut jobs);
             }
         }
     }
     unreachable!()
+}
+
+/// Wakes the hub once at most one job is left, so that this thread has its next jobs before it must sleep for want of one.
+fn wake_hub<T>(waiter: Waiter<'_>, jobs: &mut Take<T>)
+    ensures lane { SameTake jobs.old jobs.new }
+    ensures taken { taken_items jobs.new ≡ taken_items jobs.old }
+{
+    if jobs.waiting() <= 1 {
+        waiter.wake();
+    }
 }

@@ -1,5 +1,5 @@
 //! The calls on lanes.
-ghost use Rattle.std.specs.Prelude.{◌≡◌, ◌+◌, ◌<◌, ◌≤◌, [], ◌∷◌, ◌++◌, IfOk, IsOk, OnOk, IfErr, MatchOption};
+ghost use Rattle.std.specs.Prelude.{◌≡◌, ◌+◌, ◌<◌, ◌≤◌, [], ◌∷◌, ◌++◌, IfOk, IsOk, OnOk, IfErr, MatchOption, length};
 ghost use mathlib.Core.List.{IsPrefix};
 ghost use Rattle.fq_lanes.specs.Lane.{put_items, taken_items, left_items, room, seen_items, IsLane, SamePut, SameTake};
 
@@ -34,6 +34,13 @@ impl<T> Put<T> {
             Err(PushError::Full(back)) => Err(back),
         }
     }
+
+    /// How many items it surely has room for: as many as when it last looked, less what was put since then.
+    pub fn room(&self) -> usize
+        ensures { result ≡ room self.now }
+    {
+        self.producer.cached_slots()
+    }
 }
 
 impl<T> Take<T> {
@@ -47,6 +54,15 @@ impl<T> Take<T> {
             Ok(item) => Some(item),
             Err(_) => None,
         }
+    }
+
+    /// How many items there are to be taken. More may come at any time.
+    pub fn waiting(&mut self) -> usize
+        ensures lane { SameTake self.old self.new }
+        ensures taken { taken_items self.new ≡ taken_items self.old }
+        ensures seen { IsPrefix (seen_items self.old) (seen_items self.new) × (result ≡ length (seen_items self.new)) }
+    {
+        self.consumer.slots()
     }
 }
 

@@ -12,7 +12,7 @@ loop-preserved g c =
       fail = λ f. was.fail (gave.open.2 f);
       put = (
         was.put.0 ++ c.in-Ok-Some.item ∷ [],
-        told_more _ _ was.put.0 c.in-Ok-Some.item was.put.1 c.put_waiting.ensures.put,
+        told_more _ _ was.put.0 c.in-Ok-Some.item was.put.1 c.put_ahead.ensures.put,
         leads_more g.F.Feed.gives _ _ _ was.put.0 c.in-Ok-Some.item was.put.2 gave.gives,
       );
     }

@@ -1,6 +1,6 @@
 use Rattle.std.proofs.Common.{◌≡◌}
 use Rattle.fq_lanes.specs.Lane.{put_items, SamePut}
-use Rattle.fq_lanes.proofs.feed_thread.put_waiting.Given as goal
+use Rattle.fq_lanes.proofs.feed_thread.put_quietly.Given as goal
 
 abbrev pub invariant-loop : goal.invariant-loop
 invariant-loop g l = record {
