@@ -1,6 +1,6 @@
 -- Where the records of a text end.
 use Rattle.std.proofs.Common.{◌≡◌, ℕ, zero, suc, ◌+◌, ◌-◌, ◌<◌, ◌≤◌, ◌==◌, ◌||◌, Bool, true, false, cond, List, [], ◌∷◌, ◌++◌, length, take, drop, get_or, Some, None, refl, ap, sym, subst, ◌∙◌, arith, append-nil, append_assoc, length-drop, inl, inr}
-use Rattle.std.proofs.lemmas.List.{drop-drop, get_or-drop, take_all}
+use Rattle.std.proofs.lemmas.List.{get_or-drop, take_all}
 use Rattle.std.proofs.lemmas.Bool.Decides.{nat_tests}
 use Rattle.std.proofs.Math.Seq.{take-add, take-suc}
 use Rattle.csv.specs.Machine.{ends_at_end, fields_after, field_after, is_end, next_record, step}
@@ -9,9 +9,9 @@ use Rattle.csv.specs.declared.parser.Action.{Action}
 use Rattle.csv.specs.declared.parser.Action.TheVariants as act
 use Rattle.csv.specs.declared.parser.State.{State}
 use Rattle.csv.specs.declared.parser.State.TheVariants as st
-use Rattle.fq_csv.specs.Cutting.{AreLast, AreRecords, IsAt, IsBetween, IsIn, NoQuote, NoneStops, begins, between, next_of, outside, stops}
+use Rattle.fq_csv.specs.Cutting.{AreLast, AreRecords, IsAt, IsBetween, IsBlank, IsIn, NoQuote, NoneStops, begins, between, next_of, outside, stops}
 use Rattle.fq_csv.specs.File.{Record}
-use Rattle.fq_csv.proofs.RecordLemmas.{first-record, none-record}
+use Rattle.fq_csv.proofs.RecordLemmas.{first-record, left-some, none-record, option-case}
 
 -- a byte that ends no record
 go-on : (s t : State) (a : Action) (f : List (List ℕ)) (p : List ℕ) (c : ℕ) (rest : List ℕ) → step default_config s c ≡ (t, a) → is_end a ≡ false →
@@ -41,14 +41,8 @@ between-more text from i low high =
     ∙ take-suc (drop from text) (i - from) 0 (omega (arith, length-drop from text, low, high))
     ∙ ap (λ c. take (i - from) (drop from text) ++ c ∷ []) (get_or-drop from text (i - from) 0 ∙ ap (λ j. get_or text j 0) (let q : from + (i - from) ≡ i = omega (arith, low) in q))
 
-pub between-join : (text : List ℕ) (from at end : ℕ) → from ≤ at → at ≤ end → between text from end ≡ between text from at ++ between text at end
-between-join text from at end low high =
-    ap (λ n. take n (drop from text)) (let q : end - from ≡ (at - from) + (end - at) = omega (arith, low, high) in q)
-    ∙ take-add (at - from) (end - at) (drop from text)
-    ∙ ap (λ xs. between text from at ++ take (end - at) xs) (drop-drop (at - from) from text ∙ ap (λ n. drop n text) (let q : from + (at - from) ≡ at = omega (arith, low) in q))
-
-pub between-start : (text : List ℕ) (end : ℕ) → between text 0 end ≡ take end text
-between-start text end = ap (λ n. take n text) (let q : end - 0 ≡ end = omega arith in q)
+pub take-between : (text : List ℕ) (at end : ℕ) → at ≤ end → take end text ≡ take at text ++ between text at end
+take-between text at end high = ap (λ n. take n text) (let q : end ≡ at + (end - at) = omega (arith, high) in q) ∙ take-add at (end - at) text
 
 pub between-none : (text : List ℕ) (from : ℕ) → between text from from ≡ []
 between-none text from = ap (λ n. take n (drop from text)) (let q : from - from ≡ 0 = omega arith in q)
@@ -81,11 +75,20 @@ module _ (text : List ℕ) (from at : ℕ) (low : from ≤ at) (lt : at < length
 skip-line : (c : ℕ) → ((c == 13) || (c == 10)) ≡ true → step default_config st.StartRecord c ≡ (st.StartRecord, act.Skip)
 skip-line c e = rw e refl
 
-pub at-start : (text : List ℕ) (from : ℕ) → IsIn (between text from from) st.StartRecord
-at-start text from = ([], [], λ more. ap (λ xs. next_of (xs ++ more)) (between-none text from))
+pub at-start : (text : List ℕ) (from : ℕ) → IsBlank (between text from from)
+at-start text from = λ more. ap (λ xs. next_of (xs ++ more)) (between-none text from)
 
-pub line-skipped : (text : List ℕ) (from at : ℕ) → from ≤ at → at < length text → IsIn (between text from at) st.StartRecord → ((get_or text at 0 == 13) || (get_or text at 0 == 10)) ≡ true → IsIn (between text from (at + 1)) st.StartRecord
-line-skipped text from at low lt h e = on text from at low lt st.StartRecord st.StartRecord act.Skip h (skip-line (get_or text at 0) e) refl
+pub line-skipped : (text : List ℕ) (from at : ℕ) → from ≤ at → at < length text → IsBlank (between text from at) → ((get_or text at 0 == 13) || (get_or text at 0 == 10)) ≡ true → IsBlank (between text from (at + 1))
+line-skipped text from at low lt h e = λ more.
+    let c : ℕ = get_or text at 0 in
+    ap next_of (joined text from at low lt more) ∙ h (c ∷ more) ∙ go-on st.StartRecord st.StartRecord act.Skip [] [] c more (skip-line c e) refl
+
+-- ends of lines are no record, whatever follows
+pub no-records : (bytes : List ℕ) → IsBlank bytes → AreRecords bytes []
+no-records bytes h = λ more. elim (option-case (next_of more)) [
+  | inl e ↦ none-record (bytes ++ more) (h more ∙ e) ∙ sym (none-record more e)
+  | inr (p, e) ↦ left-some st.StartRecord (bytes ++ more) p (h more ∙ e) ∙ sym (left-some st.StartRecord more p e)
+]
 
 -- ---- quotes
 
@@ -250,13 +253,13 @@ module _ (text : List ℕ) (from start : ℕ) (first : from ≤ start) where
           ap (λ b. b || (get_or text (at - 1) 0 == 44)) other ∙ comma
 
 -- the start of a record, at a byte that ends no line
-pub started : (text : List ℕ) (from start : ℕ) → start < length text → IsIn (between text from start) st.StartRecord → ((get_or text start 0 == 13) || (get_or text start 0 == 10)) ≡ false → IsAt text from start (outside (begins text start start))
+pub started : (text : List ℕ) (from start : ℕ) → start < length text → IsBlank (between text from start) → ((get_or text start 0 == 13) || (get_or text start 0 == 10)) ≡ false → IsAt text from start (outside (begins text start start))
 started text from start lt h e =
     let self : (start == start) ≡ true = grind (arith, nat_tests) in
     let s : step default_config st.StartRecord (get_or text start 0) ≡ step default_config st.StartField (get_or text start 0) = rw e refl in
     record {
       state = st.StartRecord;
-      reads = h;
+      reads = ([], [], h);
       ends = λ over. absurd (omega (arith, lt, over));
       alike = λ _. s ∙ ap (λ b. step default_config (outside (b || (get_or text (start - 1) 0 == 44))) (get_or text start 0)) (sym self);
     }
@@ -274,17 +277,19 @@ last-open text from at s over h =
     )
 
 -- only ends of lines are left
-pub last-none : (text : List ℕ) (from at : ℕ) → length text ≤ at → IsIn (between text from at) st.StartRecord → AreLast (drop from text) false
-unfolding next_record
-last-none text from at over h =
-    none-record (drop from text) (ap next_of (sym (append-nil (drop from text)) ∙ ap (λ xs. xs ++ []) (sym (between-all text from at over))) ∙ h.2 [])
+pub last-none : (text : List ℕ) (from at : ℕ) → length text ≤ at → IsBlank (between text from at) → AreLast (drop from text) false
+last-none text from at over h = no-records (drop from text) (subst IsBlank (between-all text from at over) h)
 
 -- ---- records one after the other
 
-pub more-records : (text : List ℕ) (from at end : ℕ) (rs ss : List Record) → from ≤ at → at ≤ end → AreRecords (between text from at) rs → AreRecords (between text at end) ss → AreRecords (between text from end) (rs ++ ss)
-more-records text from at end rs ss low high a b more =
-    ap (λ xs. records default_config (xs ++ more)) (between-join text from at end low high)
-    ∙ ap (records default_config) (append_assoc (between text from at) (between text at end) more)
-    ∙ a (between text at end ++ more)
-    ∙ ap (λ xs. rs ++ xs) (b more)
+pub records-joined : (xs ys : List ℕ) (rs ss : List Record) → AreRecords xs rs → AreRecords ys ss → AreRecords (xs ++ ys) (rs ++ ss)
+records-joined xs ys rs ss a b = λ more.
+    ap (records default_config) (append_assoc xs ys more)
+    ∙ a (ys ++ more)
+    ∙ ap (λ zs. rs ++ zs) (b more)
     ∙ sym (append_assoc rs ss (records default_config more))
+
+pub more-records : (text : List ℕ) (at end : ℕ) (rs ss : List Record) → at ≤ end → AreRecords (take at text) rs → AreRecords (between text at end) ss → AreRecords (take end text) (rs ++ ss)
+more-records text at end rs ss high a b =
+    let joined : take at text ++ between text at end ≡ take end text = sym (take-between text at end high) in
+    subst (λ xs. AreRecords xs (rs ++ ss)) joined (records-joined (take at text) (between text at end) rs ss a b)

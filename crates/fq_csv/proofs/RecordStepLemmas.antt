@@ -1,11 +1,11 @@
 -- The run that a step makes, and the stream of records that it leaves.
 use Rattle.std.specs.Prelude.{option_map}
-use Rattle.std.proofs.Common.{◌≡◌, ◌<◌, ◌≤◌, ◌+◌, ◌++◌, ◌∙◌, ℕ, List, Option, Some, length, take, refl, sym, ap, subst, arith}
+use Rattle.std.proofs.Common.{◌≡◌, ◌<◌, ◌≤◌, ◌+◌, ◌++◌, ◌∙◌, ℕ, List, [], ◌∷◌, Option, Some, length, take, refl, sym, ap, subst, arith}
 use Rattle.std.proofs.lemmas.List.{drop_all, take_all}
 use Rattle.fq_column.specs.Frame.{Fields}
 use Rattle.csv.specs.Reading.{default_config, records}
 use Rattle.fq_csv.specs.File.{Record}
-use Rattle.fq_csv.specs.RecordScan.{GivesRun, records_left_at}
+use Rattle.fq_csv.specs.RecordScan.{GivesNoRun, GivesRun, records_left_at}
 use Rattle.fq_csv.specs.Records.{Unread}
 use Rattle.fq_csv.specs.Rows.{EndsAt}
 use Rattle.fq_csv.specs.Taking.{ReadsRecords, RecordStream, RecordsGoOn, records_after, then_records, without_records}
@@ -56,3 +56,23 @@ module _ (span : Span) (layout : Layout) (old new : Unread) (after : Stage) (tex
             cut after span.size rs u _ layout.schema span.limit (span.from + length rs) new ends g
             (ap (λ f. option_map (records_after f span.limit (span.from + count)) new.upcoming) (sym file) ∙ ap (λ n. option_map (records_after new.file span.limit (span.from + n)) new.upcoming) (sym many));
       }
+
+  -- there are no records
+  pub gives-no-run : ReadsRecords span old new after text count → count ≡ 0 → GivesNoRun span layout.schema old new stage.Rows after
+  gives-no-run r none = go after r.ends r.goes_on
+    where
+      no-rs : (xs : List Record) → length xs ≡ 0 → xs ≡ []
+      no-rs [] e = refl
+      no-rs (x ∷ xs) e = absurd (omega (arith, e))
+
+      go : (s : Stage) → EndsAt s span.size count → ((before : List Record) → old.upcoming ≡ Some before → RecordsGoOn s rs (records_after old.file span.limit span.from before) (option_map (records_after old.file span.limit (span.from + count)) new.upcoming))
+          → GivesNoRun span layout.schema old new stage.Rows s
+      go stage.Header ends goes = absurd ends
+      go stage.Rows ends goes = absurd (omega (arith, ends, none, span.some))
+      go (stage.Failed fault) ends goes = absurd ends
+      go (stage.Closed fault) ends goes = (
+        λ _. ends.1,
+        λ u e.
+            let m = mapped (records_after old.file span.limit span.from) old.upcoming u e in
+            m.2 ∙ goes m.0 m.1 ∙ ap (λ xs. let w : RecordStream = record { records = xs; fault = fault } in w) (no-rs rs (r.number ∙ none)),
+      )

@@ -67,7 +67,6 @@ module _ (span : Span) (old now : Unread) (text : List ℕ) (wanted count : ℕ)
   -- as many as a run may have
   pub reads-full : count ≡ span.size → ReadsRecords span old now stage.Rows text count
   reads-full all = record {
-    unmarked = takes.unmarked;
     number = takes.number;
     in_limit = room;
     ends = all;
@@ -77,7 +76,6 @@ module _ (span : Span) (old now : Unread) (text : List ℕ) (wanted count : ℕ)
   -- no other is left
   pub reads-last : (new : Unread) → count < wanted → count < span.size → ReadsRecords span old new (stage.Closed None) text count
   reads-last new few fewer = record {
-    unmarked = takes.unmarked;
     number = takes.number;
     in_limit = room;
     ends = (fewer, tt);
@@ -90,14 +88,12 @@ module _ (span : Span) (old now : Unread) (text : List ℕ) (wanted count : ℕ)
   reads-limit new stage.Rows file full fewer h = absurd h
   reads-limit new (stage.Failed fault) file full fewer h = absurd h
   reads-limit new (stage.Closed None) file full fewer h = record {
-    unmarked = takes.unmarked;
     number = takes.number;
     in_limit = room;
     ends = (fewer, tt);
     goes_on = λ before e. (let t = rest before e in t.2 ∙ ap (λ xs. then_records rs (records_after old.file span.limit (span.from + count) xs)) (h t.0 t.1) ∙ then-over rs None);
   }
   reads-limit new (stage.Closed (Some fault)) file full fewer h = record {
-    unmarked = takes.unmarked;
     number = takes.number;
     in_limit = room;
     ends = (fewer, subst (λ f. IsOfText (Some f)) (sym h.0) tt);

@@ -1,10 +1,11 @@
 -- The bytes of a file that are left, and the records that are taken of them.
-use Rattle.std.specs.Prelude.{◌≡◌, ◌≤◌, ◌<◌, ◌++◌, ◌⊎◌, Bool, true, false, ℕ, List, [], length, take, drop, Option, Some, option_map, if◌then◌else◌}
+use Rattle.std.specs.Prelude.{◌≡◌, ◌≤◌, ◌<◌, ◌∷◌, ◌++◌, ◌⊎◌, MatchBool, true, false, ℕ, List, [], length, drop, Option, Some, option_map, if◌then◌else◌}
 use Rattle.std.specs.Io.KnownBytes.{IsAtEnd, Keeps, prepend_known}
 use Rattle.csv.specs.Reading.{default_config, records, strip_bom}
 use Rattle.fq_csv.specs.Cutting.{AreRecords}
 use Rattle.fq_csv.specs.File.{Record}
 use Rattle.fq_csv.specs.declared.buffers.Buffer.{Buffer}
+use Rattle.fq_csv.specs.declared.cutting.Ends.{Ends}
 use Rattle.fq_csv.specs.declared.faults.ScanFault.{ScanFault}
 use Rattle.fq_csv.specs.declared.faults.ScanFault.TheVariants.{Read, Memory}
 
@@ -39,18 +40,23 @@ pub record ReadsOn {R : Type 0} (remaining : R → Option (List ℕ)) (old new :
 abbrev pub FailsBy : {R : Type 0} → Buffer R → Buffer R → ScanFault → Type 0
 FailsBy old new fault = ((fault ≡ Read old.file) × (new.has_failed ≡ true)) ⊎ ((fault ≡ Memory) × (new.reader ≡ old.reader))
 
--- the first `len` bytes are the next records, up to so many, whatever follows, or, at the end of the file, with nothing after them; fewer only if no other is left
-pub record Finds (rest : List ℕ) (is_last : Bool) (wanted len count : ℕ) : Type 0 where
-  pub high : len ≤ length rest
-  pub few : count ≤ wanted
-  pub rs : List Record
-  pub number : length rs ≡ count
-  pub are : AreRecords (take len rest) rs ⊎ ((is_last ≡ true) × (len ≡ length rest) × (records default_config rest ≡ rs))
-  pub last : count < wanted → (is_last ≡ true) × (records default_config (drop len rest) ≡ [])
+-- these are the records of the bytes before, and then come those of the bytes after
+abbrev pub Passes : Option (List ℕ) → List Record → Option (List ℕ) → Type 0
+Passes before rs after = (bytes : List ℕ) → before ≡ Some bytes → (rest : List ℕ) × (after ≡ Some rest) × (records default_config bytes ≡ rs ++ records default_config rest)
 
--- the next records were taken as a text that no byte order mark begins, up to so many; fewer only if no other is left
+-- whole records were added to a text, up to so many; if there are fewer, the bytes that were read and are left are one record if nothing follows them, or there are none
+pub record HandsOn {R : Type 0} (remaining : R → Option (List ℕ)) (old new : Buffer R) (wanted : ℕ) (before text : List ℕ) (ends : Ends) : Type 0 where
+  pub few : ends.count ≤ wanted
+  pub rs : List Record
+  pub number : length rs ≡ ends.count
+  pub part : List ℕ
+  pub added : text ≡ before ++ part
+  pub whole : AreRecords part rs
+  pub passes : Passes (left_of remaining old) rs (left_of remaining new)
+  pub last : ends.count < wanted → MatchBool ends.is_open ((r : Record) × (records default_config (rest_of new) ≡ r ∷ [])) (rest_of new ≡ [])
+
+-- the next records were taken as a text, up to so many; fewer only if no other is left
 pub record TakesText {R : Type 0} (remaining : R → Option (List ℕ)) (old new : Buffer R) (wanted : ℕ) (text : List ℕ) (count : ℕ) : Type 0 where
-  pub unmarked : strip_bom text ≡ text
   pub few : count ≤ wanted
   pub number : length (records default_config text) ≡ count
   pub rest : (bytes : List ℕ) → unread_of remaining old ≡ Some bytes

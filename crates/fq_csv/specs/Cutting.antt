@@ -17,9 +17,9 @@ between text start end = take (end - start) (drop start text)
 abbrev pub AreRecords : List ℕ → List Record → Type 0
 AreRecords bytes rs = (more : List ℕ) → records default_config (bytes ++ more) ≡ rs ++ records default_config more
 
--- these bytes, with nothing after them, are one record, or none
+-- these bytes are one record if nothing follows them; or they are no record, whatever follows
 abbrev pub AreLast : List ℕ → Bool → Type 0
-AreLast bytes found = MatchBool found ((r : Record) × (records default_config bytes ≡ r ∷ [])) (records default_config bytes ≡ [])
+AreLast bytes is_open = MatchBool is_open ((r : Record) × (records default_config bytes ≡ r ∷ [])) (AreRecords bytes [])
 
 -- how the next record of a text ends
 abbrev pub EndsBy : List ℕ → ℕ → End → Type 0
@@ -28,13 +28,12 @@ EndsBy text from end.Open = AreLast (drop from text) true
 EndsBy text from end.Nothing = AreLast (drop from text) false
 
 -- the first whole records of a text, up to a number of them
-pub record IsUpTo (text : List ℕ) (from wanted : ℕ) (ends : Ends) : Type 0 where
-  pub low : from ≤ ends.end
+pub record IsUpTo (text : List ℕ) (wanted : ℕ) (ends : Ends) : Type 0 where
   pub high : ends.end ≤ length text
   pub few : ends.count ≤ wanted
   pub rs : List Record
   pub count : length rs ≡ ends.count
-  pub whole : AreRecords (between text from ends.end) rs
+  pub whole : AreRecords (take ends.end text) rs
   pub last : ends.count < wanted → AreLast (drop ends.end text) ends.is_open
 
 -- ---- inside a record
@@ -42,6 +41,10 @@ pub record IsUpTo (text : List ℕ) (from wanted : ℕ) (ends : Ends) : Type 0 w
 -- the next record of a text
 abbrev pub next_of : List ℕ → Option Read
 next_of xs = next_record default_config st.StartRecord [] [] xs
+
+-- these bytes only end lines: the next record is that of what follows them
+abbrev pub IsBlank : List ℕ → Type 0
+IsBlank bytes = (more : List ℕ) → next_of (bytes ++ more) ≡ next_of more
 
 -- a state between two records
 abbrev pub IsBetween : State → Type 0

@@ -4,6 +4,7 @@ pub mod Field
 pub mod File
 pub mod Sources
 pub mod Printed
+pub mod Pieces
 pub mod Records
 pub mod Rows
 pub mod Scan

@@ -1,6 +1,8 @@
 -- What a reader of records has left.
 use Rattle.std.specs.Prelude.{◌≡◌, ◌+◌, ℕ, true, List, Option, length, Some}
 use Rattle.std.specs.Borrow.{Bor}
+use Rattle.std.specs.Io.Chain.{chain_remaining}
+use Rattle.std.specs.declared.io.traits.Chain.{Chain}
 use Rattle.csv.specs.Reading.{Ready, default_config, is_flexible, reader_config, reader_state, reader_trim, records_from, source_of}
 use Rattle.csv.specs.declared.parser.State.{State}
 use Rattle.csv.specs.declared.reader.Trim.TheVariants as trim
@@ -26,6 +28,10 @@ module _ {R : Type 0} (remaining : R → Option (List ℕ)) where
   abbrev pub HasLeft : RecordReader R → List Record → Type 0
   HasLeft r rs = (bytes : List ℕ) × (source_of retried r.reader ≡ Some bytes) × (rs ≡ records_left (reader_state r.reader) bytes)
 
+-- what a reader of a text reads: a line feed, and then the text
+abbrev pub TextSource : Type 0
+TextSource = Chain (Bor (List ℕ)) (List ℕ)
+
 -- the same, of a reader of a text
-abbrev pub TextHasLeft : RecordReader (Bor (List ℕ)) → List Record → Type 0
-TextHasLeft = HasLeft (λ (s : Bor (List ℕ)). Some s.now)
+abbrev pub TextHasLeft : RecordReader TextSource → List Record → Type 0
+TextHasLeft = HasLeft (chain_remaining (λ (first : Bor (List ℕ)). Some first.now) (λ (text : List ℕ). Some text))

@@ -1,6 +1,6 @@
 -- The records that a file has still to give.
 use Rattle.std.specs.Prelude.{◌≡◌, ◌<◌, ◌≤◌, ◌++◌, ◌⊎◌, ⊤, length, Bool, true, ℕ, List, [], Option, Some, None, option_map}
-use Rattle.csv.specs.Reading.{default_config, records, strip_bom}
+use Rattle.csv.specs.Reading.{default_config, records}
 use Rattle.fq_csv.specs.Buffer.{unread_of}
 use Rattle.fq_csv.specs.File.{Record}
 use Rattle.fq_csv.specs.declared.buffers.Buffer.{Buffer}
@@ -17,9 +17,8 @@ pub record Unread : Type 0 where
 abbrev pub upcoming_of : {R : Type 0} → (R → Option (List ℕ)) → Buffer R → Option (List Record)
 upcoming_of remaining b = option_map (records default_config) (unread_of remaining b)
 
--- the next records were taken as a text that no byte order mark begins, up to so many; fewer only if no other is left
+-- the next records were taken as a text, up to so many; fewer only if no other is left
 pub record Takes (old : Unread) (wanted : ℕ) (text : List ℕ) (count : ℕ) (new : Unread) : Type 0 where
-  pub unmarked : strip_bom text ≡ text
   pub few : count ≤ wanted
   pub number : length (records default_config text) ≡ count
   pub rest : (before : List Record) → old.upcoming ≡ Some before

@@ -78,7 +78,6 @@ RecordsGoOn (stage.Failed fault) rs before after = ⊥
 
 -- so many records after row `from` were read, up to the limit and `size` of them, which this text is, and the file goes on after them
 pub record ReadsRecords (span : Span) (old new : Unread) (stage : Stage) (text : List ℕ) (count : ℕ) : Type 0 where
-  pub unmarked : strip_bom text ≡ text
   pub number : length (records default_config text) ≡ count
   pub in_limit : span.from + count ≤ span.limit
   pub ends : EndsAt stage span.size count

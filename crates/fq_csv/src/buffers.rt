@@ -1,14 +1,17 @@
 //! The bytes of a file, from which runs of records are taken.
 //!
-//! Bytes that were not taken move to the front only before the next read; all others are copied once, into the text of their run. A record
-//! that is not whole is passed over again once twice as many bytes of it are there, so a long one is passed over twice in all.
-ghost use Rattle.std.specs.Prelude.{◌≡◌, ◌≤◌, ◌<◌, ◌∷◌, take, false, true, length, IfOk, IfErr, OnErr, OnOk};
+//! Bytes that were not taken move to the front only before the next read; all others are copied once, into the text of their run, as soon
+//! as their record is whole. One that is not whole is passed over again once a quarter more bytes are there: so a long one is passed over
+//! about five times in all, and what is read ahead of its end is at most a quarter of it. Once it was taken, its memory is given back.
+//! Empty lines that no record follows in what was read are passed over, and not kept.
+ghost use Rattle.std.specs.Prelude.{◌≡◌, ◌≤◌, ◌<◌, ◌++◌, take, drop, false, true, length, IfOk, IfErr, OnErr, OnOk};
 ghost use Rattle.std.specs.Io.KnownBytes.{Keeps};
-ghost use Rattle.fq_csv.specs.Buffer.{FailsBy, Finds, IsSound, ReadsOn, TakesText, left_of, rest_of, unread_of};
+ghost use Rattle.fq_csv.specs.Buffer.{FailsBy, HandsOn, IsSound, ReadsOn, TakesText, left_of, rest_of, unread_of};
 ghost use Rattle.fq_csv.specs.Records.{StopsBy};
 
-use crate::cutting::whole_records;
+use crate::cutting::{Ends, whole_records};
 use crate::faults::ScanFault;
+use crate::pieces::Pieces;
 use crate::retrying::Retrying;
 use std::alloc::{AllocError, Global};
 use std::io::Read;
@@ -63,7 +66,14 @@ impl<R: Read> Buffer<R> {
         &self.text[self.at..]
     }
 
-    // Moves the bytes that were not taken to the start of the text.
+    // Whether the text has far more memory than the bytes that were not taken and those of a read need.
+    fn is_roomy(&self) -> bool
+        requires { self.now.at ≤ length self.now.text.items }
+    {
+        self.text.capacity() / 4 > self.rest().len() + CHUNK
+    }
+
+    // Moves the bytes that were not taken to the start of the text, and gives memory back that a long record took.
     fn compact(&mut self)
         requires { self.old.at ≤ length self.old.text.items }
         ensures same { self.new ≡ record self.old { text = self.new.text; at = 0 } }
@@ -74,6 +84,9 @@ impl<R: Read> Buffer<R> {
             self.text.copy_within(self.at.., 0);
             self.text.truncate(left);
             self.at = 0;
+        }
+        if self.is_roomy() {
+            self.text.shrink_to(self.text.len() + CHUNK);
         }
     }
 
@@ -139,73 +152,80 @@ impl<R: Read> Buffer<R> {
         Ok(())
     }
 
-    // Finds the next records of a file that was begun, up to so many: how many bytes and how many records they are.
-    fn find(&mut self, wanted: u32) -> Result<(usize, u32), ScanFault>
-        requires { IsSound R.remaining self.old }
+    // Adds the first bytes that were not taken to a text, and takes them.
+    fn hand_on(&mut self, text: &mut Pieces, len: usize) -> Result<(), AllocError>
+        requires sound { IsSound R.remaining self.old }
+        requires begun { self.old.has_begun ≡ true }
+        requires high { len ≤ length (rest_of self.old) }
         ensures sound { IsSound R.remaining self.new }
-        ensures file { self.new.file ≡ self.old.file }
-        ensures failed { IfErr result (StopsBy self.old.file self.new.has_failed) }
-        ensures reads { OnOk result (ReadsOn R.remaining self.old self.new) }
-        ensures found { IfOk result (λ r. Finds (rest_of self.new) self.new.is_last wanted r.0 r.1) }
+        ensures same { self.new ≡ record self.old { text = self.new.text; at = self.new.at } }
+        ensures added { OnOk result (text.new ≡ text.old ++ take len (rest_of self.old)) }
+        ensures rest { OnOk result (rest_of self.new ≡ drop len (rest_of self.old)) }
     {
-        let mut end = 0;
-        let mut count = 0;
-        loop {
-            let rest = self.rest();
-            let found = whole_records(rest, end, wanted - count);
-            end = found.end;
-            count += found.count;
-            if count == wanted {
-                return Ok((end, count));
-            }
-            let len = rest.len();
-            if self.is_last {
-                return Ok(if found.is_open {
-                    (len, count + 1)
-                } else {
-                    (end, count)
-                });
-            }
-            self.read_up_to(len + (len - end) + 1)?;
+        text.add(&self.rest()[..len])?;
+        self.at += len;
+        if self.is_roomy() {
+            self.compact();
         }
+        Ok(())
     }
 
-    // A copy of the first bytes that were not taken, after an empty line.
-    fn copy(&self, alloc: Global, len: usize) -> Result<Vec<u8>, AllocError>
-        requires inside { self.now.at ≤ length self.now.text.items }
-        requires high { len ≤ length (rest_of self.now) }
-        ensures { IfOk result (λ text. text.items ≡ 10 ∷ take len (rest_of self.now)) }
+    // Adds the next whole records of the bytes that were not taken to a text, up to so many, and takes them. If they are fewer, and the
+    // bytes after them are no record, takes those too.
+    fn hand_on_records(&mut self, text: &mut Pieces, wanted: u32) -> Result<Ends, AllocError>
+        requires sound { IsSound R.remaining self.old }
+        requires begun { self.old.has_begun ≡ true }
+        ensures sound { IsSound R.remaining self.new }
+        ensures same { self.new ≡ record self.old { text = self.new.text; at = self.new.at } }
+        ensures handed { IfOk result (HandsOn R.remaining self.old self.new wanted text.old text.new) }
     {
-        let mut text = Vec::with_capacity(alloc, len + 1)?;
-        text.push(b'\n')?;
-        text.extend_from_slice(&self.rest()[..len])?;
-        Ok(text)
+        let found = whole_records(self.rest(), wanted);
+        self.hand_on(text, found.end)?;
+        if found.count < wanted && !found.is_open {
+            self.at = self.text.len();
+        }
+        Ok(found)
     }
 
     // The same as `take`, of a file that was begun.
-    fn take_begun(&mut self, alloc: Global, wanted: u32) -> Result<(Vec<u8>, u32), ScanFault>
+    fn take_begun(&mut self, alloc: Global, wanted: u32) -> Result<(Pieces, u32), ScanFault>
         requires sound { IsSound R.remaining self.old }
         requires begun { self.old.has_begun ≡ true }
         ensures sound { IsSound R.remaining self.new }
         ensures file { self.new.file ≡ self.old.file }
         ensures failed { IfErr result (StopsBy self.old.file self.new.has_failed) }
         ensures goes_on { OnOk result (self.new.has_failed ≡ self.old.has_failed) }
-        ensures taken { IfOk result (λ r. TakesText R.remaining self.old self.new wanted r.0.items r.1) }
+        ensures taken { IfOk result (λ r. TakesText R.remaining self.old self.new wanted r.0 r.1) }
     {
-        let (len, count) = self.find(wanted)?;
-        let text = self.copy(alloc, len)?;
-        self.at += len;
-        Ok((text, count))
+        let mut text = Pieces::new(alloc);
+        let mut count = 0;
+        for _ in 0..u64::MAX {
+            let found = self.hand_on_records(&mut text, wanted - count)?;
+            count += found.count;
+            if count == wanted {
+                return Ok((text, count));
+            }
+            let left = self.rest().len();
+            if self.is_last {
+                if found.is_open {
+                    self.hand_on(&mut text, left)?;
+                    count += 1;
+                }
+                return Ok((text, count));
+            }
+            self.read_up_to(left + left / 4 + 1)?;
+        }
+        Err(ScanFault::Memory)
     }
 
-    /// Takes the next records, up to so many: their text, which begins with an empty line, and how many they are.
-    pub(crate) fn take(&mut self, alloc: Global, wanted: u32) -> Result<(Vec<u8>, u32), ScanFault>
+    /// Takes the next records, up to so many: their text, and how many they are.
+    pub(crate) fn take(&mut self, alloc: Global, wanted: u32) -> Result<(Pieces, u32), ScanFault>
         requires { IsSound R.remaining self.old }
         ensures sound { IsSound R.remaining self.new }
         ensures file { self.new.file ≡ self.old.file }
         ensures failed { IfErr result (StopsBy self.old.file self.new.has_failed) }
         ensures goes_on { OnOk result (self.new.has_failed ≡ self.old.has_failed) }
-        ensures taken { IfOk result (λ r. TakesText R.remaining self.old self.new wanted r.0.items r.1) }
+        ensures taken { IfOk result (λ r. TakesText R.remaining self.old self.new wanted r.0 r.1) }
     {
         if !self.has_begun {
             self.begin()?;

@@ -1,7 +1,7 @@
 //! Where the records of a text end.
 ghost use Rattle.std.specs.Prelude.{◌≡◌, ◌≤◌, ◌<◌, ◌==◌, ◌-◌, ◌||◌, ℕ, length, true, false, get_or, IfSome, IfNone};
-ghost use Rattle.csv.specs.declared.parser.State.TheVariants.{InField, InQuoted, StartRecord};
-ghost use Rattle.fq_csv.specs.Cutting.{EndsBy, IsAt, IsIn, IsUpTo, NoQuote, NoneStops, begins, between, stops};
+ghost use Rattle.csv.specs.declared.parser.State.TheVariants.{InField, InQuoted};
+ghost use Rattle.fq_csv.specs.Cutting.{EndsBy, IsAt, IsBlank, IsIn, IsUpTo, NoQuote, NoneStops, begins, between, stops};
 
 use crate::blocks::{LANES, marks_of};
 use memchr::memchr;
@@ -14,7 +14,7 @@ pub(crate) enum End {
     At(usize),
     /// With the text, if nothing follows.
     Open,
-    /// There is none.
+    /// There is none: what is left only ends lines.
     Nothing,
 }
 
@@ -25,7 +25,8 @@ pub(crate) struct Ends {
     pub(crate) end: usize,
     /// How many they are.
     pub(crate) count: u32,
-    /// Whether a record begins after them, which ends with the text if nothing follows.
+    /// Whether a record begins after them, which ends with the text if nothing follows. If not, and they are fewer than were wanted,
+    /// the bytes after them only end lines.
     pub(crate) is_open: bool,
 }
 
@@ -115,7 +116,7 @@ fn record_start(text: &[u8], from: usize) -> usize
     requires { from ≤ length text.now }
     ensures low { from ≤ result }
     ensures high { result ≤ length text.now }
-    ensures start { IsIn (between text.now from result) StartRecord }
+    ensures start { IsBlank (between text.now from result) }
     ensures byte { result < length text.now → ((get_or text.now result 0 == 13) || (get_or text.now result 0 == 10)) ≡ false }
 {
     for i in from..text.len() {
@@ -164,11 +165,10 @@ fn record_end(text: &[u8], from: usize) -> End
 }
 
 /// The first whole records of a text, up to so many of them.
-pub(crate) fn whole_records(text: &[u8], from: usize, wanted: u32) -> Ends
-    requires { from ≤ length text.now }
-    ensures { IsUpTo text.now from wanted result }
+pub(crate) fn whole_records(text: &[u8], wanted: u32) -> Ends
+    ensures { IsUpTo text.now wanted result }
 {
-    let mut end = from;
+    let mut end = 0;
     for count in 0..wanted {
         match record_end(text, end) {
             End::At(next) => end = next,

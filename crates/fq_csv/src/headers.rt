@@ -1,7 +1,7 @@
 //! The header of a file.
 ghost use Rattle.std.specs.Prelude.{◌≡◌, ◌∷◌, [], IfErr, IfOk, OnOk, length};
 ghost use Rattle.std.specs.Cmp.Lexicographic.{pointwise};
-ghost use Rattle.csv.specs.Reading.{default_config, records as records_of, strip_bom};
+ghost use Rattle.csv.specs.Reading.{default_config, records as records_of};
 ghost use Rattle.csv.specs.Records.{fields_of};
 ghost use Rattle.fq_column.specs.Frame.{names_of, same_name};
 ghost use Rattle.fq_csv.specs.File.{Record};
@@ -10,7 +10,8 @@ ghost use Rattle.fq_csv.specs.Records.{StopsBy};
 
 use crate::faults::ScanFault;
 use crate::file_stages::Stage;
-use crate::readers::{RecordReader, next_record};
+use crate::pieces::Pieces;
+use crate::readers::{next_record, read_text};
 use crate::records::Records;
 use csv::ByteRecord;
 use fq_column::{Memory, Schema};
@@ -50,16 +51,15 @@ fn find_header<R: Read>(
     if count == 0 {
         return Ok(false);
     }
-    Ok(is_header(alloc, schema, text.as_slice())?)
+    Ok(is_header(alloc, schema, text)?)
 }
 
 // Whether the fields of a text's one record are the schema's names, in their order.
-fn is_header(alloc: Global, schema: &Schema, text: &[u8]) -> Result<bool, Memory>
-    requires unmarked { strip_bom text.now ≡ text.now }
-    requires one { length (records_of default_config text.now) ≡ 1 }
-    ensures { IfOk result (λ is. (r : Record) → records_of default_config text.now ≡ r ∷ [] → is ≡ pointwise same_name (names_of schema.now) r) }
+fn is_header(alloc: Global, schema: &Schema, text: Pieces) -> Result<bool, Memory>
+    requires { length (records_of default_config text) ≡ 1 }
+    ensures { IfOk result (λ is. (r : Record) → records_of default_config text ≡ r ∷ [] → is ≡ pointwise same_name (names_of schema.now) r) }
 {
-    let mut reader = RecordReader::new(alloc, text);
+    let mut reader = read_text(alloc, text)?;
     let mut row = ByteRecord::new(alloc);
     if !next_record(&mut reader, &mut row)? {
         unreachable!()

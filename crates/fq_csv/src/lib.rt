@@ -10,6 +10,7 @@ mod file_stages;
 mod headers;
 mod laws;
 mod layouts;
+mod pieces;
 mod printing;
 mod readers;
 mod record_runs;

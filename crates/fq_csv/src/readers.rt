@@ -5,11 +5,12 @@ ghost use Rattle.csv.specs.Records.{fields_of};
 ghost use Rattle.fq_csv.specs.File.{Record};
 ghost use Rattle.fq_csv.specs.Readers.{HasLeft, IsPlain, TextHasLeft};
 
+use crate::pieces::Pieces;
 use crate::retrying::Retrying;
 use csv::{ByteRecord, Error, Reader, ReaderBuilder};
 use fq_column::Memory;
 use std::alloc::Global;
-use std::io::Read;
+use std::io::{Chain, Read};
 
 /// A reader of the records of a file, of any width. The header is the first of them. A read that a signal interrupts is tried again.
 #[derive(Drop)]
@@ -47,9 +48,32 @@ impl<R: Read> RecordReader<R> {
     }
 }
 
+/// What a reader of a text reads: a line feed, and then the text.
+///
+/// A reader takes a byte order mark off the start of what it reads, and the first bytes of a text's first field may be one. An empty line
+/// is no record.
+pub(crate) type TextSource = Chain<&'static [u8], Pieces>;
+
+/// A reader of the records of a text. `Memory` if an allocation failed.
+///
+/// It is given an empty header: without one, `csv` keeps two copies of the first record, which may be long.
+pub(crate) fn read_text(alloc: Global, text: Pieces) -> Result<RecordReader<TextSource>, Memory>
+    ensures plain { IfOk result IsPlain }
+    ensures left { IfOk result (λ reader. TextHasLeft reader (records default_config text)) }
+{
+    let source = b"\n".as_slice().chain(text);
+    let mut reader = ReaderBuilder::new()
+        .flexible(true)
+        .from_reader(alloc, Retrying { reader: source });
+    match reader.set_byte_headers(ByteRecord::new(alloc)) {
+        Ok(()) => Ok(RecordReader { reader }),
+        Err(_) => Err(Memory),
+    }
+}
+
 /// Reads the next record of a text, and says whether there was one. `Memory` if an allocation failed; no read of a text fails otherwise.
 pub(crate) fn next_record(
-    reader: &mut RecordReader<&[u8]>,
+    reader: &mut RecordReader<TextSource>,
     row: &mut ByteRecord,
 ) -> Result<bool, Memory>
     requires { IsPlain reader.old }

@@ -2,13 +2,14 @@
 ghost use Rattle.std.specs.Prelude.{◌≡◌, ◌≤◌, ◌<◌, ◌+◌, length, option_map, IfOk, IfSome};
 ghost use Rattle.fq_column.specs.Frame.{kinds_of};
 ghost use Rattle.fq_csv.specs.Records.{IsOfText};
-ghost use Rattle.csv.specs.Reading.{default_config, records, strip_bom};
+ghost use Rattle.csv.specs.Reading.{default_config, records};
 ghost use Rattle.fq_csv.specs.Taking.{ReadsRun};
 ghost use Rattle.fq_csv.specs.TextRows.{HoldsRowsOf, run_fault};
 ghost use Rattle.fq_csv.specs.declared.scanners.TheConstants.{MAX_ROWS};
 
 use crate::faults::ScanFault;
 use crate::layouts::Layout;
+use crate::pieces::Pieces;
 use crate::text_rows::{NoRow, push_records};
 use fq_column::{Batch, Column, Memory, Piece, empty_columns};
 use std::alloc::Global;
@@ -16,21 +17,20 @@ use std::marker::Model;
 
 /// Records of a file, one after the other, as the text that they are.
 ///
-/// None of their fields was looked at yet, so a run may be handed to another thread, which makes a batch of it. The text begins with a
-/// line feed: an empty line is no record, and a reader takes a byte order mark off the start of its text, where here the first bytes of a
-/// field may be one.
+/// None of their fields was looked at yet, so a run may be handed to another thread, which makes a batch of it. The text is freed piece by
+/// piece as it is read.
 #[derive(Drop)]
 pub struct RecordRun {
     pub(crate) file: u16,
     pub(crate) layout: Layout,
     pub(crate) before: u32,
     pub(crate) count: u32,
-    pub(crate) text: Vec<u8>,
+    pub(crate) text: Pieces,
 }
 
 impl Model for RecordRun {
     ghost use Rattle.std.specs.Prelude.{◌≡◌, ◌≤◌, ◌+◌, length};
-    ghost use Rattle.csv.specs.Reading.{default_config, records, strip_bom};
+    ghost use Rattle.csv.specs.Reading.{default_config, records};
     ghost use Rattle.fq_csv.specs.Taking.{FieldRun};
     ghost use Rattle.fq_csv.specs.declared.scanners.TheConstants.{MAX_ROWS};
 
@@ -40,10 +40,10 @@ impl Model for RecordRun {
       file = a.file;
       layout = a.layout;
       before = a.before;
-      records = records default_config a.text.items;
+      records = records default_config a.text;
     } };
 
-    ghost invariant = { λ a. (strip_bom a.text.items ≡ a.text.items) × (length (records default_config a.text.items) ≡ a.count) × (a.before + a.count ≤ MAX_ROWS) };
+    ghost invariant = { λ a. (length (records default_config a.text) ≡ a.count) × (a.before + a.count ≤ MAX_ROWS) };
 }
 
 impl RecordRun {
@@ -68,7 +68,7 @@ impl RecordRun {
             count,
             text,
         } = self;
-        let (columns, bad) = columns_of(alloc, &layout, text.as_slice(), count)?;
+        let (columns, bad) = columns_of(alloc, &layout, text, count)?;
         let batch = Batch::new(layout.schema, columns);
         Ok(Piece {
             batch,
@@ -81,12 +81,11 @@ impl RecordRun {
 fn columns_of(
     alloc: Global,
     layout: &Layout,
-    text: &[u8],
+    text: Pieces,
     count: u32,
 ) -> Result<(Vec<Column>, Option<(u32, NoRow)>), Memory>
-    requires unmarked { strip_bom text.now ≡ text.now }
-    requires count { length (records default_config text.now) ≡ count }
-    ensures rows { IfOk result (λ r. HoldsRowsOf layout.now.nulls (kinds_of layout.now.schema) (records default_config text.now) r.0.items r.1) }
+    requires { length (records default_config text) ≡ count }
+    ensures rows { IfOk result (λ r. HoldsRowsOf layout.now.nulls (kinds_of layout.now.schema) (records default_config text) r.0.items r.1) }
     ensures some { IfOk result (λ r. 0 < length r.0.items) }
 {
     let mut columns = empty_columns(alloc, &layout.schema, count as usize)?;

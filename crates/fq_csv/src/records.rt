@@ -5,6 +5,7 @@ ghost use Rattle.fq_csv.specs.Records.{StopsBy, Takes};
 
 use crate::buffers::Buffer;
 use crate::faults::ScanFault;
+use crate::pieces::Pieces;
 use std::alloc::Global;
 use std::io::Read;
 use std::marker::Model;
@@ -45,12 +46,12 @@ impl<R: Read> Records<R> {
         self.buffer.file
     }
 
-    /// Takes the next records, up to so many: their text, which begins with an empty line, and how many they are.
-    pub(crate) fn take(&mut self, alloc: Global, wanted: u32) -> Result<(Vec<u8>, u32), ScanFault>
+    /// Takes the next records, up to so many: their text, and how many they are.
+    pub(crate) fn take(&mut self, alloc: Global, wanted: u32) -> Result<(Pieces, u32), ScanFault>
         ensures file { self.new.file ≡ self.old.file }
         ensures goes_on { OnOk result (self.new.stopped ≡ self.old.stopped) }
         ensures failed { IfErr result (StopsBy self.old.file self.new.stopped) }
-        ensures taken { IfOk result (λ r. Takes self.old wanted r.0.items r.1 self.new) }
+        ensures taken { IfOk result (λ r. Takes self.old wanted r.0 r.1 self.new) }
     {
         self.buffer.take(alloc, wanted)
     }

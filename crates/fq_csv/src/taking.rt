@@ -5,6 +5,7 @@ ghost use Rattle.fq_csv.specs.Taking.{EndsAtLimit, ReadsRecords};
 
 use crate::faults::ScanFault;
 use crate::file_stages::Stage;
+use crate::pieces::Pieces;
 use crate::records::Records;
 use crate::spans::Span;
 use std::alloc::Global;
@@ -13,7 +14,7 @@ use std::io::Read;
 /// The text of records that were taken, how many they are, and how the file goes on after them.
 #[derive(Drop)]
 pub(crate) struct Taken {
-    pub(crate) text: Vec<u8>,
+    pub(crate) text: Pieces,
     pub(crate) count: u32,
     pub(crate) stage: Stage,
 }
@@ -27,7 +28,7 @@ pub(crate) fn take_records<R: Read>(
     ensures file { records.new.file ≡ records.old.file }
     ensures goes_on { OnOk result (records.new.stopped ≡ records.old.stopped) }
     ensures failed { IfErr result (StopsBy records.old.file records.new.stopped) }
-    ensures records { IfOk result (λ taken. ReadsRecords span records.old records.new taken.stage taken.text.items taken.count) }
+    ensures records { IfOk result (λ taken. ReadsRecords span records.old records.new taken.stage taken.text taken.count) }
 {
     let wanted = span.size.min(span.limit - span.from);
     let (text, count) = records.take(alloc, wanted)?;

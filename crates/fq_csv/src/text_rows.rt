@@ -1,6 +1,6 @@
 //! The rows that the records of a text are.
 ghost use Rattle.std.specs.Prelude.{◌≡◌, ◌<◌, ◌≤◌, All, IfNone, IfOk, IfSome, Ok, [], length};
-ghost use Rattle.csv.specs.Reading.{default_config, records, strip_bom};
+ghost use Rattle.csv.specs.Reading.{default_config, records};
 ghost use Rattle.csv.specs.Records.{fields_of};
 ghost use Rattle.fq_column.specs.Column.{Cells};
 ghost use Rattle.fq_column.specs.Frame.{Row};
@@ -9,7 +9,8 @@ ghost use Rattle.fq_csv.specs.TextRows.{HoldsRowsOf, IsNoRow};
 
 use crate::field_cells::push_field;
 use crate::layouts::NullValues;
-use crate::readers::{RecordReader, next_record};
+use crate::pieces::Pieces;
+use crate::readers::{next_record, read_text};
 use csv::ByteRecord;
 use fq_column::{Column, MAX_COLUMNS, Memory, cut_columns};
 use std::alloc::Global;
@@ -61,17 +62,16 @@ fn push_record(
 pub(crate) fn push_records(
     alloc: Global,
     columns: &mut [Column],
-    text: &[u8],
+    text: Pieces,
     count: u32,
     nulls: &NullValues,
 ) -> Result<Option<(u32, NoRow)>, Memory>
     requires few { length columns.old ≤ MAX_COLUMNS }
     requires empty { Holds (kinds_in columns.old) columns.old [] }
-    requires unmarked { strip_bom text.now ≡ text.now }
-    requires count { length (records default_config text.now) ≡ count }
-    ensures { IfOk result (λ bad. HoldsRowsOf nulls.now (kinds_in columns.old) (records default_config text.now) columns.new bad) }
+    requires count { length (records default_config text) ≡ count }
+    ensures { IfOk result (λ bad. HoldsRowsOf nulls.now (kinds_in columns.old) (records default_config text) columns.new bad) }
 {
-    let mut reader = RecordReader::new(alloc, text);
+    let mut reader = read_text(alloc, text)?;
     let mut fields = ByteRecord::new(alloc);
     for row in 0..count {
         if !next_record(&mut reader, &mut fields)? {

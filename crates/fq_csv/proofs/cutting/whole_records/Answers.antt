@@ -11,9 +11,8 @@ loop-count-preserved c =
     let next = c.in-At.next in
     let ends : EndsBy text c.loop-count.end (At next) = c.in-At.ensures in
     record {
-      low = omega (arith, inv.low, ends.0);
       high = ends.1;
       rs = inv.rs ++ ends.2 ∷ [];
       count = length-append inv.rs (ends.2 ∷ []) ∙ ap (λ n. n + 1) inv.count;
-      whole = more-records text c.args.from c.loop-count.end next inv.rs (ends.2 ∷ []) inv.low (omega (arith, ends.0)) inv.whole ends.3;
+      whole = more-records text c.loop-count.end next inv.rs (ends.2 ∷ []) (omega (arith, ends.0)) inv.whole ends.3;
     }

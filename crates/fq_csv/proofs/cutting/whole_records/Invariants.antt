@@ -1,13 +1,12 @@
-use Rattle.std.specs.Prelude.{◌≡◌, ◌≤◌, List, length}
-use Rattle.fq_csv.specs.Cutting.{AreRecords, between}
+use Rattle.std.specs.Prelude.{◌≡◌, ◌≤◌, List, length, take}
+use Rattle.fq_csv.specs.Cutting.{AreRecords}
 use Rattle.fq_csv.specs.File.{Record}
 use Rattle.fq_csv.proofs.cutting.whole_records.Given as goal
 
 abbrev pub invariant-loop-count : goal.invariant-loop-count
 invariant-loop-count l = record {
-  low : l.from ≤ l.end;
   high : l.end ≤ length l.text;
   rs : List Record;
   count : length rs ≡ l.count;
-  whole : AreRecords (between l.text l.from l.end) rs;
+  whole : AreRecords (take l.end l.text) rs;
 }

@@ -22,7 +22,7 @@ pub returns-clause-rows : goal.returns-clause-rows
 returns-clause-rows c =
     let schema = c.args.layout.now.schema in
     let kinds = kinds_of schema in
-    let rs = records default_config c.args.text.now in
+    let rs = records default_config c.args.text in
     let nulls = c.args.layout.now.nulls in
     let items = c.in_ok-columns.columns.items in
     let new = c.push_records.new.columns in

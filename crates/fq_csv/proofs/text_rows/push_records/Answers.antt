@@ -11,10 +11,10 @@ use Rattle.fq_csv.proofs.text_rows.push_records.Goals as goal
 
 pub loop-row-init : goal.loop-row-init
 loop-row-init c = record {
-  plain = c.new-reader.ensures.plain;
+  plain = c.in_ok-reader.ensures.plain;
   before = [];
-  rest = records default_config c.args.text.now;
-  left = rw c.requires.unmarked at (c.new-reader.ensures.left c.args.text.now refl);
+  rest = records default_config c.args.text;
+  left = c.in_ok-reader.ensures.left;
   split = refl;
   number = refl;
   rows = record { rows = []; number = refl; held = c.requires.empty; stream = λ file before limit layout nulls kinds room. refl };
@@ -24,7 +24,7 @@ pub unreachable-requires : goal.unreachable-requires
 unreachable-requires c =
     let inv = c.loop-row.invariant in
     let none : inv.rest ≡ [] = rw c.if-not-branch.true at (c.in_ok-next_record.ensures.reads inv.rest inv.left) in
-    let all : length (records default_config c.args.text.now) ≡ length inv.before + length inv.rest = ap length inv.split ∙ length-append inv.before inv.rest in
+    let all : length (records default_config c.args.text) ≡ length inv.before + length inv.rest = ap length inv.split ∙ length-append inv.before inv.rest in
     omega (arith, all, ap length none, inv.number, c.requires.count, c.loop-row-test.true)
 
 pub returns-in-Some : goal.returns-in-Some
@@ -34,8 +34,8 @@ returns-in-Some c =
     let step : (rest : List Record) × (inv.rest ≡ fs ∷ rest) × TextHasLeft c.next_record.new.reader rest = rw c.if-not-branch.false at (c.in_ok-next_record.ensures.reads inv.rest inv.left) in
     let bad = rw c.in-Some.is at c.in_ok-why.ensures.none in
     let kinds = kinds_in c.args.columns.now in
-    subst (λ (cs : List Cells). HoldsRowsOf c.args.nulls.now kinds (records default_config c.args.text.now) cs (Some (c.loop-row.row, c.in-Some.why))) (sym bad.1)
-    (HasRows-bad c.args.nulls.now kinds (records default_config c.args.text.now) inv.before step.0 c.loop-row.columns fs c.loop-row.row c.in-Some.why
+    subst (λ (cs : List Cells). HoldsRowsOf c.args.nulls.now kinds (records default_config c.args.text) cs (Some (c.loop-row.row, c.in-Some.why))) (sym bad.1)
+    (HasRows-bad c.args.nulls.now kinds (records default_config c.args.text) inv.before step.0 c.loop-row.columns fs c.loop-row.row c.in-Some.why
     (inv.split ∙ ap (λ rs. inv.before ++ rs) step.1) inv.number inv.rows bad.0)
 
 pub loop-row-preserved : goal.loop-row-preserved
@@ -59,5 +59,5 @@ loop-row-preserved c =
 pub returns : goal.returns
 returns c =
     let inv = c.loop-row.invariant in
-    HasRows-all c.args.nulls.now (kinds_in c.args.columns.now) (records default_config c.args.text.now) inv.before inv.rest c.loop-row.columns inv.split
+    HasRows-all c.args.nulls.now (kinds_in c.args.columns.now) (records default_config c.args.text) inv.before inv.rest c.loop-row.columns inv.split
     (omega (arith, inv.number, c.loop-row-test.false, c.loop-row.auto.row-end, c.requires.count)) inv.rows

@@ -12,7 +12,7 @@ invariant-loop-row l = record {
   before : List Record;
   rest : List Record;
   left : TextHasLeft l.reader rest;
-  split : records default_config l.text ≡ before ++ rest;
+  split : records default_config l.fn.text ≡ before ++ rest;
   number : length before ≡ l.row;
   rows : HasRows l.nulls (kinds_in l.fn.columns) before l.columns;
 }

@@ -1,9 +1,8 @@
-use Rattle.std.proofs.Common.{◌≡◌, List, ap, arith, length, subst}
+use Rattle.std.proofs.Common.{List, arith, subst}
 use Rattle.csv.specs.Reading.{default_config, records}
 use Rattle.fq_column.specs.Frame.{kinds_of}
 use Rattle.fq_csv.specs.File.{Record}
 use Rattle.fq_csv.specs.Taking.{FieldRun, ReadsRun}
-use Rattle.fq_csv.specs.TextRows.{HoldsRowsOf}
 use Rattle.fq_csv.proofs.CellLemmas.{place-in, reads-run}
 use Rattle.fq_csv.proofs.HeldRowLemmas.{one-length}
 use Rattle.fq_csv.specs.declared.scanners.TheConstants.{MAX_ROWS}
@@ -18,17 +17,13 @@ new-batch-requires-clause-lengths c =
     one-length (kinds_of c.self.inside.layout.schema) c.in_ok-columns.columns.items held.rows c.in_ok-columns.ensures.some held.held
 
 pub fault_of-requires : goal.fault_of-requires
-fault_of-requires c =
-    let same : records default_config c.as_slice.result.now ≡ records default_config c.self.inside.text.items = ap (records default_config) c.as_slice.ensures.value in
-    place-in c.self.inside.before MAX_ROWS c.in_ok-columns.bad c.in_ok-columns.ensures.rows (omega (arith, ap length same, c.self.invariant.1, c.self.invariant.2))
+fault_of-requires c = place-in c.self.inside.before MAX_ROWS c.in_ok-columns.bad c.in_ok-columns.ensures.rows (omega (arith, c.self.invariant.0, c.self.invariant.1))
 
 pub returns : goal.returns
 returns c =
     let inside = c.self.inside in
-    let rs : List Record = records default_config inside.text.items in
+    let rs : List Record = records default_config inside.text in
     let run : FieldRun = record { file = inside.file; layout = inside.layout; before = inside.before; records = rs } in
-    let rows : HoldsRowsOf inside.layout.nulls (kinds_of inside.layout.schema) rs c.in_ok-columns.columns.items c.in_ok-columns.bad =
-    subst (λ (xs : List Record). HoldsRowsOf inside.layout.nulls (kinds_of inside.layout.schema) xs c.in_ok-columns.columns.items c.in_ok-columns.bad) (ap (records default_config) c.as_slice.ensures.value) c.in_ok-columns.ensures.rows in
     subst (λ (r : FieldRun). ReadsRun r c.new-batch.result c.fault_of.result) c.self.view_is
-    (reads-run run c.in_ok-columns.columns.items c.in_ok-columns.bad c.new-batch.result c.fault_of.result rows c.in_ok-columns.ensures.some c.new-batch.ensures c.fault_of.ensures.fault c.fault_of.ensures.cause
-    (omega (arith, c.self.invariant.1, c.self.invariant.2)))
+    (reads-run run c.in_ok-columns.columns.items c.in_ok-columns.bad c.new-batch.result c.fault_of.result c.in_ok-columns.ensures.rows c.in_ok-columns.ensures.some c.new-batch.ensures c.fault_of.ensures.fault c.fault_of.ensures.cause
+    (omega (arith, c.self.invariant.0, c.self.invariant.1)))
