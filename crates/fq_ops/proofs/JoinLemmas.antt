@@ -1,8 +1,8 @@
 -- A join by places is the join.
-use Rattle.std.proofs.Common.{◌≡◌, ℕ, suc, ◌+◌, ◌-◌, ◌<◌, Bool, true, false, List, [], ◌∷◌, ◌++◌, map, filter, length, append-nil, get_or, nat_le, Option, Some, None, is_some, refl, sym, ap, ◌∙◌, cond, if◌then◌else◌, arith, length-append, append_assoc}
+use Rattle.std.proofs.Common.{◌≡◌, ℕ, suc, ◌+◌, ◌-◌, ◌<◌, Bool, true, false, List, [], ◌∷◌, ◌++◌, map, filter, drop, length, append-nil, get_or, nat_le, Option, Some, None, is_some, refl, sym, ap, ◌∙◌, cond, if◌then◌else◌, arith, length-append, append_assoc}
 use Rattle.std.specs.Option.{option_map}
 use Rattle.std.specs.List.{range_with_len}
-use Rattle.std.proofs.lemmas.List.{map-append, length-map}
+use Rattle.std.proofs.lemmas.List.{drop-map, get_or-drop, length-drop, length-map, map-append}
 use Rattle.std.proofs.lemmas.List.FromFn.{fill_by_all}
 use Rattle.fq_column.specs.Frame.{Fields, Name, Row}
 use Rattle.fq_column.specs.Lists.{numbers}
@@ -10,7 +10,9 @@ use Rattle.fq_column.specs.Stream.{Stream, done, faulted, then_stream, rename_fa
 use Rattle.fq_ops.specs.Join.{within_room, join_rows, joined, pairs, rows_match, right_values}
 use Rattle.fq_ops.specs.declared.joins.How.{How}
 use Rattle.fq_ops.specs.declared.joins.How.TheVariants.{Inner, Left, Semi, Anti}
-use Rattle.fq_ops.specs.Pairs.{Pair, pairs_of, pairs_within, matches_of, pair_row, named_key, join_pairs}
+use Rattle.fq_ops.specs.Pairs.{Pair, pairs_of, pairs_within, matches_of, pair_row, named_key}
+use Rattle.fq_ops.specs.Probing.{pairs_from}
+use Rattle.fq_ops.specs.declared.probes.Cursor.{Cursor}
 
 map-filter : {X Y : Type 0} (f : X → Y) (p : Y → Bool) (xs : List X) → filter p (map f xs) ≡ map f (filter (λ x. p (f x)) xs)
 map-filter f p [] = refl
@@ -43,7 +45,7 @@ module _ (left right : Fields) (on : List Name) (rows ls : List Row) where
   pairs-by_place Anti l (m ∷ ms) = refl
 
   -- the output of the left row at a place
-  output-by_place : (how : How) (nulls_equal : Bool) (l : ℕ) → joined left right on how nulls_equal rows (get_or ls l []) ≡ map (pair_row how left right on rows ls) (pairs_of how l (matches_of nulls_equal (named_key right on rows) (length rows) (named_key left on ls l)))
+  pub output-by_place : (how : How) (nulls_equal : Bool) (l : ℕ) → joined left right on how nulls_equal rows (get_or ls l []) ≡ map (pair_row how left right on rows ls) (pairs_of how l (matches_of nulls_equal (named_key right on rows) (length rows) (named_key left on ls l)))
   output-by_place how nulls_equal l = ap (pairs left right on how (get_or ls l [])) (filter-places (rows_match left right on nulls_equal (get_or ls l [])) rows [])
       ∙ pairs-by_place how l (matches_of nulls_equal (named_key right on rows) (length rows) (named_key left on ls l))
 
@@ -99,17 +101,20 @@ module _ (f : Pair → Row) (out : Row → List Row) (output : ℕ → List Pair
                 ∙ sym (ap (λ c. (chosen low (U m) c).1) e),
           )
 
-pub join-by_place : (how : How) (nulls_equal : Bool) (left right : Fields) (on : List Name) (rows : List Row) (room : ℕ) (ls : List Row) →
-    let u = join_pairs how nulls_equal left right on rows room ls in join_rows how nulls_equal left right on rows room ls ≡ record { rows = map (pair_row how left right on rows ls) u.0; fault = u.1 }
-join-by_place how nulls_equal left right on rows room ls =
+-- what a part of a join, which begins at a left place, gives by places
+pub left-by_place : (how : How) (nulls_equal : Bool) (left right : Fields) (on : List Name) (rows ls : List Row) (c : Cursor) →
+    let u = pairs_from (λ l. pairs_of how l (matches_of nulls_equal (named_key right on rows) (length rows) (named_key left on ls l))) (length ls) c in
+    let v = join_rows how nulls_equal left right on rows c.room (drop c.row ls) in
+    (drop c.given v.rows ≡ map (pair_row how left right on rows ls) u.0) × (option_map (λ i. c.row + i) v.fault ≡ u.1)
+left-by_place how nulls_equal left right on rows ls c =
     let output : ℕ → List Pair = λ l. pairs_of how l (matches_of nulls_equal (named_key right on rows) (length rows) (named_key left on ls l)) in
-    let t = within-by_place (pair_row how left right on rows ls) (joined left right on how nulls_equal rows) output room 0 ls
-    (λ j low. output-by_place left right on rows ls how nulls_equal j ∙ ap (λ v. map (pair_row how left right on rows ls) (output v)) (let e : j ≡ 0 + j = omega arith in e)) in
-    λ i. record { rows = t.0 i; fault = (same (join_rows how nulls_equal left right on rows room ls).fault ∙ t.1) i }
-  where
-    same : (o : Option ℕ) → o ≡ option_map (λ x. 0 + x) o
-    same None = refl
-    same (Some x) = ap Some (let e : x ≡ 0 + x = omega arith in e)
+    let f = pair_row how left right on rows ls in
+    let t = within-by_place f (joined left right on how nulls_equal rows) output c.room c.row (drop c.row ls)
+    (λ j low. ap (joined left right on how nulls_equal rows) (get_or-drop c.row ls j []) ∙ output-by_place left right on rows ls how nulls_equal (c.row + j)) in
+    let same = ap (λ n. pairs_within output c.room (range_with_len c.row n)) (length-drop c.row ls) in (
+      ap (drop c.given) (t.0 ∙ ap (λ (w : List Pair × Option ℕ). map f w.0) same) ∙ drop-map f c.given (pairs_within output c.room (range_with_len c.row (length ls - c.row))).0,
+      t.1 ∙ ap (λ (w : List Pair × Option ℕ). w.1) same,
+    )
 
 -- ---- a join of left rows in two parts
 

@@ -11,9 +11,11 @@ pub mod KeySetLemmas
 pub mod MarkedRowLemmas
 pub mod AggregateLemmas
 pub mod PairLemmas
+pub mod PartLemmas
 pub mod PickLemmas
 pub mod PlaceLemmas
 pub mod ProbeLemmas
+pub mod ProbingLemmas
 pub mod RefusalLemmas
 pub mod RollLemmas
 pub mod RunningLemmas

@@ -1,5 +1,5 @@
 -- The columns that are gathered for the pairs of a join make the join's rows.
-use Rattle.std.proofs.Common.{◌≡◌, ℕ, zero, suc, ◌+◌, ◌-◌, ◌<◌, ◌≤◌, Bool, true, false, not, cond, List, [], ◌∷◌, ◌++◌, map, filter, length, zip, replicate, Option, Some, None, refl, sym, ap, subst, ◌∙◌, arith, if◌then◌else◌, get_or, nat_le, length-append}
+use Rattle.std.proofs.Common.{◌≡◌, ℕ, zero, suc, ◌+◌, ◌-◌, ◌<◌, ◌≤◌, Bool, true, false, not, cond, List, [], ◌∷◌, ◌++◌, map, filter, drop, length, zip, replicate, Option, Some, None, refl, sym, ap, subst, ◌∙◌, arith, if◌then◌else◌, get_or, nat_le, length-append}
 use Rattle.std.specs.List.{range_with_len}
 use Rattle.std.specs.Option.{option_map_or}
 use Rattle.std.specs.Cmp.Lexicographic.{pointwise}
@@ -12,8 +12,10 @@ use Rattle.fq_column.specs.Lists.{numbers}
 use Rattle.fq_ops.specs.declared.joins.How.{How}
 use Rattle.fq_ops.specs.declared.joins.How.TheVariants.{Inner, Left, Semi, Anti}
 use Rattle.fq_ops.specs.Join.{joined_fields, keys_match, renamed, right_name, right_values, taken}
-use Rattle.fq_ops.specs.Pairs.{Pair, pairs_of, pairs_within, matches_of, pair_row, named_key, join_pairs, join_picks, left_value, right_value}
+use Rattle.fq_ops.specs.Pairs.{Pair, pairs_of, pairs_within, matches_of, pair_row, named_key, join_picks, left_value, right_value}
 use Rattle.fq_ops.specs.Picks.{Pick, row_of, picks_from}
+use Rattle.fq_ops.specs.Probing.{pairs_from}
+use Rattle.fq_ops.specs.declared.probes.Cursor.{Cursor}
 use Rattle.fq_ops.proofs.PickLemmas.{cell-transposed, kinds, kinds-picked, nulls-picked, row-picked}
 use Rattle.fq_ops.proofs.RefusalLemmas.{map-map}
 use Rattle.fq_ops.proofs.ZipLemmas.{map-zip_second}
@@ -29,6 +31,15 @@ module _ {X : Type 0} where
   AllIn-append P [] ys a b = b
   AllIn-append P (x ∷ xs) ys a b = (a.0, AllIn-append P xs ys a.1 b)
 
+  AllIn-first : (P : X → Type 0) (xs ys : List X) → AllIn P (xs ++ ys) → AllIn P xs
+  AllIn-first P [] ys a = tt
+  AllIn-first P (x ∷ xs) ys a = (a.0, AllIn-first P xs ys a.1)
+
+  AllIn-drop : (P : X → Type 0) (n : ℕ) (xs : List X) → AllIn P xs → AllIn P (drop n xs)
+  AllIn-drop P zero xs a = a
+  AllIn-drop P (suc n) [] a = tt
+  AllIn-drop P (suc n) (x ∷ xs) a = AllIn-drop P n xs a.1
+
   pub AllIn-filter : (P : X → Type 0) (p : X → Bool) (xs : List X) → AllIn P xs → AllIn P (filter p xs)
   AllIn-filter P p [] a = tt
   AllIn-filter P p (x ∷ xs) a = by (p x) refl (AllIn-filter P p xs a.1)
@@ -41,9 +52,9 @@ module _ {X : Type 0} where
   map-in P f g same [] a = refl
   map-in P f g same (x ∷ xs) a = λ i. same x a.0 i ∷ map-in P f g same xs a.1 i
 
-AllIn-range : (n a k : ℕ) → a + k ≤ n → AllIn (λ i. i < n) (range_with_len a k)
+AllIn-range : (n a k : ℕ) → (0 < k → a + k ≤ n) → AllIn (λ i. i < n) (range_with_len a k)
 AllIn-range n a zero h = tt
-AllIn-range n a (suc k) h = (omega (arith, h), AllIn-range n (a + 1) k (omega (arith, h)))
+AllIn-range n a (suc k) h = let low : a + suc k ≤ n = h (omega arith) in (omega (arith, low), AllIn-range n (a + 1) k (λ _. omega (arith, low)))
 
 pub AllIn-map : {X Y : Type 0} (P : Y → Type 0) (Q : X → Type 0) (f : X → Y) → ((x : X) → Q x → P (f x)) → (xs : List X) → AllIn Q xs → AllIn P (map f xs)
 AllIn-map P Q f g [] a = tt
@@ -77,12 +88,17 @@ module _ (ls rows : ℕ) where
       by true e tail = let rest = pairs_within output (room - length (output l)) xs in subst (λ b. let u : List Pair × Option ℕ = (if b then (output l ++ rest.0, rest.1) else ([], Some l)) in AllIn (ArePlaces ls rows) u.0) (sym e) (AllIn-append (ArePlaces ls rows) (output l) rest.0 (each l a.0) tail)
       by false e tail = let rest = pairs_within output (room - length (output l)) xs in subst (λ b. let u : List Pair × Option ℕ = (if b then (output l ++ rest.0, rest.1) else ([], Some l)) in AllIn (ArePlaces ls rows) u.0) (sym e) tt
 
-pub pairs-inside : (how : How) (nulls_equal : Bool) (left right : Fields) (on : List Name) (rows : List Row) (room : ℕ) (ls : List Row) → AllIn (ArePlaces (length ls) (length rows)) (join_pairs how nulls_equal left right on rows room ls).0
-pairs-inside how nulls_equal left right on rows room ls =
-    of-all (length ls) (length rows) (λ l. pairs_of how l (matches_of nulls_equal (named_key right on rows) (length rows) (named_key left on ls l)))
+-- so do those of a part of a join, which begins at a left place
+pub part-inside : (how : How) (nulls_equal : Bool) (left right : Fields) (on : List Name) (rows ls : List Row) (from : Cursor) (ps more : List Pair) →
+    (pairs_from (λ l. pairs_of how l (matches_of nulls_equal (named_key right on rows) (length rows) (named_key left on ls l))) (length ls) from).0 ≡ ps ++ more → AllIn (ArePlaces (length ls) (length rows)) ps
+part-inside how nulls_equal left right on rows ls from ps more e =
+    AllIn-first (ArePlaces (length ls) (length rows)) ps more
+    (subst (AllIn (ArePlaces (length ls) (length rows))) e
+    (AllIn-drop (ArePlaces (length ls) (length rows)) from.given _
+    (of-all (length ls) (length rows) (λ l. pairs_of how l (matches_of nulls_equal (named_key right on rows) (length rows) (named_key left on ls l)))
     (λ l low. of-one (length ls) (length rows) how l (matches_of nulls_equal (named_key right on rows) (length rows) (named_key left on ls l)) low
-    (AllIn-filter (λ m. m < length rows) (λ n. keys_match nulls_equal (named_key left on ls l) (named_key right on rows n)) (numbers (length rows)) (AllIn-range (length rows) 0 (length rows) (omega arith))))
-    room (numbers (length ls)) (AllIn-range (length ls) 0 (length ls) (omega arith))
+    (AllIn-filter (λ m. m < length rows) (λ n. keys_match nulls_equal (named_key left on ls l) (named_key right on rows n)) (numbers (length rows)) (AllIn-range (length rows) 0 (length rows) (λ _. omega arith))))
+    from.room (range_with_len from.row (length ls - from.row)) (AllIn-range (length ls) from.row (length ls - from.row) (λ some. omega (arith, some))))))
 
 -- ---- rows of a frame have a value for each field
 

@@ -13,6 +13,7 @@ pub mod AggregateData
 pub mod Pairs
 pub mod Picks
 pub mod PlainJoin
+pub mod Probing
 pub mod Roll
 pub mod Running
 pub mod Sums

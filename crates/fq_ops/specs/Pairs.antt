@@ -61,11 +61,6 @@ pair_row how left right on rows ls p =
 abbrev pub named_key : Fields → List Name → List Row → ℕ → List Cell
 named_key fields on rows n = map (λ m. value_named fields m (slice_index_or rows n [])) on
 
--- a join by places
-abbrev pub join_pairs : How → Bool → Fields → Fields → List Name → List Row → ℕ → List Row → List Pair × Option ℕ
-join_pairs how nulls_equal left right on rows room ls =
-    pairs_within (λ l. pairs_of how l (matches_of nulls_equal (named_key right on rows) (length rows) (named_key left on ls l))) room (numbers (length ls))
-
 -- marks of rows: true for those at these places, which rise
 pub record AreMarks (marks : List Bool) (places : List ℕ) : Type 0 where
   pub kept : (rows : List Row) → length marks ≤ length rows → keep marks rows ≡ map (λ p. slice_index_or rows p []) places

@@ -1,8 +1,8 @@
 //! Joins of left batches with one right batch.
-ghost use Rattle.std.specs.Prelude.{◌≡◌, ◌≤◌, ◌<◌, ◌+◌, ◌-◌, ◌++◌, ℕ, Bool, true, false, not, List, [], ◌∷◌, All, map, length, get_or, string_bytes, slice_index_or, Some, None, IfOk, IsOk, OnOk};
+ghost use Rattle.std.specs.Prelude.{◌≡◌, ◌≤◌, ◌<◌, ◌+◌, ◌-◌, ◌++◌, ℕ, Bool, true, false, not, List, [], ◌∷◌, All, map, take, drop, length, get_or, string_bytes, slice_index_or, Some, None, IfOk, IsOk, OnOk};
 ghost use Rattle.std.specs.List.{position_or_len};
 ghost use Rattle.indexmap.specs.IndexSet.{insert_key};
-ghost use Rattle.fq_column.specs.Frame.{Fields, IsFrame, Name, Row, has_name};
+ghost use Rattle.fq_column.specs.Frame.{Fields, Frame, IsFrame, Name, Row, has_name};
 ghost use Rattle.fq_column.specs.Lists.{keep as kept, numbers};
 ghost use Rattle.fq_column.specs.declared.cells.Cell.{Cell as Value};
 ghost use Rattle.fq_column.specs.Stream.{then_stream, rename_fault};
@@ -12,12 +12,14 @@ ghost use Rattle.fq_ops.specs.Join.{AreKeys, join_schema as judged_join, joined_
 ghost use Rattle.fq_ops.specs.KeySets.{IsWholeAt};
 ghost use Rattle.fq_ops.specs.PlainJoin.{plain_fields, plain_how, plain_join};
 ghost use Rattle.fq_ops.specs.Picks.{Pick, columns_of, picks_from};
-ghost use Rattle.fq_ops.specs.Pairs.{IsIndex, Pair, can_match, join_picks, left_value, matches_of, pairs_of, pairs_within, right_value};
+ghost use Rattle.fq_ops.specs.Pairs.{IsIndex, Pair, can_match, join_picks, left_value, matches_of, pairs_of, right_value};
+ghost use Rattle.fq_ops.specs.Probing.{GivesPart, GoesOn, IsCursor, IsProbeOf};
 
 use crate::field_lists::positions;
 use crate::key_sets::{KeySet, Mostly, RowKey, is_whole_key};
 use crate::output_schemas::{contains, join_schema};
 use crate::pairs::Pairs;
+use crate::probes::{Cursor, Next, Part, Probe, Rest};
 use fq_column::{Batch, Column, Memory, Piece, copy_strings};
 use smallvec::SmallVec;
 use std::alloc::Global;
@@ -167,7 +169,8 @@ impl JoinTable {
     }
 
     /// The rows that the left rows give in turn, each with its matches in the order of the right rows, as far as `room`
-    /// rows go. Stops before the first left row whose output would pass the room, and names it.
+    /// rows go. Stops before the first left row whose output would pass the room, and names it. `Memory` also where the rows are
+    /// more than `usize` counts; see [`JoinTable::probe_part`].
     ///
     /// One lookup for each left row; then whole columns are gathered. Where no left row gives two, the left values are moved.
     pub fn probe(&self, alloc: Global, left: Batch, how: How, room: u64) -> Result<Probed, Memory>
@@ -178,36 +181,58 @@ impl JoinTable {
         ensures fault { let u = join_rows how self.now.nulls_equal left.fields self.now.fields self.now.on self.now.rows room left.rows in
             IfOk result (λ p. p.fault ≡ u.fault) }
     {
+        let Part { batch, rest } = self.probe_part(alloc, Probe::new(left, how, room), usize::MAX)?;
+        match rest {
+            Rest::End(fault) => Ok(Piece { batch, fault }),
+            Rest::More(_) => Err(Memory),
+        }
+    }
+
+    /// The next rows that left rows give, at most so many, and what comes after them: the rest of the left rows, or the end.
+    ///
+    /// So the memory of an output is bounded, whatever the matches. One lookup for each left row, and one more for each part that
+    /// begins within the output of one.
+    pub fn probe_part(&self, alloc: Global, probe: Probe, most: usize) -> Result<Part, Memory>
+        requires { IsProbeOf self.now probe }
+        ensures fields { IfOk result (λ p. p.batch.fields ≡ joined_fields probe.how probe.left.fields self.now.fields self.now.on) }
+        ensures few { IfOk result (λ p. length p.batch.rows ≤ most) }
+        ensures rows { IfOk result (λ p. GivesPart self.now probe p.batch.rows p.rest) }
+    {
+        let Probe { left, how, from } = probe;
         let on = self.on.as_slice();
         let Ok(schema) = join_schema(alloc, left.schema(), self.right.schema(), on, how) else {
             return Err(Memory);
         };
         let places = positions(alloc, left.schema(), on)?;
         let places = places.as_slice();
-        let (pairs, fault) = pair_rows(alloc, &self.seen, &self.groups, places, &left, how, room)?;
-        let columns = gather(alloc, left, &self.right, on, how, &pairs)?;
-        Ok(Piece {
-            batch: Batch::new(schema, columns),
-            fault,
-        })
-    }
-}
-
-// The columns of pairs of rows: the left ones, then the right ones that the output takes.
-fn gather(
-    alloc: Global,
-    left: Batch,
-    right: &Batch,
-    on: &[String],
-    how: How,
-    pairs: &Pairs,
-) -> Result<Vec<Column>, Memory>
-    ensures { IfOk result (λ columns. columns.items ≡ columns_of (join_picks how left right.now (map string_bytes on.now)) pairs.now) }
-{
-    let columns = take_left(alloc, left, pairs)?;
-    match how {
-        How::Inner | How::Left => gather_right(alloc, right, on, pairs, columns),
-        How::Semi | How::Anti => Ok(columns),
+        let (pairs, next) = next_pairs(
+            alloc,
+            &self.seen,
+            &self.groups,
+            places,
+            &left,
+            how,
+            from,
+            most,
+        )?;
+        match next {
+            Next::At(from) => {
+                let columns = gather_left(alloc, &left, &pairs)?;
+                let columns = gather_taken(alloc, &self.right, on, how, &pairs, columns)?;
+                Ok(Part {
+                    batch: Batch::new(schema, columns),
+                    rest: Rest::More(Probe { left, how, from }),
+                })
+            }
+            Next::End(fault) => {
+                let columns = take_left(alloc, left, &pairs)?;
+                let columns = gather_taken(alloc, &self.right, on, how, &pairs, columns)?;
+                Ok(Part {
+                    batch: Batch::new(schema, columns),
+                    rest: Rest::End(fault),
+                })
+            }
+        }
     }
 }
 
@@ -243,6 +268,24 @@ fn gather_left(alloc: Global, left: &Batch, pairs: &Pairs) -> Result<Vec<Column>
         columns.push(left.column(i).gather(alloc, pairs.left())?)?;
     }
     Ok(columns)
+}
+
+// The right columns of pairs of rows that the output takes, after the left ones.
+fn gather_taken(
+    alloc: Global,
+    right: &Batch,
+    on: &[String],
+    how: How,
+    pairs: &Pairs,
+    left: Vec<Column>,
+) -> Result<Vec<Column>, Memory>
+    ensures { IfOk result (λ columns. (batch : Frame) → left.items ≡ columns_of (picks_from (λ _. true) (left_value batch.rows) 0 batch.fields) pairs.now →
+        columns.items ≡ columns_of (join_picks how batch right.now (map string_bytes on.now)) pairs.now) }
+{
+    match how {
+        How::Inner | How::Left => gather_right(alloc, right, on, pairs, left),
+        How::Semi | How::Anti => Ok(left),
+    }
 }
 
 // The right columns of pairs of rows that are not keys, after these columns.
@@ -353,20 +396,27 @@ fn count_pairs(how: How, left: usize, matches: &[usize]) -> usize
     }
 }
 
-// Appends the pairs of a left row.
-fn push_pairs(pairs: &mut Pairs, how: How, left: usize, matches: &[usize]) -> Result<(), Memory>
-    ensures { OnOk result (pairs.new ≡ pairs.old ++ pairs_of how left matches.now) }
+// Appends the pairs of a left row after the first few that were given, at most so many.
+fn push_pairs(
+    pairs: &mut Pairs,
+    how: How,
+    left: usize,
+    matches: &[usize],
+    given: usize,
+    most: usize,
+) -> Result<(), Memory>
+    ensures { OnOk result (pairs.new ≡ pairs.old ++ take most (drop given (pairs_of how left matches.now))) }
 {
-    if matches.is_empty() {
-        return match how {
-            How::Inner | How::Semi => Ok(()),
-            How::Left | How::Anti => pairs.push(left, None),
-        };
+    let count = count_pairs(how, left, matches);
+    let first = given.min(count);
+    let last = first + most.min(count - first);
+    if first == last {
+        return Ok(());
     }
     match how {
-        How::Inner | How::Left => push_matches(pairs, left, matches),
-        How::Semi => pairs.push(left, None),
-        How::Anti => Ok(()),
+        How::Inner | How::Left if matches.is_empty() => pairs.push(left, None),
+        How::Inner | How::Left => push_matches(pairs, left, &matches[first..last]),
+        How::Semi | How::Anti => pairs.push(left, None),
     }
 }
 
@@ -380,36 +430,49 @@ fn push_matches(pairs: &mut Pairs, left: usize, matches: &[usize]) -> Result<(),
     Ok(())
 }
 
-// The pairs of places of a join, up to the left row whose pairs would pass the room.
-fn pair_rows(
+// The next pairs of places of a join, at most so many, and where the left rows go on after them: up to the left row whose pairs
+// would pass the room.
+fn next_pairs(
     alloc: Global,
     seen: &KeySet,
     groups: &Vec<Places>,
     on: &[usize],
     left: &Batch,
     how: How,
-    room: u64,
-) -> Result<(Pairs, Option<usize>), Memory>
+    from: Cursor,
+    most: usize,
+) -> Result<(Pairs, Next), Memory>
     requires beside { length groups.now.items ≡ length seen.now.keys }
     requires some { 1 ≤ length on.now }
     requires places { All (λ p. p < length left.now.fields) on.now }
     requires whole { seen.now.is_whole ≡ true → IsWholeAt left.now.fields on.now }
     ensures frame { OnOk result (IsFrame left.now) }
+    ensures few { IfOk result (λ r. length r.0 ≤ most) }
     ensures pairs { IfOk result (λ r. (nulls_equal : Bool) (key_at_place : ℕ → List Value) (right_count : ℕ) → IsIndex nulls_equal key_at_place right_count seen.now.keys groups.now.items →
-        (r.0, r.1) ≡ pairs_within (λ l. pairs_of how l (matches_of nulls_equal key_at_place right_count (key_at on.now (slice_index_or left.now.rows l [])))) room (numbers (length left.now.rows))) }
+        let output = λ (l : ℕ). pairs_of how l (matches_of nulls_equal key_at_place right_count (key_at on.now (slice_index_or left.now.rows l []))) in
+        IsCursor output (length left.now.rows) from → GoesOn output (length left.now.rows) from r.0 r.1) }
 {
     let mut key = RowKey::nulls(alloc, seen.is_whole(), on.len())?;
-    let mut pairs = Pairs::with_capacity(alloc, left.rows())?;
-    let mut room_left = room;
-    for row in 0..left.rows() {
-        key.read(alloc, left, on, row)?;
+    let mut pairs = Pairs::with_capacity(alloc, left.rows().min(most))?;
+    let mut at = from;
+    while at.row < left.rows() {
+        key.read(alloc, left, on, at.row)?;
         let matches = places_of(seen, groups, &key);
-        let wanted = count_pairs(how, row, matches) as u64;
-        if wanted > room_left {
-            return Ok((pairs, Some(row)));
+        let wanted = count_pairs(how, at.row, matches);
+        if wanted as u64 > at.room {
+            return Ok((pairs, Next::End(Some(at.row))));
         }
-        push_pairs(&mut pairs, how, row, matches)?;
-        room_left -= wanted;
+        let space = most - pairs.len();
+        push_pairs(&mut pairs, how, at.row, matches, at.given, space)?;
+        if wanted.saturating_sub(at.given) > space {
+            at.given += space;
+            return Ok((pairs, Next::At(at)));
+        }
+        at = Cursor {
+            row: at.row + 1,
+            given: 0,
+            room: at.room - wanted as u64,
+        };
     }
-    Ok((pairs, None))
+    Ok((pairs, Next::End(None)))
 }

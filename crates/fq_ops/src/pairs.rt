@@ -34,6 +34,13 @@ impl Pairs {
         Ok(Pairs { left, right })
     }
 
+    /// How many pairs there are.
+    pub fn len(&self) -> usize
+        ensures { result ≡ length self.now }
+    {
+        self.left.len()
+    }
+
     /// Appends a pair.
     pub fn push(&mut self, left: usize, right: Option<usize>) -> Result<(), Memory>
         ensures { OnOk result (self.new ≡ self.old ++ (left, right) ∷ []) }
