@@ -1,5 +1,6 @@
 -- What the engine of a physical plan leaves its tail with.
 use Rattle.std.proofs.Common.{◌≡◌, ℕ, suc, ◌+◌, ◌-◌, ◌<◌, List, [], ◌∷◌, ◌++◌, length, flat_map, replicate, Option, refl, ap, sym, ◌∙◌, subst, arith}
+use Rattle.fq_column.specs.Frame.{Fields, Row}
 use Rattle.fq_column.specs.Stream.{Stream}
 use Rattle.fq_csv.specs.declared.faults.ScanFault.{ScanFault}
 use Rattle.fq_expr.specs.Front.{NumberedSteps}
@@ -17,7 +18,7 @@ use Rattle.fq_run.specs.Standing.{Waits}
 use Rattle.fq_run.specs.Working.{work_on}
 use Rattle.fq_run.specs.declared.file_feeds.Scanned.{Scanned}
 use Rattle.fq_run.specs.declared.gathering.Gathered.{Gathered}
-use Rattle.fq_run.specs.declared.run_tail.TailState.{TailState}
+use Rattle.fq_run.specs.TailState.{TailState}
 use Rattle.fq_csv.specs.declared.sources.SourceFiles.{SourceFiles}
 use Rattle.fq_run.specs.declared.stages.Stage.{Stage}
 use Rattle.fq_run.specs.declared.leading_steps.Worked.{Worked}
@@ -39,22 +40,22 @@ module _ (sources : List SourceFiles) (front : NumberedSteps) (stages : List Sta
   abbrev at_first : List Gathered
   at_first = before_main sources front stages inputs c sides main parts ++ main_one sources front stages inputs c sides main parts ∷ []
 
-  pub has-gathered : {R S : Type 0} (files_of : S → ℕ) (state_of : S → TailState) (remaining : R → Option (List ℕ)) (readers : List R) (b : ℕ) (feeds : List Feeding) (first last : S) (trace : List (ℕ × ℕ)) →
+  pub has-gathered : {R S : Type 0} (has : S → Fields → List Row → Type 0) (remaining : R → Option (List ℕ)) (readers : List R) (b : ℕ) (feeds : List Feeding) (first last : TailState S) (trace : List (ℕ × ℕ)) →
       0 < b → length readers ≡ files_wanted (plan sources front stages inputs c) →
       feeds ≡ opened remaining b 0 (flat_map (λ (s : SourceFiles). replicate s.files s.layout) sources) readers →
-      files_of first ≡ side_files (plan sources front stages inputs c) →
-      Waits stages (before_main sources front stages inputs c sides main parts) (main_one sources front stages inputs c sides main parts) (state_of first) →
-      Finishes MayCome (λ file item out. out ≡ work_on front (inputs - main.files) file item) (Takes-one files_of state_of) feeds first trace last →
-      HasGathered remaining readers (plan sources front stages inputs c) b (state_of last) trace
-  has-gathered files_of state_of remaining readers b feeds first last trace some count feeds-are files waits finished =
+      first.side_files ≡ side_files (plan sources front stages inputs c) →
+      Waits has stages c.fits.0 (before_main sources front stages inputs c sides main parts) (main_one sources front stages inputs c sides main parts) first →
+      Finishes MayCome (λ file item out. out ≡ work_on front (inputs - main.files) file item) (Takes-one has stages c.fits.0) feeds first trace last →
+      HasGathered has remaining readers (plan sources front stages inputs c) b last trace
+  has-gathered has remaining readers b feeds first last trace some count feeds-are files waits finished =
       let items : List (List Scanned) = finished.0 in
       let log : List (ℕ × ℕ × Worked) = finished.2.0 in
       let works : ℕ → Scanned → Worked → Type 0 = λ file item out. out ≡ work_on front (inputs - main.files) file item in
       let high : ℕ = side_files (plan sources front stages inputs c) + main.files in
       let file-count = files ∙ side-file-count sources front stages inputs c sides main parts in
-      let order : InOrder (files_of first) high log =
-      worked-order (files_of first) high works (numbered 0 items) log finished.2.1
-      (in-order (files_of first) high 0 items (omega (
+      let order : InOrder first.side_files high log =
+      worked-order first.side_files high works (numbered 0 items) log finished.2.1
+      (in-order first.side_files high 0 items (omega (
         arith,
         each-length MayCome feeds items finished.1,
         ap length feeds-are,
@@ -63,8 +64,8 @@ module _ (sources : List SourceFiles) (front : NumberedSteps) (stages : List Sta
         length-opened remaining b 0 (flat_map (λ (s : SourceFiles). replicate s.files s.layout) sources) readers,
       ))) in
       let taken : List Gathered = all_taken (answers_in log) at_first in
-      let stood : StandsFor stages c.fits.0 (state_of last) taken =
-      whole-log files_of state_of stages c.fits.0 high log first last (before_main sources front stages inputs c sides main parts) (main_one sources front stages inputs c sides main parts)
+      let stood : StandsFor has stages c.fits.0 last taken =
+      whole-log has stages c.fits.0 high log first last (before_main sources front stages inputs c sides main parts) (main_one sources front stages inputs c sides main parts)
       finished.2.2 order file-count (ap (λ n. n + main.files) (side-file-count sources front stages inputs c sides main parts)) (fit-over sources front stages inputs c sides main parts) waits in
       let took : Finishes MayCome works Takes feeds at_first trace taken = (items, finished.1, (log, finished.2.1, took-sources log at_first, finished.2.3)) in
       let gives : (files : List (List ℕ)) → Tell remaining readers files → Gives (plan sources front stages inputs c) b (file_streams (plan sources front stages inputs c) files) taken trace =

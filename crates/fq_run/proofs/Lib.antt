@@ -15,7 +15,6 @@ pub mod RunStartLemmas
 pub mod StageOutcomeLemmas
 pub mod PipelineLemmas
 pub mod OperatorLemmas
-pub mod PipelineStepLemmas
 pub mod TransformLemmas
 pub mod StageTransforms
 pub mod RightLemmas

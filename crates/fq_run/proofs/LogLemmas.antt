@@ -1,9 +1,9 @@
 -- The log of a run lists the files before those of the main source first, so the tail that takes it stands for the sources that take it.
-use Rattle.std.proofs.Common.{◌≡◌, ℕ, suc, ◌+◌, ◌-◌, ◌<◌, ◌≤◌, Bool, true, false, nat_lt, cond, List, [], ◌∷◌, ◌++◌, length, sum_by, refl, ap, sym, ◌∙◌, subst, arith, inl, inr}
+use Rattle.std.proofs.Common.{◌≡◌, ℕ, suc, ◌+◌, ◌-◌, ◌<◌, ◌≤◌, Bool, true, false, nat_lt, cond, List, [], ◌∷◌, ◌++◌, length, sum_by, Some, None, refl, ap, sym, ◌∙◌, subst, arith, inl, inr}
 use Rattle.std.specs.Prelude.{◌⊎◌}
 use Rattle.std.proofs.lemmas.Bool.Decides.{nat_tests}
 use Rattle.std.proofs.lemmas.List.Sums.{sum_by-cons}
-use Rattle.fq_column.specs.Frame.{Fields}
+use Rattle.fq_column.specs.Frame.{Fields, Row}
 use Rattle.fq_lanes.specs.Engine.{IsWorked}
 use Rattle.fq_lanes.specs.Beside.{Each}
 use Rattle.fq_lanes.specs.Numbering.{numbered, numbered_file}
@@ -13,8 +13,7 @@ use Rattle.fq_run.specs.Kept.{Takes}
 use Rattle.fq_run.specs.Stages.{Fit}
 use Rattle.fq_run.specs.Standing.{FitOver, Stands, TailTakes, Waits}
 use Rattle.fq_run.specs.declared.gathering.Gathered.{Gathered}
-use Rattle.fq_run.specs.declared.run_tail.TailState.{TailState}
-use Rattle.fq_run.specs.declared.run_tail.TailState.TheVariants as state
+use Rattle.fq_run.specs.TailState.{TailState}
 use Rattle.fq_run.specs.declared.stages.Stage.{Stage}
 use Rattle.fq_run.specs.declared.leading_steps.Worked.{Worked}
 use Rattle.fq_run.proofs.EngineLemmas.{answers_in}
@@ -113,50 +112,52 @@ pub took-sources : (log : List (ℕ × ℕ × Worked)) (gs : List Gathered) → 
 took-sources [] gs = refl
 took-sources (e ∷ es) gs = (taken_in e.0 e.2 gs, refl, took-sources es (taken_in e.0 e.2 gs))
 
--- a tail stands for these sources
-pub record StandsFor (stages : List Stage) (after : Fields) (t : TailState) (gs : List Gathered) : Type 0 where
-  pub sides : List Gathered
-  pub main : Gathered
-  pub sources : gs ≡ sides ++ main ∷ []
-  pub fits : FitOver stages after sides main
-  pub stands : Stands stages after sides main t
+-- below, `has` says which rows a tail's sink has taken
+module _ {S : Type 0} (has : S → Fields → List Row → Type 0) (stages : List Stage) (after : Fields) where
+  -- a tail stands for these sources
+  pub record StandsFor (t : TailState S) (gs : List Gathered) : Type 0 where
+    pub sides : List Gathered
+    pub main : Gathered
+    pub sources : gs ≡ sides ++ main ∷ []
+    pub fits : FitOver stages after sides main
+    pub stands : Stands has stages after sides main t
 
-pub waits-stands : (stages : List Stage) (after : Fields) (sides : List Gathered) (main : Gathered) (t : TailState) → Waits stages sides main t → Stands stages after sides main t
-waits-stands stages after sides main (state.Waiting w) h = h
-waits-stands stages after sides main (state.Streaming s) h = absurd h
-waits-stands stages after sides main (state.Ended f) h = absurd h
+  waits-stands : (sides : List Gathered) (main : Gathered) (t : TailState S) → Waits has stages after sides main t → Stands has stages after sides main t
+  waits-stands sides main t h = record {
+    settled = λ f e. absurd (let z : None ≡ Some f = sym h.going ∙ e in cc);
+    waiting = λ _ _. h.is;
+    streaming = λ p e. absurd (let z : None ≡ Some p = sym h.closed ∙ e in cc);
+  }
 
--- below, a tail has a number of files before the main source's, and a state
-abbrev pub Takes-one : {S : Type 0} → (S → ℕ) → (S → TailState) → S → ℕ → ℕ → Worked → S → Type 0
-Takes-one files_of state_of old file serial out new = TailTakes (files_of old) (state_of old) file out (files_of new) (state_of new)
+  abbrev pub Takes-one : TailState S → ℕ → ℕ → Worked → TailState S → Type 0
+  Takes-one old file serial out new = TailTakes has old file out new
 
-module _ {S : Type 0} (files_of : S → ℕ) (state_of : S → TailState) (stages : List Stage) (after : Fields) where
-  main-log : (high : ℕ) (log : List (ℕ × ℕ × Worked)) (t u : S) (sides : List Gathered) (main : Gathered) → Took (Takes-one files_of state_of) t log u → AllFrom (files_of t) high log →
-      files_of t ≡ file_count sides → high ≡ file_count sides + main.files → FitOver stages after sides main → Stands stages after sides main (state_of t) →
-      StandsFor stages after (state_of u) (all_taken (answers_in log) (sides ++ main ∷ []))
+  main-log : (high : ℕ) (log : List (ℕ × ℕ × Worked)) (t u : TailState S) (sides : List Gathered) (main : Gathered) → Took Takes-one t log u → AllFrom t.side_files high log →
+      t.side_files ≡ file_count sides → high ≡ file_count sides + main.files → FitOver stages after sides main → Stands has stages after sides main t →
+      StandsFor u (all_taken (answers_in log) (sides ++ main ∷ []))
   main-log high [] t u sides main took all low top leads stands = record {
     sides = sides;
     main = main;
     sources = refl;
     fits = leads;
-    stands = subst (λ (t : S). Stands stages after sides main (state_of t)) (sym took) stands;
+    stands = subst (λ (t : TailState S). Stands has stages after sides main t) (sym took) stands;
   }
   main-log high (e ∷ es) t u sides main took all low top leads stands =
-      let next : S = took.0 in
-      let one : Takes-one files_of state_of t e.0 e.1 e.2 next = took.1 in
-      subst (λ (gs : List Gathered). StandsFor stages after (state_of u) (all_taken (answers_in es) gs)) (sym (taken-last e.0 e.2 sides main (subst (λ k. k ≤ e.0) low all.0) (subst (λ k. e.0 < k) top all.1)))
+      let next : TailState S = took.0 in
+      let one : Takes-one t e.0 e.1 e.2 next = took.1 in
+      subst (λ (gs : List Gathered). StandsFor u (all_taken (answers_in es) gs)) (sym (taken-last e.0 e.2 sides main (subst (λ k. k ≤ e.0) low all.0) (subst (λ k. e.0 < k) top all.1)))
       (main-log high es next u sides (gathered main e.2) took.2 (subst (λ k. AllFrom k high es) (sym one.same) all.2) (one.same ∙ low) top leads
       (one.on_main all.0 stages after sides main leads stands))
 
-  pub whole-log : (high : ℕ) (log : List (ℕ × ℕ × Worked)) (t u : S) (sides : List Gathered) (main : Gathered) → Took (Takes-one files_of state_of) t log u → InOrder (files_of t) high log →
-      files_of t ≡ file_count sides → high ≡ file_count sides + main.files → FitOver stages after sides main → Waits stages sides main (state_of t) →
-      StandsFor stages after (state_of u) (all_taken (answers_in log) (sides ++ main ∷ []))
-  whole-log high [] t u sides main took order low top leads waits = main-log high [] t u sides main took tt low top leads (waits-stands stages after sides main (state_of t) waits)
-  whole-log high (e ∷ es) t u sides main took (inr all) low top leads waits = main-log high (e ∷ es) t u sides main took all low top leads (waits-stands stages after sides main (state_of t) waits)
+  pub whole-log : (high : ℕ) (log : List (ℕ × ℕ × Worked)) (t u : TailState S) (sides : List Gathered) (main : Gathered) → Took Takes-one t log u → InOrder t.side_files high log →
+      t.side_files ≡ file_count sides → high ≡ file_count sides + main.files → FitOver stages after sides main → Waits has stages after sides main t →
+      StandsFor u (all_taken (answers_in log) (sides ++ main ∷ []))
+  whole-log high [] t u sides main took order low top leads waits = main-log high [] t u sides main took tt low top leads (waits-stands sides main t waits)
+  whole-log high (e ∷ es) t u sides main took (inr all) low top leads waits = main-log high (e ∷ es) t u sides main took all low top leads (waits-stands sides main t waits)
   whole-log high (e ∷ es) t u sides main took (inl both) low top leads waits =
-      let next : S = took.0 in
-      let one : Takes-one files_of state_of t e.0 e.1 e.2 next = took.1 in
+      let next : TailState S = took.0 in
+      let one : Takes-one t e.0 e.1 e.2 next = took.1 in
       let count : file_count (taken_in e.0 e.2 sides) ≡ file_count sides = count-taken e.0 e.2 sides in
-      subst (λ (gs : List Gathered). StandsFor stages after (state_of u) (all_taken (answers_in es) gs)) (sym (taken-before e.0 e.2 sides main (subst (λ k. e.0 < k) low both.0)))
+      subst (λ (gs : List Gathered). StandsFor u (all_taken (answers_in es) gs)) (sym (taken-before e.0 e.2 sides main (subst (λ k. e.0 < k) low both.0)))
       (whole-log high es next u (taken_in e.0 e.2 sides) main took.2 (subst (λ k. InOrder k high es) (sym one.same) both.1) (one.same ∙ low ∙ sym count) (top ∙ ap (λ k. k + main.files) (sym count))
-      (subst (λ (fs : List Fields). Fit fs main.batch.fields stages after) (sym (columns-taken e.0 e.2 sides)) leads) (one.before_main both.0 stages sides main waits))
+      (subst (λ (fs : List Fields). Fit fs main.batch.fields stages after) (sym (columns-taken e.0 e.2 sides)) leads) (one.before_main both.0 stages after sides main waits))

@@ -1,5 +1,5 @@
 -- What one running operator makes of one more batch.
-use Rattle.std.proofs.Common.{◌≡◌, ℕ, ◌+◌, ◌-◌, ◌≤◌, nat_le, Bool, true, false, List, [], ◌∷◌, ◌++◌, map, length, take, drop, zip, Option, Some, None, is_some, IsOk, Result, length-drop, length-take-le, refl, ap, sym, ◌∙◌, arith, subst, length-append, pos}
+use Rattle.std.proofs.Common.{◌≡◌, ℕ, ◌+◌, ◌-◌, ◌≤◌, nat_le, Bool, true, false, List, [], ◌∷◌, ◌++◌, map, length, take, drop, zip, Option, Some, None, is_some, IsOk, Result, length-drop, length-take-le, refl, ap, sym, ◌∙◌, arith, subst, length-append, append-nil, append_assoc, inl, pos}
 use Rattle.std.specs.Prelude.{option_map}
 use Rattle.std.specs.Option.{option_or}
 use Rattle.std.proofs.lemmas.List.{length-map, map-append}
@@ -14,15 +14,21 @@ use Rattle.fq_expr.specs.Steps.{apply_steps, fields_after_all}
 use Rattle.fq_expr.specs.declared.fronts.RowFault.{RowFault}
 use Rattle.fq_column.proofs.StreamLemmas.{one_by_one-append}
 use Rattle.fq_expr.proofs.StepLemmas.{apply_steps-then, rename_fault-then}
-use Rattle.fq_ops.specs.Join.{join_rows, joined, joined_fields, within_room}
+use Rattle.fq_ops.specs.Join.{join_rows, join_schema, joined, joined_fields, within_room}
+use Rattle.fq_ops.specs.Probing.{GivesPart, rows_left}
+use Rattle.fq_ops.specs.declared.probes.Probe.{Probe}
+use Rattle.fq_ops.specs.declared.probes.Rest.{Rest}
+use Rattle.fq_ops.specs.declared.probes.Rest.TheVariants.{End, More}
 use Rattle.fq_ops.specs.Roll.{roll_rows, roll_schema, rolled, rolled_at, with_sum}
 use Rattle.fq_ops.specs.Taken.{HasTakenCells, Window}
 use Rattle.fq_ops.specs.declared.joins.How.{How}
 use Rattle.fq_ops.proofs.JoinLemmas.{within-parts}
 use Rattle.fq_ops.proofs.RollLemmas.{rolled-append, rolled-added}
 use Rattle.fq_run.specs.declared.operators.joining.TheConstants.{MAX_JOINED_ROWS}
-use Rattle.fq_run.specs.Transforms.{Transform, roll_transform, steps_transform}
-use Rattle.fq_run.specs.RunningOperators.{HasJoined, HasSummed, IsNext}
+use Rattle.fq_run.specs.Transforms.{Transform, join_transform, roll_transform, steps_transform}
+use Rattle.fq_run.specs.RunningOperators.{HasSummed, HasTaken, IsGiving, IsJoining, IsNext, Makes}
+use Rattle.fq_run.specs.declared.operators.Running.{Running}
+use Rattle.fq_run.specs.declared.operators.Running.TheVariants.{Group, Join, Roll, Rows}
 use Rattle.fq_run.specs.Sources.{row_fault}
 use Rattle.fq_run.specs.declared.faults.Fault.{Fault}
 use Rattle.fq_run.specs.declared.faults.Fault.TheVariants.{JoinRows, Overflow, RollRange}
@@ -69,59 +75,150 @@ within-bound out room (l ∷ ls) = go (nat_le (length (out l)) room) refl (withi
 pub join-bound : (how : How) (nulls_equal : Bool) (left right : Fields) (on : List Name) (rows : List Row) (room : ℕ) (ls : List Row) → length (join_rows how nulls_equal left right on rows room ls).rows ≤ room
 join-bound how nulls_equal left right on rows room ls = within-bound (joined left right on how nulls_equal rows) room ls
 
--- the rows after one more batch
-pub rows-after : (m : Transform) (rows more : List Row) (p : Stream Fault) → (m.at_once rows).fault ≡ None → then_stream (m.at_once rows) p ≡ m.at_once (rows ++ more) →
-    (m.at_once (rows ++ more)).rows ≡ (m.at_once rows).rows ++ p.rows
-rows-after m rows more p unended next =
-    ap (λ (a : Stream Fault). a.rows) (sym next)
-    ∙ ap (λ (o : Option Fault). (then_stream (stream (m.at_once rows).rows o) p).rows) unended
-
-module _ (j : Joining) (m : Transform) (rows : List Row) (batch : Frame) (h : HasJoined j m rows) (same : m.takes ≡ batch.fields) (unended : (m.at_once rows).fault ≡ None) where
+module _ (j : Joining) (m : Transform) (rows : List Row) (batch : Frame) (is : m ≡ join_transform j.number j.how j.table m.takes) where
   abbrev joins : ℕ → List Row → Stream ℕ
   joins room ls = join_rows j.how j.table.nulls_equal m.takes j.table.fields j.table.on j.table.rows room ls
 
   abbrev full : ℕ → Fault
   full _ = JoinRows j.number
 
-  room-left : j.room ≡ MAX_JOINED_ROWS - length (joins MAX_JOINED_ROWS rows).rows
-  room-left = h.room ∙ ap (λ (m : Transform). MAX_JOINED_ROWS - length (m.at_once rows).rows) h.transform
+  -- the room that the rows before have left
+  abbrev room : ℕ
+  room = MAX_JOINED_ROWS - length (m.at_once rows).rows
 
   constant : (n : ℕ) (o : Option ℕ) → option_map full (option_map (λ p. n + p) o) ≡ option_map full o
   constant n None = refl
   constant n (Some p) = refl
 
-  joined-on : joins MAX_JOINED_ROWS (rows ++ batch.rows) ≡ then_stream (joins MAX_JOINED_ROWS rows) (rename_fault (λ p. length rows + p) (joins j.room batch.rows))
+  joined-on : joins MAX_JOINED_ROWS (rows ++ batch.rows) ≡ then_stream (joins MAX_JOINED_ROWS rows) (rename_fault (λ p. length rows + p) (joins room batch.rows))
   joined-on =
       within-parts (joined m.takes j.table.fields j.table.on j.how j.table.nulls_equal j.table.rows) MAX_JOINED_ROWS rows batch.rows
-      ∙ ap (λ n. then_stream (joins MAX_JOINED_ROWS rows) (rename_fault (λ p. length rows + p) (joins n batch.rows))) (sym room-left)
+      ∙ ap (λ n. then_stream (joins MAX_JOINED_ROWS rows) (rename_fault (λ p. length rows + p) (joins n batch.rows))) (sym (ap (λ (m : Transform). MAX_JOINED_ROWS - length (m.at_once rows).rows) is))
 
-  join-next : (p : Stream Fault) → p ≡ rename_fault full (joins j.room batch.rows) → then_stream (m.at_once rows) p ≡ m.at_once (rows ++ batch.rows)
-  join-next p e =
-      (λ i. then_stream ((h.transform i).at_once rows) (e i))
-      ∙ (λ i. then_stream (rename_fault full (joins MAX_JOINED_ROWS rows)) (stream (joins j.room batch.rows).rows (sym (constant (length rows) (joins j.room batch.rows).fault) i)))
-      ∙ sym (rename_fault-then full (joins MAX_JOINED_ROWS rows) (rename_fault (λ p. length rows + p) (joins j.room batch.rows)))
+  -- a join of one more batch
+  pub join-on : then_stream (m.at_once rows) (rename_fault full (joins room batch.rows)) ≡ m.at_once (rows ++ batch.rows)
+  join-on =
+      (λ i. then_stream ((is i).at_once rows) (rename_fault full (joins room batch.rows)))
+      ∙ (λ i. then_stream (rename_fault full (joins MAX_JOINED_ROWS rows)) (stream (joins room batch.rows).rows (sym (constant (length rows) (joins room batch.rows).fault) i)))
+      ∙ sym (rename_fault-then full (joins MAX_JOINED_ROWS rows) (rename_fault (λ p. length rows + p) (joins room batch.rows)))
       ∙ ap (rename_fault full) (sym joined-on)
-      ∙ (λ i. (sym h.transform i).at_once (rows ++ batch.rows))
+      ∙ (λ i. (sym is i).at_once (rows ++ batch.rows))
 
-  pub joined-next : (made : Frame) (fault : Option ℕ) (end : Option Fault) (left : ℕ) → end ≡ option_map full fault → left ≡ j.room - length made.rows →
-      made.fields ≡ joined_fields j.how batch.fields j.table.fields j.table.on →
-      made.rows ≡ (join_rows j.how j.table.nulls_equal batch.fields j.table.fields j.table.on j.table.rows j.room batch.rows).rows →
-      fault ≡ (join_rows j.how j.table.nulls_equal batch.fields j.table.fields j.table.on j.table.rows j.room batch.rows).fault →
-      IsNext m rows batch (HasJoined (record j { room = left })) (record { batch = Some made; fault = end })
-  joined-next made fault end left e l columns r f =
-      let p : Stream Fault = stream made.rows end in
-      let is : p ≡ rename_fault full (joins j.room batch.rows) =
-      (λ i. stream ((r ∙ ap (λ fs. (join_rows j.how j.table.nulls_equal fs j.table.fields j.table.on j.table.rows j.room batch.rows).rows) (sym same)) i)
-      ((e ∙ ap (option_map full) (f ∙ ap (λ fs. (join_rows j.how j.table.nulls_equal fs j.table.fields j.table.on j.table.rows j.room batch.rows).fault) (sym same))) i)) in
-      let next = join-next p is in record {
-        columns = columns ∙ ap (λ fs. joined_fields j.how fs j.table.fields j.table.on) (sym same) ∙ ap (λ (m : Transform). m.gives) (sym h.transform);
-        next = next;
-        kept = λ none. record {
-          transform = h.transform;
-          accepted = h.accepted;
-          room = omega (arith, l, h.room, ap length (rows-after m rows batch.rows p unended next), length-append (m.at_once rows).rows made.rows);
+-- ---- a join in parts
+
+module _ (j : Joining) (m : Transform) (rows : List Row) (batch : Frame) (given : List Row) (probe : Probe) (g : IsJoining j m rows batch given probe) where
+  -- what the batch gives: what was given, and the rest
+  parts : join_rows j.how j.table.nulls_equal m.takes j.table.fields j.table.on j.table.rows (MAX_JOINED_ROWS - length (m.at_once rows).rows) batch.rows ≡ then_stream (done given) (rows_left j.table probe)
+  parts = ap (λ fs. join_rows j.how j.table.nulls_equal fs j.table.fields j.table.on j.table.rows (MAX_JOINED_ROWS - length (m.at_once rows).rows) batch.rows) g.fields ∙ g.rest
+
+  on-parts : m.at_once (rows ++ batch.rows) ≡ then_stream (m.at_once rows) (then_stream (done given) (rename_fault (λ _. JoinRows j.number) (rows_left j.table probe)))
+  on-parts = sym (join-on j m rows batch g.transform) ∙ ap (λ (u : Stream ℕ). then_stream (m.at_once rows) (rename_fault (λ _. JoinRows j.number) u)) parts
+
+  joining-begins : (w : Stream Fault) × (m.at_once (rows ++ batch.rows) ≡ then_stream (m.at_once rows) (then_stream (done given) w))
+  joining-begins = (rename_fault (λ _. JoinRows j.number) (rows_left j.table probe), on-parts)
+
+  -- the next part finds room
+  pub part-fits : (part more : List Row) → (rows_left j.table probe).rows ≡ part ++ more → length part ≤ j.room
+  part-fits part more e =
+      let all = (join_rows j.how j.table.nulls_equal m.takes j.table.fields j.table.on j.table.rows (MAX_JOINED_ROWS - length (m.at_once rows).rows) batch.rows).rows in
+      omega (
+        arith,
+        join-bound j.how j.table.nulls_equal m.takes j.table.fields j.table.on j.table.rows (MAX_JOINED_ROWS - length (m.at_once rows).rows) batch.rows,
+        ap (λ (u : Stream ℕ). length u.rows) parts,
+        length-append given (rows_left j.table probe).rows,
+        ap length e,
+        length-append part more,
+        g.room,
+      )
+
+  pub any-fits : (part : List Row) (rest : Rest) → GivesPart j.table probe part rest → length part ≤ j.room
+  any-fits part (More next) gives = part-fits part (rows_left j.table next).rows gives.3
+  any-fits part (End end) gives = part-fits part [] (ap (λ (u : Stream ℕ). u.rows) gives ∙ sym (append-nil part))
+
+  abbrev left-over : List Row → Joining
+  left-over part = record j { room = j.room - length part }
+
+  columns-of : (part : Frame) → part.fields ≡ joined_fields probe.how probe.left.fields j.table.fields j.table.on → part.fields ≡ m.gives
+  columns-of part e =
+      e
+      ∙ (λ i. joined_fields (g.left.1 i) ((g.left.0 i).fields) j.table.fields j.table.on)
+      ∙ ap (λ fs. joined_fields j.how fs j.table.fields j.table.on) (sym g.fields)
+      ∙ ap (λ (m : Transform). m.gives) (sym g.transform)
+
+  -- a part, and others after it
+  pub part-more : (part : Frame) (next : Probe) → part.fields ≡ joined_fields probe.how probe.left.fields j.table.fields j.table.on → GivesPart j.table probe part.rows (More next) →
+      Makes (Join (left-over part.rows)) m rows batch given (record { passed = record { batch = Some part; fault = None }; rest = Some next })
+  part-more part next columns gives = record {
+    columns = columns-of part columns;
+    last = λ e. absurd (cc);
+    goes_on = λ q e.
+        let same : next ≡ q = cc in (
+          refl,
+          subst (λ (q : Probe). IsJoining (left-over part.rows) m rows batch (given ++ part.rows) q) same (record {
+            causal = g.causal;
+            faultless = g.faultless;
+            fields = g.fields;
+            transform = g.transform;
+            accepted = g.accepted;
+            left = (gives.0 ∙ g.left.0, gives.1 ∙ g.left.1);
+            probes = gives.2;
+            room = omega (arith, g.room, length-append given part.rows);
+            rest = g.rest ∙ (λ i. then_stream (done given) (record { rows = gives.3 i; fault = gives.4 i })) ∙ (λ i. record { rows = sym (append_assoc given part.rows (rows_left j.table next).rows) i; fault = (rows_left j.table next).fault });
+          }),
+        );
+  }
+
+  -- the last part
+  pub part-last : (part : Frame) (end : Option ℕ) (fault : Option Fault) → part.fields ≡ joined_fields probe.how probe.left.fields j.table.fields j.table.on → GivesPart j.table probe part.rows (End end) →
+      fault ≡ option_map (λ _. JoinRows j.number) end → Makes (Join (left-over part.rows)) m rows batch given (record { passed = record { batch = Some part; fault = fault }; rest = None })
+  part-last part end fault columns gives named = record {
+    columns = columns-of part columns;
+    last = λ _. (
+      sym all,
+      λ none. record {
+        causal = g.causal;
+        faultless = ap (λ (u : Stream Fault). u.fault) whole-is ∙ none;
+        keeps = record {
+          transform = g.transform;
+          accepted = g.accepted;
+          room = omega (arith, g.room, ap (λ (u : Stream Fault). length u.rows) whole-is, length-append (m.at_once rows).rows (given ++ part.rows), length-append given part.rows);
         };
-      }
+      },
+    );
+    goes_on = λ q e. absurd (cc);
+  }
+    where
+      all : m.at_once (rows ++ batch.rows) ≡ then_stream (m.at_once rows) (then_stream (done given) (stream part.rows fault))
+      all = on-parts ∙ ap (λ (u : Stream ℕ). then_stream (m.at_once rows) (then_stream (done given) (rename_fault (λ _. JoinRows j.number) u))) gives ∙ (λ i. then_stream (m.at_once rows) (then_stream (done given) (stream part.rows (sym named i))))
+
+      whole-is : m.at_once (rows ++ batch.rows) ≡ stream ((m.at_once rows).rows ++ (given ++ part.rows)) fault
+      whole-is = all ∙ ap (λ (o : Option Fault). then_stream (stream (m.at_once rows).rows o) (stream (given ++ part.rows) fault)) g.faultless
+
+pub join-begins : (r : Running) (m : Transform) (rows : List Row) (batch : Frame) (given : List Row) (probe : Probe) → IsGiving r m rows batch given probe →
+    (w : Stream Fault) × (m.at_once (rows ++ batch.rows) ≡ then_stream (m.at_once rows) (then_stream (done given) w))
+join-begins (Rows front) m rows batch given probe g = absurd g
+join-begins (Join j) m rows batch given probe g = joining-begins j m rows batch given probe g
+join-begins (Roll s) m rows batch given probe g = absurd g
+join-begins (Group x) m rows batch given probe g = absurd g
+
+-- before the first part
+pub giving-start : (j : Joining) (m : Transform) (rows : List Row) (batch : Frame) (probe : Probe) → HasTaken (Join j) m rows → m.takes ≡ batch.fields →
+    (probe.left ≡ batch) × (probe.how ≡ j.how) × (probe.from.given ≡ 0) →
+    rows_left j.table probe ≡ join_rows j.how j.table.nulls_equal batch.fields j.table.fields j.table.on j.table.rows j.room batch.rows → IsJoining j m rows batch [] probe
+giving-start j m rows batch probe t same parts all = record {
+  causal = t.causal;
+  faultless = t.faultless;
+  fields = same;
+  transform = t.keeps.transform;
+  accepted = t.keeps.accepted;
+  left = (parts.0, parts.1);
+  probes = (
+    subst (λ (b : Fields × How). IsOk (join_schema b.1 b.0 j.table.fields j.table.on)) (λ i. ((same ∙ ap (λ (f : Frame). f.fields) (sym parts.0)) i, sym parts.1 i)) t.keeps.accepted,
+    inl parts.2,
+  );
+  room = omega (arith, t.keeps.room);
+  rest = ap (λ n. join_rows j.how j.table.nulls_equal batch.fields j.table.fields j.table.on j.table.rows n batch.rows) (sym t.keeps.room) ∙ sym all;
+}
 
 -- ---- rolling sums
 

@@ -1,5 +1,6 @@
 -- What the stages make of what a run gathered is a frame or a fault of a run, and the stages fit what it starts from.
-use Rattle.std.proofs.Common.{◌≡◌, ℕ, List, [], ◌∷◌, ◌++◌, map, Option, Some, None, Result, Ok, Err, sym, subst}
+use Rattle.std.proofs.Common.{◌≡◌, ◌∙◌, ◌-◌, ℕ, suc, List, [], ◌∷◌, ◌++◌, ap, arith, get_or, length, map, Option, Some, None, Result, Ok, Err, sym, subst}
+use Rattle.std.proofs.lemmas.List.{get_or_default}
 use Rattle.std.specs.Prelude.{IfErr}
 use Rattle.fq_column.specs.Frame.{Fields, Frame}
 use Rattle.fq_column.specs.Stream.{Stream}
@@ -11,7 +12,7 @@ use Rattle.fq_run.specs.Kept.{IsSound, AreSound}
 use Rattle.fq_run.specs.Outcome.{columns_after, frame_or_fault, outcome, outcome_of_stages}
 use Rattle.fq_run.specs.Physical.{Physical, front_fields, side_fields}
 use Rattle.fq_run.specs.Run.{IsRunFault}
-use Rattle.fq_csv.specs.Sources.{Source, but_last}
+use Rattle.fq_csv.specs.Sources.{Source, but_last, last_or}
 use Rattle.fq_run.specs.Sources.{first_fault}
 use Rattle.fq_run.specs.Stages.{Fit, IsRunnable}
 use Rattle.fq_run.specs.Standing.{FitOver}
@@ -74,3 +75,15 @@ module _ (sources : List SourceFiles) (front : NumberedSteps) (stages : List Sta
   fit-over =
       subst (λ (fs : List Fields). Fit fs main_one.batch.fields stages c.fits.0) (sym (side-columns sources front stages inputs c sides main parts))
       (subst (λ (f : Fields). Fit (side_fields (plan sources front stages inputs c)) (fields_after_all f front.steps) stages c.fits.0) (sym c.on_main) c.fits.1)
+
+last-more : (x y z : Fields) (zs : List Fields) → last_or x (y ∷ z ∷ zs) ≡ last_or y (z ∷ zs)
+last-more x y z zs =
+    let longer : length (y ∷ z ∷ zs) - 1 ≡ suc (length zs) = omega arith in
+    let shorter : length zs ≡ length (z ∷ zs) - 1 = omega arith in
+    ap (λ n. get_or (y ∷ z ∷ zs) n x) longer ∙ get_or_default (z ∷ zs) (length zs) x y (omega arith) ∙ ap (λ n. get_or (z ∷ zs) n y) shorter
+
+-- stages take a frame to the columns of the last of them
+pub fit-last : (sides : List Fields) (fields : Fields) (stages : List Stage) (after : Fields) → Fit sides fields stages after → last_or fields (map (λ (s : Stage). s.after) stages) ≡ after
+fit-last sides fields [] after fits = fits
+fit-last sides fields (s ∷ []) after fits = fits.1
+fit-last sides fields (s ∷ t ∷ stages) after fits = last-more fields s.after t.after (map (λ (s : Stage). s.after) stages) ∙ fit-last sides s.after (t ∷ stages) after fits.1

@@ -14,10 +14,8 @@ pub mod EngineRun
 pub mod RunningOperators
 pub mod Pipelines
 pub mod Later
-pub mod Streaming
-pub mod WaitingSources
 pub mod PrintedText
 pub mod Printing
+pub mod TailState
 pub mod Standing
-pub mod GoingOn
 pub mod GatheredRun

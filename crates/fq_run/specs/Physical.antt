@@ -43,6 +43,10 @@ main_fields p = last_or [] (map (λ s. s.fields) p.sources)
 abbrev pub front_fields : Physical → Fields
 front_fields p = fields_after_all (main_fields p) p.front
 
+-- the columns of the frame
+abbrev pub last_columns : Physical → Fields
+last_columns p = last_or (front_fields p) (map (λ s. s.after) p.stages)
+
 -- the leading steps, which are numbered from 0, on a stream
 abbrev pub after_leading : Physical → Stream Fault → Stream Fault
 after_leading p u = apply_steps Overflow 0 (main_fields p) p.front u

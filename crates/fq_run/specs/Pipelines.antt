@@ -1,12 +1,11 @@
--- What a pipeline has taken and passed on, by the transforms that its operators are.
-use Rattle.std.specs.Prelude.{◌≡◌, List, ◌++◌, Some, None}
+-- What a pipeline has taken and handed on, by the transforms that its operators are.
+use Rattle.std.specs.Prelude.{◌≡◌, List, ◌++◌, Some}
 use Rattle.fq_column.specs.Frame.{Fields, Row}
 use Rattle.fq_column.specs.Stream.{Stream, done, then_stream}
 use Rattle.fq_run.specs.Transforms.{Chain, Transform, given_all, whole_all}
-use Rattle.fq_run.specs.RunningOperators.{HaveTaken, IsUnder, passed_stream, rows_in}
+use Rattle.fq_run.specs.RunningOperators.{HaveTaken}
 use Rattle.fq_run.specs.declared.faults.Fault.{Fault}
 use Rattle.fq_run.specs.declared.operators.Running.{Running}
-use Rattle.fq_run.specs.declared.passed.Passed.{Passed}
 
 -- transforms in a row, on rows with these columns, which they take to those
 pub record Transforming : Type 0 where
@@ -14,21 +13,19 @@ pub record Transforming : Type 0 where
   pub transforms : List Transform
   pub after : Fields
 
--- operators that run as these have taken these rows, and passed on those
+-- operators that run as these have taken these rows, and handed on those
 pub record HasRun (operators : List Running) (w : Transforming) (rows out : List Row) : Type 0 where
   pub taken : HaveTaken operators w.transforms rows
   pub chain : Chain w.before w.transforms w.after
   pub given : given_all w.transforms (done rows) ≡ done out
 
--- this piece came in, and this was passed on: the operators have taken it, or, if a fault was passed on, what was passed
--- on is what they make of all streams that begin so
-pub record HasPushed (operators : List Running) (w : Transforming) (rows out : List Row) (input p : Passed) : Type 0 where
-  pub columns : IsUnder w.after p.batch
-  pub goes_on : p.fault ≡ None → (input.fault ≡ None) × HasRun operators w (rows ++ rows_in input.batch) (out ++ rows_in p.batch)
-  pub settled : (f : Fault) → p.fault ≡ Some f → (rest : Stream Fault) →
-      then_stream (done out) (passed_stream p) ≡ whole_all w.transforms (then_stream (then_stream (done rows) (passed_stream input)) rest)
+-- operators that had taken rows have taken some more, and handed on what they make of these at once
+pub record HandsOn {S : Type 0} (has : S → Fields → List Row → Type 0) (operators : List Running) (ms : List Transform) (rows : List Row) (after : Fields) (taken : List Row) (old new : S) : Type 0 where
+  pub more : List Row
+  pub have : HaveTaken operators ms (rows ++ taken)
+  pub given : given_all ms (done (rows ++ taken)) ≡ then_stream (given_all ms (done rows)) (done more)
+  pub sink : (out : List Row) → has old after out → has new after (out ++ more)
 
--- no more came in, and this was passed on
-pub record HasFinished (w : Transforming) (rows out : List Row) (p : Passed) : Type 0 where
-  pub columns : IsUnder w.after p.batch
-  pub all : then_stream (done out) (passed_stream p) ≡ whole_all w.transforms (done rows)
+-- after these rows, a stream comes to this fault, whatever comes after it
+abbrev pub EndsIn : List Transform → List Row → Stream Fault → Fault → Type 0
+EndsIn ms rows input f = (rest : Stream Fault) → (whole_all ms (then_stream (then_stream (done rows) input) rest)).fault ≡ Some f

@@ -1,9 +1,7 @@
 -- Text that is printed piece by piece.
-use Rattle.std.specs.Prelude.{◌≡◌, ◌⊎◌, ℕ, List, flat_map, Result, Ok, Err}
+use Rattle.std.specs.Prelude.{ℕ, List, flat_map}
 use Rattle.fq_column.specs.Frame.{Frame}
-use Rattle.fq_csv.specs.Printed.{printed, printed_rows}
-use Rattle.fq_run.specs.declared.faults.Fault.{Fault}
-use Rattle.fq_run.specs.declared.faults.Fault.TheVariants.{Memory}
+use Rattle.fq_csv.specs.Printed.{printed_rows}
 use Rattle.fq_run.specs.declared.printed_text.PrintedText.{PrintedText}
 
 abbrev pub text_of : PrintedText → List ℕ
@@ -12,8 +10,3 @@ text_of t = flat_map (λ piece. piece.items) t.pieces.items
 -- the text of the rows of batches
 abbrev pub rows_text : List Frame → List ℕ
 rows_text batches = flat_map (λ b. printed_rows b.rows) batches
-
--- what an outcome comes to: its frame's text, its fault, or `Memory`
-abbrev pub Prints : Result Frame Fault → Result PrintedText Fault → Type 0
-Prints outcome (Ok text) = (frame : Frame) × (outcome ≡ Ok frame) × (text_of text ≡ printed frame)
-Prints outcome (Err f) = (f ≡ Memory) ⊎ (outcome ≡ Err f)

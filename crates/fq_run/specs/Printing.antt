@@ -11,5 +11,5 @@ part_text (Text t) = text_of t
 part_text (Thread thread) = rows_text thread.promise.batches.value.items
 
 -- the text of all rows: of those that are printed, of each part, and of those that are gathered
-abbrev pub whole_text : Printing → List ℕ
+abbrev pub whole_text : {T : Type 0} → Printing T → List ℕ
 whole_text p = text_of p.text ++ (flat_map part_text p.parts.items ++ rows_text p.batches.items)

@@ -1,15 +1,18 @@
 -- What running operators have taken and no longer hold.
-use Rattle.std.specs.Prelude.{◌≡◌, ◌-◌, length, map, IsOk, List, [], ◌∷◌, ◌++◌, Option, Some, None, pos}
+use Rattle.std.specs.Prelude.{◌≡◌, ◌+◌, ◌-◌, length, map, IsOk, List, [], ◌∷◌, ◌++◌, Option, Some, None, pos}
 use Rattle.fq_column.specs.Frame.{Fields, Frame, Name, Row, names_of, position_of, value_named}
 use Rattle.fq_column.specs.Stream.{Stream, done, then_stream}
 use Rattle.fq_ops.specs.Aggregate.{Output}
 use Rattle.fq_ops.specs.Gathered.{Gathered, HasTakenRows}
-use Rattle.fq_ops.specs.Join.{join_schema}
+use Rattle.fq_ops.specs.Join.{join_rows, join_schema}
+use Rattle.fq_ops.specs.Probing.{IsProbeOf, rows_left}
+use Rattle.fq_ops.specs.declared.probes.Probe.{Probe}
 use Rattle.fq_ops.specs.Roll.{roll_schema}
 use Rattle.fq_ops.specs.Taken.{HasTakenCells}
 use Rattle.fq_run.specs.declared.operators.joining.TheConstants.{MAX_JOINED_ROWS}
-use Rattle.fq_run.specs.Transforms.{Transform, IsCausal, Chain, given, given_all, whole, whole_all, steps_transform, join_transform, roll_transform, group_transform}
+use Rattle.fq_run.specs.Transforms.{Transform, IsCausal, steps_transform, join_transform, roll_transform, group_transform}
 use Rattle.fq_run.specs.declared.faults.Fault.{Fault}
+use Rattle.fq_run.specs.declared.operators.Made.{Made}
 use Rattle.fq_run.specs.declared.operators.Running.{Running}
 use Rattle.fq_run.specs.declared.operators.Running.TheVariants.{Rows, Join, Roll, Group}
 use Rattle.fq_run.specs.declared.operators.joining.Joining.{Joining}
@@ -78,17 +81,41 @@ pub record IsNext (m : Transform) (rows : List Row) (batch : Frame) (Kept : Tran
 abbrev pub Takes : (Transform → List Row → Type 0) → (Transform → List Row → Type 0) → Frame → Passed → Type 0
 Takes Kept Keeps batch p = (m : Transform) (rows : List Row) → m.takes ≡ batch.fields → (m.at_once rows).fault ≡ None → Kept m rows → IsNext m rows batch Keeps p
 
--- what an operator makes of its input
-pub record HasPassed (r : Running) (m : Transform) (rows : List Row) (input p : Passed) : Type 0 where
-  pub columns : IsUnder m.gives p.batch
-  pub next : then_stream (given m (done rows)) (passed_stream p) ≡ given m (then_stream (done rows) (passed_stream input))
-  pub kept : p.fault ≡ None → HasTaken r m (rows ++ rows_in input.batch)
-  pub unended : p.fault ≡ None → input.fault ≡ None
+-- a join that has taken rows gives, part by part, what it makes of one more batch: it has given these rows of that, and goes on by this probe
+pub record IsJoining (joining : Joining) (m : Transform) (rows : List Row) (batch : Frame) (given : List Row) (probe : Probe) : Type 0 where
+  pub causal : IsCausal m
+  pub faultless : (m.at_once rows).fault ≡ None
+  pub fields : m.takes ≡ batch.fields
+  pub transform : m ≡ join_transform joining.number joining.how joining.table m.takes
+  pub accepted : IsOk (join_schema joining.how m.takes joining.table.fields joining.table.on)
+  pub left : (probe.left ≡ batch) × (probe.how ≡ joining.how)
+  pub probes : IsProbeOf joining.table probe
+  pub room : joining.room ≡ MAX_JOINED_ROWS - (length (m.at_once rows).rows + length given)
+  pub rest : join_rows joining.how joining.table.nulls_equal batch.fields joining.table.fields joining.table.on joining.table.rows (MAX_JOINED_ROWS - length (m.at_once rows).rows) batch.rows
+      ≡ then_stream (done given) (rows_left joining.table probe)
+
+-- only a join goes on by a probe
+abbrev pub IsGiving : Running → Transform → List Row → Frame → List Row → Probe → Type 0
+IsGiving (Rows front) m rows batch given probe = ⊥
+IsGiving (Join j) m rows batch given probe = IsJoining j m rows batch given probe
+IsGiving (Roll s) m rows batch given probe = ⊥
+IsGiving (Group g) m rows batch given probe = ⊥
+
+-- the last of what an operator makes of one more batch, after these rows: it has taken the batch, unless a fault ends all
+abbrev pub IsLast : Running → Transform → List Row → Frame → List Row → Passed → Type 0
+IsLast r m rows batch given p = (then_stream (m.at_once rows) (then_stream (done given) (passed_stream p)) ≡ m.at_once (rows ++ batch.rows))
+    × (p.fault ≡ None → HasTaken r m (rows ++ batch.rows))
+
+-- a part of what an operator makes of one more batch, after these rows
+pub record Makes (r : Running) (m : Transform) (rows : List Row) (batch : Frame) (given : List Row) (p : Made) : Type 0 where
+  pub columns : IsUnder m.gives p.passed.batch
+  pub last : p.rest ≡ None → IsLast r m rows batch given p.passed
+  pub goes_on : (probe : Probe) → p.rest ≡ Some probe → (p.passed.fault ≡ None) × IsGiving r m rows batch (given ++ rows_in p.passed.batch) probe
 
 -- the last that it makes
-pub record HasEnded (m : Transform) (rows : List Row) (input p : Passed) : Type 0 where
+pub record HasEnded (m : Transform) (rows : List Row) (p : Passed) : Type 0 where
   pub columns : IsUnder m.gives p.batch
-  pub last : then_stream (given m (done rows)) (passed_stream p) ≡ whole m (then_stream (done rows) (passed_stream input))
+  pub last : then_stream (m.at_once rows) (passed_stream p) ≡ m.in_all rows
 
 -- ---- operators in a row
 
@@ -97,19 +124,3 @@ HaveTaken [] [] rows = Unit {0}
 HaveTaken [] (m ∷ ms) rows = ⊥
 HaveTaken (r ∷ rs) [] rows = ⊥
 HaveTaken (r ∷ rs) (m ∷ ms) rows = HasTaken r m rows × HaveTaken rs ms (m.at_once rows).rows
-
-pub record CanTake (rs : List Running) (ms : List Transform) (rows : List Row) (after : Fields) (input : Passed) : Type 0 where
-  pub before : Fields
-  pub taken : HaveTaken rs ms rows
-  pub chain : Chain before ms after
-  pub columns : IsUnder before input.batch
-
-pub record HavePassed (rs : List Running) (ms : List Transform) (rows : List Row) (after : Fields) (input p : Passed) : Type 0 where
-  pub columns : IsUnder after p.batch
-  pub next : then_stream (given_all ms (done rows)) (passed_stream p) ≡ given_all ms (then_stream (done rows) (passed_stream input))
-  pub kept : p.fault ≡ None → HaveTaken rs ms (rows ++ rows_in input.batch)
-  pub unended : p.fault ≡ None → input.fault ≡ None
-
-pub record HaveEnded (ms : List Transform) (rows : List Row) (after : Fields) (p : Passed) : Type 0 where
-  pub columns : IsUnder after p.batch
-  pub last : then_stream (given_all ms (done rows)) (passed_stream p) ≡ whole_all ms (done rows)

@@ -1,6 +1,8 @@
 //! The worked items of sources, gathered.
-ghost use Rattle.std.specs.Prelude.{◌≡◌, ◌<◌, None, [], IfOk, OnOk, OnErr};
-ghost use Rattle.fq_run.specs.Gathering.{gathered, taken_in};
+ghost use Rattle.std.specs.Prelude.{◌≡◌, ◌<◌, ◌⊎◌, None, Some, [], map, IfOk, IfErr, OnOk, OnErr};
+ghost use Rattle.fq_run.specs.Gathering.{gathered, gathered_stream, taken_in};
+ghost use Rattle.fq_run.specs.Sources.{first_fault};
+ghost use Rattle.fq_run.specs.declared.faults.Fault.TheVariants as fault;
 
 use crate::faults::Fault;
 use crate::leading_steps::Worked;
@@ -88,4 +90,20 @@ pub(crate) fn take_in(sources: &mut [Gathered], file: u16, out: Worked) -> Resul
     } else {
         take_in(others, file - source.files, out)
     }
+}
+
+/// The batches of sources, or the fault that ends the first that has one.
+pub(crate) fn whole_batches(alloc: Global, sources: Vec<Gathered>) -> Result<Vec<Batch>, Fault>
+    ensures none { IfOk result (λ batches. first_fault (map gathered_stream sources.items) ≡ None) }
+    ensures batches { IfOk result (λ batches. batches.items ≡ map (λ g. g.batch) sources.items) }
+    ensures fault { IfErr result (λ f. (first_fault (map gathered_stream sources.items) ≡ Some f) ⊎ (f ≡ fault.Memory)) }
+{
+    let mut batches = Vec::with_capacity(alloc, sources.len())?;
+    for source in sources {
+        if let Some(fault) = source.fault {
+            return Err(fault);
+        }
+        batches.push(source.batch)?;
+    }
+    Ok(batches)
 }

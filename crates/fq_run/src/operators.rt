@@ -5,7 +5,7 @@ ghost use Rattle.fq_column.specs.Frame.{Fields, Frame, Row};
 ghost use Rattle.fq_run.specs.Transforms.{Transform, steps_transform};
 ghost use Rattle.fq_run.specs.Stages.{Accepts};
 ghost use Rattle.fq_run.specs.Starting.{joins_source, right_of, transform_of};
-ghost use Rattle.fq_run.specs.RunningOperators.{HasEnded, HasPassed, HasTaken, IsUnder, Keeps, Takes};
+ghost use Rattle.fq_run.specs.RunningOperators.{HasEnded, HasTaken, IsGiving, Makes, Takes};
 
 mod grouping;
 mod joining;
@@ -15,6 +15,7 @@ use crate::passed::Passed;
 use crate::stages::Stage;
 use fq_column::{Batch, Memory, Schema};
 use fq_expr::{Front, Piece, RowStep};
+use fq_ops::Probe;
 pub use grouping::GroupBy;
 pub(crate) use grouping::Grouping;
 pub(crate) use joining::Joining;
@@ -67,6 +68,13 @@ pub(crate) fn row_word(step: &RowStep) -> &'static str {
     }
 }
 
+/// A part of what an operator makes of a batch, and by what it makes the next part, if there is one.
+#[derive(Drop)]
+pub(crate) struct Made {
+    pub(crate) passed: Passed,
+    pub(crate) rest: Option<Probe>,
+}
+
 /// An operator, with what it keeps of the rows that it has taken.
 #[derive(Drop)]
 pub(crate) enum Running<'a> {
@@ -110,53 +118,51 @@ impl<'a> Running<'a> {
         }
     }
 
-    /// Takes what the operator before it passed on, and passes on what it makes of that at once.
-    pub(crate) fn push(&mut self, alloc: Global, input: Passed) -> Result<Passed, Memory>
-        requires { (m : Transform) × ((rows : List Row) × (HasTaken self.old m rows × IsUnder m.takes input.batch)) }
-        ensures { IfOk result (λ p. (m : Transform) (rows : List Row) → HasTaken self.old m rows → IsUnder m.takes input.batch →
-            HasPassed self.new m rows input p) }
+    /// Takes one more batch, and makes the first part of what it passes on of that at once.
+    pub(crate) fn take(&mut self, alloc: Global, batch: Batch) -> Result<Made, Memory>
+        requires { (m : Transform) × ((rows : List Row) × (HasTaken self.old m rows × (m.takes ≡ batch.fields))) }
+        ensures { IfOk result (λ p. (m : Transform) (rows : List Row) → HasTaken self.old m rows → m.takes ≡ batch.fields → Makes self.new m rows batch [] p) }
     {
-        let Passed { batch, fault } = input;
-        let Some(batch) = batch else {
-            return Ok(Passed { batch: None, fault });
-        };
-        let passed = self.take(alloc, batch)?;
-        match passed.fault {
-            Some(_) => Ok(passed),
-            None => Ok(Passed {
-                batch: passed.batch,
-                fault,
+        match self {
+            Running::Rows(front) => Ok(Made::all(step(alloc, front, batch)?)),
+            Running::Join(joining) => joining.take(alloc, batch),
+            Running::Roll(summing) => Ok(Made::all(summing.take(alloc, batch)?)),
+            Running::Group(grouping) => Ok(Made::all(grouping.take(alloc, batch)?)),
+        }
+    }
+
+    /// Makes the next part of what it passes on of a batch that it has taken.
+    pub(crate) fn go_on(&mut self, alloc: Global, probe: Probe) -> Result<Made, Memory>
+        requires { (m : Transform) × ((rows : List Row) × ((batch : Frame) × ((given : List Row) × IsGiving self.old m rows batch given probe))) }
+        ensures { IfOk result (λ p. (m : Transform) (rows : List Row) (batch : Frame) (given : List Row) → IsGiving self.old m rows batch given probe → Makes self.new m rows batch given p) }
+    {
+        match self {
+            Running::Join(joining) => joining.go_on(alloc, probe),
+            Running::Rows(_) | Running::Roll(_) | Running::Group(_) => unreachable!(),
+        }
+    }
+
+    /// All that is left once no more comes. No more can be taken.
+    pub(crate) fn finish(&mut self, alloc: Global) -> Result<Passed, Memory>
+        requires { (m : Transform) × ((rows : List Row) × HasTaken self.old m rows) }
+        ensures { IfOk result (λ p. (m : Transform) (rows : List Row) → HasTaken self.old m rows → HasEnded m rows p) }
+    {
+        match self {
+            Running::Group(grouping) => grouping.finish(alloc),
+            Running::Rows(_) | Running::Join(_) | Running::Roll(_) => Ok(Passed {
+                batch: None,
+                fault: None,
             }),
         }
     }
+}
 
-    /// Takes the last that comes, and passes on all that is left. No more can be taken.
-    pub(crate) fn finish(&mut self, alloc: Global, input: Passed) -> Result<Passed, Memory>
-        requires { (m : Transform) × ((rows : List Row) × (HasTaken self.old m rows × IsUnder m.takes input.batch)) }
-        ensures { IfOk result (λ p. (m : Transform) (rows : List Row) → HasTaken self.old m rows → IsUnder m.takes input.batch →
-            HasEnded m rows input p) }
+impl Made {
+    // All of it, in one part.
+    fn all(passed: Passed) -> Made
+        ensures { result ≡ record { passed = passed; rest = None } }
     {
-        let passed = self.push(alloc, input)?;
-        if passed.fault.is_some() {
-            return Ok(passed);
-        }
-        match self {
-            Running::Group(grouping) => grouping.finish(alloc),
-            Running::Rows(_) | Running::Join(_) | Running::Roll(_) => Ok(passed),
-        }
-    }
-
-    // Takes one more batch.
-    fn take(&mut self, alloc: Global, batch: Batch) -> Result<Passed, Memory>
-        requires { (m : Transform) × ((rows : List Row) × ((m.takes ≡ batch.fields) × ((m.at_once rows).fault ≡ None) × Keeps self.old m rows)) }
-        ensures { IfOk result (λ p. Takes (Keeps self.old) (Keeps self.new) batch p) }
-    {
-        match self {
-            Running::Rows(front) => step(alloc, front, batch),
-            Running::Join(joining) => joining.take(alloc, batch),
-            Running::Roll(summing) => summing.take(alloc, batch),
-            Running::Group(grouping) => grouping.take(alloc, batch),
-        }
+        Made { passed, rest: None }
     }
 }
 

@@ -1,14 +1,19 @@
 //! Running operators one after the other.
-ghost use Rattle.std.specs.Prelude.{◌≡◌, List, [], map, IfOk, OnOk};
+ghost use Rattle.std.specs.Prelude.{◌≡◌, ◌≤◌, ◌⊎◌, ◌++◌, List, [], None, Some, drop, length, map, take, IfErr, IfOk, OnOk};
 ghost use Rattle.std.specs.List.{list_any};
 ghost use Rattle.fq_column.specs.Frame.{Fields, Row};
-ghost use Rattle.fq_run.specs.Pipelines.{HasFinished, HasPushed, HasRun, Transforming};
-ghost use Rattle.fq_run.specs.RunningOperators.{IsUnder};
+ghost use Rattle.fq_column.specs.Stream.{done};
+ghost use Rattle.fq_run.specs.Pipelines.{EndsIn, HandsOn, HasRun, Transforming};
+ghost use Rattle.fq_run.specs.RunningOperators.{HaveTaken, IsUnder, passed_stream, rows_in};
 ghost use Rattle.fq_run.specs.Stages.{Fit};
 ghost use Rattle.fq_run.specs.Starting.{joins_source, right_of, rights_of, transforms_of};
+ghost use Rattle.fq_run.specs.Transforms.{Chain, Transform, whole_all};
+ghost use Rattle.fq_run.specs.declared.faults.Fault.TheVariants as fault;
 
-use crate::operators::{Operator, Running};
+use crate::faults::Fault;
+use crate::operators::{Made, Operator, Running};
 use crate::passed::Passed;
+use crate::row_sinks::RowSink;
 use crate::stages::Stage;
 use fq_column::{Batch, Memory, Schema};
 use std::alloc::Global;
@@ -21,17 +26,16 @@ pub(crate) struct Pipeline<'a> {
 }
 
 impl<'a> Pipeline<'a> {
-    /// The operators of stages that have taken no row, on rows of a schema, with the rows of the sources that they join; and the
-    /// schema of what they pass on.
+    /// The operators of stages that have taken no row, on rows of a schema, with the rows of the sources that they join.
     pub(crate) fn start(
         alloc: Global,
         sides: Vec<Batch>,
         schema: &Schema,
         stages: &'a [Stage],
-    ) -> Result<(Pipeline<'a>, Schema), Memory>
+    ) -> Result<Pipeline<'a>, Memory>
         requires { (after : Fields) × Fit (map (λ f. f.fields) sides.items) schema.now stages.now after }
-        ensures { IfOk result (λ r. (after : Fields) → Fit (map (λ f. f.fields) sides.items) schema.now stages.entry.now after →
-            (r.1 ≡ after) × HasRun r.0.operators.items (record { before = schema.now; transforms = transforms_of sides.items schema.now stages.entry.now; after = after }) [] []) }
+        ensures { IfOk result (λ p. (after : Fields) → Fit (map (λ f. f.fields) sides.items) schema.now stages.entry.now after →
+            HasRun p.operators.items (record { before = schema.now; transforms = transforms_of sides.items schema.now stages.entry.now; after = after }) [] []) }
     {
         let mut sides = sides;
         let mut operators = Vec::with_capacity(alloc, stages.len())?;
@@ -43,35 +47,86 @@ impl<'a> Pipeline<'a> {
             operators.push(Running::start(alloc, right, at, stage)?)?;
             at = &stage.after;
         }
-        Ok((Pipeline { operators }, at.copy(alloc)?))
+        Ok(Pipeline { operators })
     }
 
-    /// Takes one more piece, and passes on what the operators make of it at once.
-    pub(crate) fn push(&mut self, alloc: Global, input: Passed) -> Result<Passed, Memory>
+    /// Takes one more piece. What the operators make of it at once goes to the sink; or the fault that ends all is answered.
+    pub(crate) fn push<S: RowSink>(
+        &mut self,
+        alloc: Global,
+        input: Passed,
+        sink: &mut S,
+    ) -> Result<(), Fault>
         requires { (w : Transforming) × ((rows : List Row) × ((out : List Row) × (HasRun self.old.operators.items w rows out × IsUnder w.before input.batch))) }
-        ensures { IfOk result (λ p. (w : Transforming) (rows out : List Row) → HasRun self.old.operators.items w rows out → IsUnder w.before input.batch →
-            HasPushed self.new.operators.items w rows out input p) }
+        ensures goes_on { OnOk result ((w : Transforming) (rows out : List Row) → HasRun self.old.operators.items w rows out → IsUnder w.before input.batch →
+            (more : List Row) × ((input.fault ≡ None) × (HasRun self.new.operators.items w (rows ++ rows_in input.batch) (out ++ more) × (S.has sink.old w.after out → S.has sink.new w.after (out ++ more))))) }
+        ensures ends { IfErr result (λ f. (f ≡ fault.Memory) ⊎ ((w : Transforming) (rows out : List Row) → HasRun self.old.operators.items w rows out → IsUnder w.before input.batch →
+            EndsIn w.transforms rows (passed_stream input) f)) }
     {
-        let mut passed = input;
-        for running in self.operators.iter_mut() {
-            passed = running.push(alloc, passed)?;
-        }
-        Ok(passed)
+        self.pass(0, alloc, input, sink)
     }
 
-    /// What is left once no more comes. No more can be taken.
-    pub(crate) fn finish(&mut self, alloc: Global) -> Result<Passed, Memory>
+    /// No more comes: what is left goes to the sink, or the fault that ends all is answered. No more can be taken.
+    pub(crate) fn finish<S: RowSink>(&mut self, alloc: Global, sink: &mut S) -> Result<(), Fault>
         requires { (w : Transforming) × ((rows : List Row) × ((out : List Row) × HasRun self.old.operators.items w rows out)) }
-        ensures { IfOk result (λ p. (w : Transforming) (rows out : List Row) → HasRun self.old.operators.items w rows out → HasFinished w rows out p) }
+        ensures all { OnOk result ((w : Transforming) (rows out : List Row) → HasRun self.old.operators.items w rows out → S.has sink.old w.after out →
+            (more : List Row) × ((whole_all w.transforms (done rows) ≡ done (out ++ more)) × S.has sink.new w.after (out ++ more))) }
+        ensures ends { IfErr result (λ f. (f ≡ fault.Memory) ⊎ ((w : Transforming) (rows out : List Row) → HasRun self.old.operators.items w rows out →
+            (whole_all w.transforms (done rows)).fault ≡ Some f)) }
     {
-        let mut passed = Passed {
-            batch: None,
-            fault: None,
-        };
-        for running in self.operators.iter_mut() {
-            passed = running.finish(alloc, passed)?;
+        for place in 0..self.operators.len() {
+            let left = self.operators[place].finish(alloc)?;
+            self.pass(place + 1, alloc, left, sink)?;
         }
-        Ok(passed)
+        Ok(())
+    }
+
+    // A piece goes through the operators from a place on, each of which passes on at once, part by part, what it makes of it, and the
+    // last of them to the sink; or the fault that ends all is answered.
+    fn pass<S: RowSink>(
+        &mut self,
+        place: usize,
+        alloc: Global,
+        input: Passed,
+        sink: &mut S,
+    ) -> Result<(), Fault>
+        requires place { place ≤ length self.old.operators.items }
+        requires can { (ms : List Transform) × ((rows : List Row) × ((before : Fields) × ((after : Fields) × (HaveTaken (drop place self.old.operators.items) ms rows × (Chain before ms after × IsUnder before input.batch))))) }
+        ensures kept { OnOk result ((length self.new.operators.items ≡ length self.old.operators.items) × (take place self.new.operators.items ≡ take place self.old.operators.items)) }
+        ensures goes_on { OnOk result ((ms : List Transform) (rows : List Row) (before after : Fields) → HaveTaken (drop place self.old.operators.items) ms rows → Chain before ms after →
+            IsUnder before input.batch → (input.fault ≡ None) × HandsOn S.has (drop place self.new.operators.items) ms rows after (rows_in input.batch) sink.old sink.new) }
+        ensures ends { IfErr result (λ f. (f ≡ fault.Memory) ⊎ ((ms : List Transform) (rows : List Row) (before after : Fields) → HaveTaken (drop place self.old.operators.items) ms rows →
+            Chain before ms after → IsUnder before input.batch → EndsIn ms rows (passed_stream input) f)) }
+    {
+        let Passed { batch, fault } = input;
+        let Some(batch) = batch else {
+            return ended(fault);
+        };
+        if place == self.operators.len() {
+            sink.take(batch)?;
+            return ended(fault);
+        }
+        let mut made = self.operators[place].take(alloc, batch)?;
+        for _ in 0..u64::MAX {
+            let Made { passed, rest } = made;
+            self.pass(place + 1, alloc, passed, sink)?;
+            let Some(probe) = rest else {
+                return ended(fault);
+            };
+            made = self.operators[place].go_on(alloc, probe)?;
+        }
+        Err(Fault::Memory)
+    }
+}
+
+// A fault, if there is one.
+fn ended(fault: Option<Fault>) -> Result<(), Fault>
+    ensures none { OnOk result (fault ≡ None) }
+    ensures some { IfErr result (λ f. fault ≡ Some f) }
+{
+    match fault {
+        Some(fault) => Err(fault),
+        None => Ok(()),
     }
 }
 

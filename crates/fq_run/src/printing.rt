@@ -5,6 +5,7 @@ ghost use Rattle.fq_run.specs.PrintedText.{rows_text, text_of};
 ghost use Rattle.fq_run.specs.Printing.{part_text, whole_text};
 
 use crate::printed_text::PrintedText;
+use crate::row_sinks::RowSink;
 use fq_column::{Batch, Memory, Schema};
 use std::alloc::Global;
 use std::collections::VecDeque;
@@ -86,7 +87,8 @@ impl<'r, T: Threads> Press<'r, T> {
 
 /// The printed frame, as it grows.
 #[derive(Drop)]
-pub(crate) struct Printing {
+pub(crate) struct Printing<'r, T> {
+    press: Press<'r, T>,
     text: PrintedText,
     /// What follows the text, in order.
     parts: VecDeque<Part>,
@@ -96,25 +98,42 @@ pub(crate) struct Printing {
     room: usize,
 }
 
-impl Printing {
+impl<'r, T: Threads> RowSink for Printing<'r, T> {
+    ghost use Rattle.fq_csv.specs.Printed.{printed};
+
+    ghost has = { λ p fields rows. whole_text p ≡ printed (record { fields = fields; rows = rows }) };
+
+    fn take(&mut self, batch: Batch) -> Result<(), Memory> {
+        self.print(batch)
+    }
+
+    // once no thread prints any more
+    fn stop(self) {
+        for part in self.parts {
+            drop(part.wait(self.press.rt));
+        }
+    }
+}
+
+impl<'r, T: Threads> Printing<'r, T> {
     /// The names of columns, and no rows.
-    pub(crate) fn new<T: Threads>(press: &Press<'_, T>, schema: &Schema) -> Result<Printing, Memory>
+    pub(crate) fn new(press: Press<'r, T>, schema: &Schema) -> Result<Printing<'r, T>, Memory>
         ensures { IfOk result (λ p. whole_text p ≡ printed_names schema.now) }
     {
+        let alloc = press.alloc;
+        let text = PrintedText::of_names(alloc, schema)?;
+        let room = press.rows_at_once();
         Ok(Printing {
-            text: PrintedText::of_names(press.alloc, schema)?,
-            parts: VecDeque::new(press.alloc),
-            batches: Vec::new(press.alloc),
-            room: press.rows_at_once(),
+            press,
+            text,
+            parts: VecDeque::new(alloc),
+            batches: Vec::new(alloc),
+            room,
         })
     }
 
-    /// Takes the rows of a batch, to be printed after those before.
-    pub(crate) fn print<T: Threads>(
-        &mut self,
-        press: &Press<'_, T>,
-        batch: Batch,
-    ) -> Result<(), Memory>
+    // Takes the rows of a batch, to be printed after those before.
+    fn print(&mut self, batch: Batch) -> Result<(), Memory>
         ensures { OnOk result (whole_text self.new ≡ whole_text self.old ++ printed_rows batch.rows) }
     {
         if batch.rows() == 0 {
@@ -125,42 +144,44 @@ impl Printing {
         if self.room > 0 {
             return Ok(());
         }
-        self.hand_on(press)
+        self.hand_on()
     }
 
     // Makes a part of the gathered batches.
-    fn hand_on<T: Threads>(&mut self, press: &Press<'_, T>) -> Result<(), Memory>
+    fn hand_on(&mut self) -> Result<(), Memory>
         ensures { OnOk result (whole_text self.new ≡ whole_text self.old) }
     {
-        if self.parts.len() >= press.threads {
-            self.settle_first(press.rt)?;
+        if self.parts.len() >= self.press.threads {
+            self.settle_first()?;
         }
-        let batches = mem::replace(&mut self.batches, Vec::new(press.alloc));
-        self.room = press.rows_at_once();
-        match self.parts.push_back(press.print(batches)?) {
+        let batches = mem::replace(&mut self.batches, Vec::new(self.press.alloc));
+        self.room = self.press.rows_at_once();
+        let part = self.press.print(batches)?;
+        match self.parts.push_back(part) {
             Ok(()) => Ok(()),
             Err(refused) => {
-                drop(refused.value.wait(press.rt));
+                drop(refused.value.wait(self.press.rt));
                 Err(Memory)
             }
         }
     }
 
     // Moves the first part, once it is printed, to the end of the text.
-    fn settle_first<T: Threads>(&mut self, rt: &T) -> Result<(), Memory>
+    fn settle_first(&mut self) -> Result<(), Memory>
         ensures { OnOk result (whole_text self.new ≡ whole_text self.old) }
     {
         match self.parts.pop_front() {
-            Some(part) => self.text.append(part.wait(rt)?),
+            Some(part) => self.text.append(part.wait(self.press.rt)?),
             None => Ok(()),
         }
     }
 
     /// The text of all rows, once no thread prints any more. `Memory` if an allocation failed, also in one of these.
-    pub(crate) fn finish<T: Threads>(self, press: &Press<'_, T>) -> Result<PrintedText, Memory>
-        ensures { IfOk result (λ text. text_of text ≡ whole_text self) }
+    pub(crate) fn finish(self) -> Result<PrintedText, Memory>
+        ensures { IfOk result (λ text. text_of text ≡ whole_text self.entry) }
     {
         let Printing {
+            press,
             text,
             parts,
             batches,
@@ -172,13 +193,6 @@ impl Printing {
             all = followed_by(all, part.wait(press.rt));
         }
         followed_by(all, last)
-    }
-
-    /// Drops the text, once no thread prints any more.
-    pub(crate) fn stop<T: Threads>(self, rt: &T) {
-        for part in self.parts {
-            drop(part.wait(rt));
-        }
     }
 }
 

@@ -1,9 +1,9 @@
 //! A physical plan over files.
-ghost use Rattle.std.specs.Prelude.{◌≡◌, ◌≤◌, ℕ, List, vec_len, Ok, Err, IfOk, IfErr};
+ghost use Rattle.std.specs.Prelude.{◌≡◌, ◌≤◌, ℕ, List, [], vec_len, Ok, Err, IfOk, IfErr};
 ghost use Rattle.fq_column.specs.Frame.{Frame};
 ghost use Rattle.fq_csv.specs.Printed.{printed};
 ghost use Rattle.fq_run.specs.GatheredRun.{HasGathered};
-ghost use Rattle.fq_run.specs.Physical.{file_streams, files_wanted, outcome_of_run};
+ghost use Rattle.fq_run.specs.Physical.{file_streams, files_wanted, last_columns, outcome_of_run};
 ghost use Rattle.fq_run.specs.PrintedText.{text_of};
 ghost use Rattle.fq_run.specs.Run.{IsAnswer, IsEngineFault, IsOfMeaning, IsRunFault, Tell, trace_of};
 
@@ -12,9 +12,10 @@ use crate::leading_steps::Worked;
 use crate::openings::{empty_sources, file_layouts, open_feeds};
 use crate::physical_plans::PhysicalPlan;
 use crate::printed_text::PrintedText;
-use crate::printing::Press;
+use crate::printing::{Press, Printing};
+use crate::row_sinks::RowSink;
 use crate::run_tail::RunTail;
-use crate::waiting::Waiting;
+use fq_column::Schema;
 use fq_csv::MAX_BATCH_SIZE;
 use fq_lanes::{Gate, MAX_WORKERS, Report, run_lanes};
 use std::alloc::Global;
@@ -85,25 +86,48 @@ impl PhysicalPlan {
             (λ f. IsOfMeaning f → outcome_of_run self.now (file_streams self.now files) ≡ Err f) }
         ensures kind { IfErr result IsRunFault }
     {
-        let (tail, report) = self.gather(rt, alloc, gate, inputs, batch_size, workers)?;
-        let text = tail.finish()?;
+        let press = Press {
+            rt,
+            alloc,
+            threads: self.printing_threads(workers),
+        };
+        let text = Printing::new(press, self.last_schema())?;
+        let (tail, report) = self.gather(rt, alloc, gate, inputs, text, batch_size, workers)?;
+        let text = tail.finish()?.finish()?;
         Ok((text, report))
     }
 
+    // The columns of the frame.
+    fn last_schema(&self) -> &Schema
+        ensures { result.now ≡ last_columns self.now }
+    {
+        self.stages
+            .as_slice()
+            .last()
+            .map_or(&self.after_leading, |stage| &stage.after)
+    }
+
     // What free threads make of the files, as far as the tail took it, with their report.
-    fn gather<'a, T: Threads + Wait + Sync, G: Gate<Worked> + Sync, R: Read + Drop + Send>(
+    fn gather<
+        'a,
+        T: Threads + Wait + Sync,
+        G: Gate<Worked> + Sync,
+        R: Read + Drop + Send,
+        S: RowSink + Drop,
+    >(
         &'a self,
         rt: &'a T,
         alloc: Global,
         gate: &G,
         inputs: Vec<R>,
+        sink: S,
         batch_size: u32,
         workers: u16,
-    ) -> Result<(RunTail<'a, T>, Report), Fault>
+    ) -> Result<(RunTail<'a, S>, Report), Fault>
         requires inputs { vec_len inputs ≡ files_wanted self.now }
         requires batch_size { (1 ≤ batch_size) × (batch_size ≤ MAX_BATCH_SIZE) }
         requires workers { (1 ≤ workers) × (workers ≤ MAX_WORKERS) }
-        ensures gathered { IfOk result (λ r. HasGathered R.remaining inputs.items self.entry.now batch_size r.0.state r.1.trace.items) }
+        ensures gathered { IfOk result (λ r. S.has sink (last_columns self.entry.now) [] → HasGathered S.has R.remaining inputs.items self.entry.now batch_size r.0 r.1.trace.items) }
         ensures fault { IfErr result IsEngineFault }
     {
         let sides = self.sides.as_slice();
@@ -111,13 +135,8 @@ impl PhysicalPlan {
         let feeds = open_feeds(alloc, layouts, inputs, batch_size)?;
         let sources = empty_sources(alloc, sides)?;
         let before = self.after_leading.copy(alloc)?;
-        let waiting = Waiting::new(sources, before, self.stages.as_slice());
-        let press = Press {
-            rt,
-            alloc,
-            threads: self.printing_threads(workers),
-        };
-        let tail = RunTail::new(press, self.leading.side_files, waiting);
+        let (side_files, stages) = (self.leading.side_files, self.stages.as_slice());
+        let tail = RunTail::new(alloc, side_files, sources, before, stages, sink);
         let (tail, outcome) = run_lanes(rt, alloc, feeds, &self.leading, gate, tail, workers);
         match outcome {
             Ok(report) => Ok((tail, report)),

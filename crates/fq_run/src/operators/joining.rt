@@ -1,15 +1,21 @@
 //! A join that runs.
-ghost use Rattle.std.specs.Prelude.{◌≡◌, List, [], None, map, string_bytes, IfOk, IsOk};
-ghost use Rattle.fq_column.specs.Frame.{Fields, Row};
+ghost use Rattle.std.specs.Prelude.{◌≡◌, List, [], None, map, option_map, string_bytes, IfOk, IsOk};
+ghost use Rattle.fq_column.specs.Frame.{Fields, Frame, Row};
 ghost use Rattle.fq_run.specs.Transforms.{Transform, join_transform};
 ghost use Rattle.fq_ops.specs.Join.{join_schema};
-ghost use Rattle.fq_run.specs.RunningOperators.{HasJoined, Takes};
+ghost use Rattle.fq_run.specs.RunningOperators.{HasJoined, HasTaken, IsGiving, Makes};
+ghost use Rattle.fq_run.specs.declared.faults.Fault.TheVariants as fault;
+ghost use Rattle.fq_run.specs.declared.operators.Running.TheVariants as running;
 
 use crate::faults::Fault;
+use crate::operators::Made;
 use crate::passed::Passed;
 use fq_column::{Batch, Memory, copy_strings};
-use fq_ops::{How, JoinTable, Probed};
+use fq_ops::{How, JoinTable, Part, Probe, Rest};
 use std::alloc::Global;
+
+/// The most rows that a join makes at once, whatever the matches: as many as the largest batch has.
+const ROWS_AT_ONCE: usize = 65_536;
 
 /// The most rows that a join gives.
 pub const MAX_JOINED_ROWS: u64 = 4_294_967_295;
@@ -58,20 +64,43 @@ impl Joining {
         })
     }
 
-    /// Takes one more batch, and passes on the rows that it gives.
-    pub(crate) fn take(&mut self, alloc: Global, batch: Batch) -> Result<Passed, Memory>
-        requires { (m : Transform) × ((rows : List Row) × ((m.takes ≡ batch.fields) × ((m.at_once rows).fault ≡ None) × HasJoined self.old m rows)) }
-        ensures { IfOk result (λ p. Takes (HasJoined self.old) (HasJoined self.new) batch p) }
+    /// Takes one more batch, and passes on the first of the rows that it gives.
+    pub(crate) fn take(&mut self, alloc: Global, batch: Batch) -> Result<Made, Memory>
+        requires { (m : Transform) × ((rows : List Row) × ((m.takes ≡ batch.fields) × HasTaken (running.Join self.old) m rows)) }
+        ensures { IfOk result (λ p. (m : Transform) (rows : List Row) → m.takes ≡ batch.fields → HasTaken (running.Join self.old) m rows → Makes (running.Join self.new) m rows batch [] p) }
     {
-        let Probed { batch, fault } = self.table.probe(alloc, batch, self.how, self.room)?;
+        let probe = Probe::new(batch, self.how, self.room);
+        self.go_on(alloc, probe)
+    }
+
+    /// Passes on the next rows that a batch gives which it has taken.
+    pub(crate) fn go_on(&mut self, alloc: Global, probe: Probe) -> Result<Made, Memory>
+        requires { (m : Transform) × ((rows : List Row) × ((batch : Frame) × ((given : List Row) × IsGiving (running.Join self.old) m rows batch given probe))) }
+        ensures { IfOk result (λ p. (m : Transform) (rows : List Row) (batch : Frame) (given : List Row) → IsGiving (running.Join self.old) m rows batch given probe →
+            Makes (running.Join self.new) m rows batch given p) }
+    {
+        let Part { batch, rest } = self.table.probe_part(alloc, probe, ROWS_AT_ONCE)?;
         self.room -= batch.rows() as u64;
-        let fault = match fault {
-            Some(_) => Some(Fault::JoinRows { step: self.number }),
-            None => None,
+        let (fault, rest) = match rest {
+            Rest::More(probe) => (None, Some(probe)),
+            Rest::End(full) => (full_at(self.number, full), None),
         };
-        Ok(Passed {
-            batch: Some(batch),
-            fault,
+        Ok(Made {
+            passed: Passed {
+                batch: Some(batch),
+                fault,
+            },
+            rest,
         })
+    }
+}
+
+// The fault of a step at which a left row's output would pass the room, if there is such a row.
+fn full_at(step: u16, row: Option<usize>) -> Option<Fault>
+    ensures { result ≡ option_map (λ _. fault.JoinRows step) row }
+{
+    match row {
+        Some(_) => Some(Fault::JoinRows { step }),
+        None => None,
     }
 }

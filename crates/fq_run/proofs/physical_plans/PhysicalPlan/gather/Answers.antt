@@ -5,6 +5,7 @@ use Rattle.fq_expr.proofs.expressions.Expr.TheLaws.TheKnot as knot
 use Rattle.fq_run.specs.contracts.leading_steps.LeadingSteps.{the_row}
 use Rattle.std.specs.Prelude.{All, IfOk}
 use Rattle.fq_column.specs.Frame.{Fields}
+use Rattle.fq_expr.specs.Steps.{fields_after_all}
 use Rattle.fq_lanes.specs.Engine.{Finishes}
 use Rattle.fq_lanes.specs.declared.faults.RunFault.{RunFault}
 use Rattle.fq_lanes.specs.declared.faults.RunFault.TheVariants as engine
@@ -12,20 +13,20 @@ use Rattle.fq_lanes.specs.declared.reports.Report.{Report}
 use Rattle.fq_run.specs.EngineRun.{no_rows, opened}
 use Rattle.fq_run.specs.Feeding.{Feeding, MayCome}
 use Rattle.fq_run.specs.GatheredRun.{HasGathered}
-use Rattle.fq_run.specs.Physical.{Physical, files_wanted}
+use Rattle.fq_run.specs.Physical.{Physical, files_wanted, front_fields, last_columns, side_fields}
 use Rattle.fq_run.specs.Run.{IsEngineFault, engine_fault}
 use Rattle.fq_run.specs.Stages.{physical_of, Fit}
+use Rattle.fq_run.specs.Standing.{TailTakes, Waits}
 use Rattle.fq_run.specs.Working.{work_on}
 use Rattle.fq_run.specs.declared.gathering.Gathered.{Gathered}
 use Rattle.fq_csv.specs.declared.sources.SourceFiles.{SourceFiles}
 use Rattle.fq_run.specs.declared.stages.Stage.{Stage}
 use Rattle.fq_run.proofs.GatheredLemmas.{has-gathered}
-use Rattle.fq_run.proofs.StageOutcomeLemmas.{fit-over}
-use Rattle.fq_run.proofs.LogLemmas.{Takes-one}
+use Rattle.fq_run.proofs.StageOutcomeLemmas.{fit-last, fit-over}
 use Rattle.fq_run.proofs.RunStartLemmas.{count-layouts, side-count, length-opened, opened-open}
 use Rattle.fq_run.proofs.physical_plans.PhysicalPlan.gather.Given.{Over}
 use Rattle.fq_run.proofs.physical_plans.PhysicalPlan.gather.Goals as goal
-use Rattle.fq_run.proofs.physical_plans.PhysicalPlan.gather.Goals.{After-as_slice, In-Ok}
+use Rattle.fq_run.proofs.physical_plans.PhysicalPlan.gather.Goals.{In-Ok}
 
 pub open_feeds-requires-clause-one_each : goal.open_feeds-requires-clause-one_each
 open_feeds-requires-clause-one_each g c =
@@ -53,49 +54,46 @@ run_lanes-tail-requires-clause-open g c κs within =
 
 -- what the threads did
 finished : (g : Over) (c : In-Ok g) →
-    Finishes MayCome (λ file item out. out ≡ work_on c.self.inside.leading.front (c.self.inside.inputs - c.self.inside.main.files) file item) (Takes-one (λ t. t.side_files) (λ t. t.state))
+    Finishes MayCome (λ file item out. out ≡ work_on c.self.inside.leading.front (c.self.inside.inputs - c.self.inside.main.files) file item) (λ old file _ out new. TailTakes {S = g.row.S.Denot} g.S.RowSink.has old file out new)
     c.in_ok-feeds.feeds.items c.new-tail.result c.in-Ok.report.trace.items c.run_lanes-tail.result.0
 finished g c =
     let s = c.self.inside in
     let sides-are = c.self.invariant.1 ∙ sym (side-count (s.sides.items ++ s.main ∷ []) s.leading.front s.stages.items s.inputs c.self.invariant.0 c.self.inside.sides.items c.self.inside.main refl) in
-    let Done : ℕ → Report → Type 0 = λ sides report. Finishes MayCome (λ file item out. out ≡ work_on c.self.inside.leading.front sides file item) (Takes-one (λ t. t.side_files) (λ t. t.state))
+    let Done : ℕ → Report → Type 0 = λ sides report. Finishes MayCome (λ file item out. out ≡ work_on c.self.inside.leading.front sides file item) (λ old file _ out new. TailTakes {S = g.row.S.Denot} g.S.RowSink.has old file out new)
     c.in_ok-feeds.feeds.items c.new-tail.result report.trace.items c.run_lanes-tail.result.0 in
     subst (λ sides. Done sides c.in-Ok.report) sides-are
     (subst (λ (r : Result Report RunFault). IfOk r (Done s.leading.side_files)) c.in-Ok.is c.run_lanes-tail.ensures.done)
 
--- the sources before the main one, of which nothing was taken
-sources-are : (g : Over) (c : After-as_slice g) → c.in_ok-sources.sources.items ≡ map (λ (s : SourceFiles). no_rows s.files s.layout.schema) c.self.inside.sides.items
-sources-are g c = c.in_ok-sources.ensures ∙ ap (map (λ (s : SourceFiles). no_rows s.files s.layout.schema)) c.as_slice-sides.ensures.value
-
-pub new-waiting-requires : goal.new-waiting-requires
-new-waiting-requires g c =
+pub new-tail-requires : goal.new-tail-requires
+new-tail-requires g c =
     let s = c.self.inside in
     let runnable = c.self.invariant.0 in
-    let sides = s.sides.items in
-    let main = s.main in (
+    let sources = c.in_ok-sources.ensures ∙ ap (map (λ (s : SourceFiles). no_rows s.files s.layout.schema)) c.as_slice-sides.ensures.value in (
       runnable.fits.0,
       subst (λ (t : List Gathered × Fields × List Stage). Fit (map (λ (g : Gathered). g.batch.fields) t.0) t.1 t.2 runnable.fits.0)
-          (λ i. (sym (sources-are g c) i, sym (c.in_ok-before.ensures ∙ c.self.invariant.2) i, sym c.as_slice.ensures.value i))
-          (fit-over (s.sides.items ++ s.main ∷ []) s.leading.front s.stages.items s.inputs runnable sides main refl),
+          (λ i. (sym sources i, sym (c.in_ok-before.ensures ∙ c.self.invariant.2) i, sym c.as_slice-stages.ensures.value i))
+          (fit-over (s.sides.items ++ s.main ∷ []) s.leading.front s.stages.items s.inputs runnable s.sides.items s.main refl),
     )
 
 pub returns-in-Ok-clause-gathered : goal.returns-in-Ok-clause-gathered
-returns-in-Ok-clause-gathered g c =
+returns-in-Ok-clause-gathered g c fresh =
     let s = c.self.inside in
     let runnable = c.self.invariant.0 in
-    let sides = s.sides.items in
-    let main = s.main in
-    let count : length c.args.inputs.items ≡ files_wanted (physical_of (s.sides.items ++ s.main ∷ []) s.leading.front s.stages.items) = omega (arith, c.args.inputs.ok.0, c.requires.inputs, ap files_wanted c.self.view_is) in
-    subst (λ (p : Physical). HasGathered g.R.Read.remaining c.args.inputs.items p c.args.batch_size c.run_lanes-tail.result.0.state c.in-Ok.report.trace.items) c.self.view_is
-    (has-gathered (s.sides.items ++ s.main ∷ []) s.leading.front s.stages.items s.inputs runnable sides main refl (λ t. t.side_files) (λ t. t.state) g.R.Read.remaining c.args.inputs.items c.args.batch_size c.in_ok-feeds.feeds.items
+    let parts = s.sides.items ++ s.main ∷ [] in
+    let plan = physical_of parts s.leading.front s.stages.items in
+    let count : length c.args.inputs.items ≡ files_wanted plan = omega (arith, c.args.inputs.ok.0, c.requires.inputs, ap files_wanted c.self.view_is) in
+    let sources = c.in_ok-sources.ensures ∙ ap (map (λ (s : SourceFiles). no_rows s.files s.layout.schema)) c.as_slice-sides.ensures.value in
+    let columns = ap last_columns (sym c.self.view_is) ∙ fit-last (side_fields plan) (front_fields plan) s.stages.items runnable.fits.0 runnable.fits.1 in
+    subst (λ (p : Physical). HasGathered {S = g.row.S.Denot} g.S.RowSink.has g.R.Read.remaining c.args.inputs.items p c.args.batch_size c.run_lanes-tail.result.0 c.in-Ok.report.trace.items) c.self.view_is
+    (has-gathered parts s.leading.front s.stages.items s.inputs runnable s.sides.items s.main refl {S = g.row.S.Denot} g.S.RowSink.has g.R.Read.remaining c.args.inputs.items c.args.batch_size c.in_ok-feeds.feeds.items
     c.new-tail.result c.run_lanes-tail.result.0 c.in-Ok.report.trace.items
     (omega (arith, c.requires.batch_size.0)) count
     (c.in_ok-feeds.ensures ∙ ap (λ fss. opened (g.R.Read.remaining) c.args.batch_size 0 fss c.args.inputs.items) (c.in_ok-layouts.ensures ∙ ap (λ (js : List SourceFiles). flat_map (λ (s : SourceFiles). replicate s.files s.layout) (js ++ c.self.inside.main ∷ [])) c.as_slice-sides.ensures.value))
     (c.new-tail.ensures.files ∙ c.self.invariant.1)
-    (c.new-tail.ensures.waits s.stages.items _ _ (record {
-      sources = c.new-waiting.ensures ∙ (λ i. record { sides = sources-are g (goal.at.returns-in-Ok-clause-gathered g c).After-as_slice i; before = (c.in_ok-before.ensures ∙ c.self.invariant.2) i; stages = c.as_slice.ensures.value i });
-      nothing = refl;
-    }))
+    (subst (λ (t : List Gathered × List Stage). Waits {S = g.row.S.Denot} g.S.RowSink.has t.1 runnable.fits.0 t.0 (no_rows s.main.files (fields_after_all s.leading.front.fields s.leading.front.steps)) c.new-tail.result)
+    (λ i. (sources i, c.as_slice-stages.ensures.value i))
+    (c.new-tail.ensures.waits runnable.fits.0 (no_rows s.main.files (fields_after_all s.leading.front.fields s.leading.front.steps)) (subst (λ (f : Fields). g.S.RowSink.has c.args.sink f []) columns fresh)
+    (c.in_ok-before.ensures ∙ c.self.invariant.2) refl))
     (finished g c))
 
 leading-sync : IsSync the_row

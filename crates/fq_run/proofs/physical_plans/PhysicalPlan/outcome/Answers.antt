@@ -1,53 +1,63 @@
-use Rattle.std.proofs.Common.{◌≡◌, ℕ, List, Result, Ok, Err, inl, inr, refl, sym, ◌∙◌, subst}
+use Rattle.std.proofs.Common.{◌≡◌, ℕ, List, Result, Ok, Err, ap, append-nil, inl, inr, refl, sym, ◌∙◌, subst}
 use Rattle.std.specs.Prelude.{IfErr, IsOk}
 use Rattle.std.proofs.lemmas.Result.{err_from_is_err_and}
 use Rattle.fq_column.specs.Frame.{Frame}
-use Rattle.fq_csv.specs.Printed.{printed}
+use Rattle.fq_csv.specs.Printed.{printed, printed_names}
 use Rattle.fq_lanes.specs.declared.reports.Report.{Report}
-use Rattle.fq_run.specs.Physical.{file_streams, outcome_of_run}
+use Rattle.fq_run.specs.GatheredRun.{HasGathered}
+use Rattle.fq_run.specs.Physical.{file_streams, last_columns, outcome_of_run}
 use Rattle.fq_run.specs.PrintedText.{text_of}
+use Rattle.fq_run.specs.Printing.{whole_text}
 use Rattle.fq_run.specs.Run.{IsOfMeaning, IsRunFault, Tell}
 use Rattle.fq_run.specs.declared.faults.Fault.{Fault}
 use Rattle.fq_run.specs.declared.printed_text.PrintedText.{PrintedText}
+use Rattle.fq_run.specs.declared.printing.Printing.{Printing}
 use Rattle.fq_run.proofs.StageOutcomeLemmas.{sound-outcome}
 use Rattle.fq_run.proofs.physical_plans.PhysicalPlan.outcome.Given.{Over}
 use Rattle.fq_run.proofs.physical_plans.PhysicalPlan.outcome.Goals as goal
-use Rattle.fq_run.proofs.physical_plans.PhysicalPlan.outcome.Goals.{In_ok-text}
+use Rattle.fq_run.proofs.physical_plans.PhysicalPlan.outcome.Goals.{In_ok-text-2}
 
-pub returns-in_err-text-clause-fault : goal.returns-in_err-text-clause-fault
-returns-in_err-text-clause-fault g c files tell =
-    let all = c.in_ok-tail.ensures.gathered in
-    let p = err_from_is_err_and c.from_residual-in_err-text.result c.from_residual-in_err-text.ensures.1 in
-    let base : IsOfMeaning c.in_err-text.field-0.0 → outcome_of_run c.args.self.now (file_streams c.args.self.now files) ≡ Err c.in_err-text.field-0.0 =
-    elim (c.in_err-text.ensures all.stages all.after all.sides all.main all.fits all.stands) [
+pub returns-in_err-finish-clause-fault : goal.returns-in_err-finish-clause-fault
+returns-in_err-finish-clause-fault g c files tell =
+    let fresh = c.in_ok-text.ensures ∙ ap printed_names c.last_schema.ensures ∙ sym (append-nil (printed_names (last_columns c.args.self.now))) in
+    let all = c.in_ok-tail.ensures.gathered fresh in
+    let p = err_from_is_err_and c.from_residual-in_err-finish.result c.from_residual-in_err-finish.ensures.1 in
+    let base : IsOfMeaning c.in_err-finish.field-0.0 → outcome_of_run c.args.self.now (file_streams c.args.self.now files) ≡ Err c.in_err-finish.field-0.0 =
+    elim (c.in_err-finish.ensures all.stages all.after all.sides all.main all.fits all.stands) [
       | inl memory ↦ λ h. absurd (subst IsOfMeaning memory h)
       | inr made ↦ λ _. sym (all.outcome files tell) ∙ made
     ] in
     subst (λ (r : Result (PrintedText × Report) Fault). IfErr r (λ f. IsOfMeaning f → outcome_of_run c.args.self.now (file_streams c.args.self.now files) ≡ Err f)) (sym p.1)
     (subst (λ (f : Fault). IsOfMeaning f → outcome_of_run c.args.self.now (file_streams c.args.self.now files) ≡ Err f) (sym p.2) base)
 
-pub returns-in_err-text-clause-kind : goal.returns-in_err-text-clause-kind
-returns-in_err-text-clause-kind g c =
-    let all = c.in_ok-tail.ensures.gathered in
-    let p = err_from_is_err_and c.from_residual-in_err-text.result c.from_residual-in_err-text.ensures.1 in
-    let base : IsRunFault c.in_err-text.field-0.0 =
-    elim (c.in_err-text.ensures all.stages all.after all.sides all.main all.fits all.stands) [
+pub returns-in_err-finish-clause-kind : goal.returns-in_err-finish-clause-kind
+returns-in_err-finish-clause-kind g c =
+    let fresh = c.in_ok-text.ensures ∙ ap printed_names c.last_schema.ensures ∙ sym (append-nil (printed_names (last_columns c.args.self.now))) in
+    let all = c.in_ok-tail.ensures.gathered fresh in
+    let p = err_from_is_err_and c.from_residual-in_err-finish.result c.from_residual-in_err-finish.ensures.1 in
+    let base : IsRunFault c.in_err-finish.field-0.0 =
+    elim (c.in_err-finish.ensures all.stages all.after all.sides all.main all.fits all.stands) [
       | inl memory ↦ subst IsRunFault (sym memory) tt
       | inr made ↦ subst (λ (r : Result Frame Fault). IfErr r IsRunFault) made (sound-outcome all.stages all.sides all.main all.sound)
     ] in
     subst (λ (r : Result (PrintedText × Report) Fault). IfErr r IsRunFault) (sym p.1) (subst IsRunFault (sym p.2) base)
 
+-- what the threads did
+abbrev gathered : (g : Over) (c : In_ok-text-2 g) → HasGathered {S = Printing g.row.T.Denot} (λ p fields rows. whole_text p ≡ printed (record { fields = fields; rows = rows })) g.R.Read.remaining c.args.inputs.items c.args.self.now c.args.batch_size c.in_ok-tail.tail c.in_ok-tail.report.trace.items
+gathered g c =
+    c.in_ok-tail.ensures.gathered (c.in_ok-text.ensures ∙ ap printed_names c.last_schema.ensures ∙ sym (append-nil (printed_names (last_columns c.args.self.now))))
+
 -- the text is that of the outcome
-framed : (g : Over) (c : In_ok-text g) (files : List (List ℕ)) → Tell g.R.Read.remaining c.args.inputs.items files →
-    (frame : Frame) × (outcome_of_run c.args.self.now (file_streams c.args.self.now files) ≡ Ok frame) × (text_of c.in_ok-text.text ≡ printed frame)
+framed : (g : Over) (c : In_ok-text-2 g) (files : List (List ℕ)) → Tell g.R.Read.remaining c.args.inputs.items files →
+    (frame : Frame) × (outcome_of_run c.args.self.now (file_streams c.args.self.now files) ≡ Ok frame) × (text_of c.in_ok-text-2.text ≡ printed frame)
 framed g c files tell =
-    let all = c.in_ok-tail.ensures.gathered in
-    let made = c.in_ok-text.ensures all.stages all.after all.sides all.main all.fits all.stands in
-    (made.0, sym (all.outcome files tell) ∙ made.1, made.2)
+    let all = gathered g c in
+    let made = c.in_ok-finish.ensures all.stages all.after all.sides all.main all.fits all.stands in
+    (made.0, sym (all.outcome files tell) ∙ made.1.0, c.in_ok-text-2.ensures ∙ made.1.1)
 
 pub returns-clause-frame : goal.returns-clause-frame
-returns-clause-frame g c files tell = framed g (goal.at.returns-clause-frame g c).In_ok-text files tell
+returns-clause-frame g c files tell = framed g c files tell
 
 pub returns-clause-trace : goal.returns-clause-trace
 returns-clause-trace g c files tell =
-    c.in_ok-tail.ensures.gathered.trace files tell (subst (λ (r : Result Frame Fault). IsOk r) (sym (framed g (goal.at.returns-clause-trace g c).In_ok-text files tell).1) refl)
+    (gathered g c).trace files tell (subst (λ (r : Result Frame Fault). IsOk r) (sym (framed g c files tell).1) refl)

@@ -1,24 +1,49 @@
-use Rattle.std.proofs.Common.{◌+◌, List, drop, get_or, arith, sym, subst, None}
+use Rattle.std.proofs.Common.{◌∙◌, List, arith, inl, inr, refl, subst}
+use Rattle.std.proofs.lemmas.List.{drop_all, length-set}
+use Rattle.std.proofs.lemmas.Result.{err_from_is_err_and}
 use Rattle.fq_run.specs.declared.operators.Running.{Running}
-use Rattle.fq_run.proofs.PipelineLemmas.{EndedSoFar, end-can, ended-all, ended-next, ended-start, split-next}
-use Rattle.fq_run.proofs.PipelineStepLemmas.{run-finished}
+use Rattle.fq_run.proofs.PipelineLemmas.{IsEnding, ending-begins, ending-can, ending-ends, ending-faults, ending-on, ending-part}
 use Rattle.fq_run.proofs.pipeline.Pipeline.finish.Goals as goal
 
-pub loop-running-init : goal.loop-running-init
-loop-running-init c ms rows before after taken chain =
-    subst (λ (rs : List Running). EndedSoFar rs ms rows after (record { batch = None; fault = None })) (sym c.deref_mut-running-items.ensures.value) (ended-start c.args.self.now.operators.items ms rows before after taken chain)
+pub loop-place-init : goal.loop-place-init
+loop-place-init g c = (refl, λ w rows out run. ending-begins {S = g.row.S.Denot} g.S.RowSink.has w rows out c.args.sink.now c.args.self.now.operators.items run)
+
+pub index_mut-requires : goal.index_mut-requires
+index_mut-requires g c = omega (arith, c.loop-place.invariant.0, c.loop-place-test.true, c.len-place-end.ensures, c.args.self.now.operators.ok.0, c.loop-place.self.operators.ok.0)
 
 pub finish-requires : goal.finish-requires
-finish-requires c = let l = c.loop-running in let w = c.requires.0 in let rows = c.requires.1.0 in let h = c.requires.1.1.1 in
-    end-can (get_or l.running-items l.running-index c.running-item.result) (drop (l.running-index + 1) l.running-items) w.transforms rows w.after l.passed
-    (subst (λ (rs : List Running). EndedSoFar rs w.transforms rows w.after l.passed) (split-next l.running-items l.running-index c.running-item.result (omega arith))
-    (l.invariant w.transforms rows w.before w.after h.taken h.chain))
+finish-requires g c =
+    let r = c.requires in
+    ending-can {S = g.row.S.Denot} g.S.RowSink.has r.0 r.1.0 r.1.1.0 c.args.sink.now c.loop-place.self.operators.items c.loop-place.place c.index_mut.result.now c.loop-place.sink (c.loop-place.invariant.1 r.0 r.1.0 r.1.1.0 r.1.1.1)
+    (omega (arith, c.loop-place.invariant.0, c.loop-place-test.true, c.len-place-end.ensures, c.args.self.now.operators.ok.0)) c.index_mut.ensures.value
 
-pub loop-running-preserved : goal.loop-running-preserved
-loop-running-preserved c ms rows before after taken chain = let l = c.loop-running in
-    ended-next l.running-items l.running-index c.finish.new.self c.running-item.result ms rows after l.passed c.in_ok-passed.passed (omega arith) c.in_ok-passed.ensures (l.invariant ms rows before after taken chain)
+pub pass-requires-clause-place : goal.pass-requires-clause-place
+pass-requires-clause-place g c =
+    let long = length-set c.loop-place.self.operators.items c.loop-place.place c.finish.new.self in
+    omega (arith, long, c.loop-place.invariant.0, c.loop-place-test.true, c.len-place-end.ensures, c.args.self.now.operators.ok.0)
 
-pub returns : goal.returns
-returns c = let l = c.loop-running in
-    run-finished c.args.self.now.operators.items l.passed
-    (λ ms rows before after taken chain. ended-all l.running-items l.running-index ms rows after l.passed (omega arith) (l.invariant ms rows before after taken chain))
+pub pass-requires-clause-can : goal.pass-requires-clause-can
+pass-requires-clause-can g c =
+    let r = c.requires in
+    ending-part {S = g.row.S.Denot} g.S.RowSink.has r.0 r.1.0 r.1.1.0 c.args.sink.now c.loop-place.self.operators.items c.loop-place.place c.index_mut.result.now c.finish.new.self c.in_ok-left.left c.in_ok-left.ensures c.loop-place.sink (c.loop-place.invariant.1 r.0 r.1.0 r.1.1.0 r.1.1.1) (omega (arith, c.loop-place.invariant.0, c.loop-place-test.true, c.len-place-end.ensures, c.args.self.now.operators.ok.0)) c.index_mut.ensures.value
+
+pub returns-in_err-pass-clause-ends : goal.returns-in_err-pass-clause-ends
+returns-in_err-pass-clause-ends g c =
+    let exit = err_from_is_err_and c.from_residual-in_err-pass.result c.from_residual-in_err-pass.ensures.1 in
+    rw (exit.1, exit.2) (elim c.in_err-pass.ensures.ends [
+      | inl memory ↦ inl memory
+      | inr ends ↦ inr (λ w rows out run. ending-faults {S = g.row.S.Denot} g.S.RowSink.has w rows out c.args.sink.now c.loop-place.self.operators.items c.loop-place.place c.index_mut.result.now c.finish.new.self c.in_ok-left.left c.in_ok-left.ensures c.loop-place.sink (c.loop-place.invariant.1 w rows out run) (omega (arith, c.loop-place.invariant.0, c.loop-place-test.true, c.len-place-end.ensures, c.args.self.now.operators.ok.0)) c.index_mut.ensures.value c.in_err-pass.field-0.0 ends)
+    ])
+
+pub loop-place-preserved : goal.loop-place-preserved
+loop-place-preserved g c = (
+  c.in_ok-pass.ensures.kept.0 ∙ length-set c.loop-place.self.operators.items c.loop-place.place c.finish.new.self ∙ c.loop-place.invariant.0,
+  λ w rows out run. ending-on {S = g.row.S.Denot} g.S.RowSink.has w rows out c.args.sink.now c.loop-place.self.operators.items c.loop-place.place c.index_mut.result.now c.finish.new.self c.in_ok-left.left c.in_ok-left.ensures c.loop-place.sink (c.loop-place.invariant.1 w rows out run) (omega (arith, c.loop-place.invariant.0, c.loop-place-test.true, c.len-place-end.ensures, c.args.self.now.operators.ok.0)) c.index_mut.ensures.value c.pass.new.self.operators.items c.pass.new.sink c.in_ok-pass.ensures.goes_on,
+)
+
+pub returns-clause-all : goal.returns-clause-all
+returns-clause-all g c w rows out run h =
+    ending-ends {S = g.row.S.Denot} g.S.RowSink.has w rows out c.args.sink.now c.loop-place.sink
+    (subst (λ (rs : List Running). IsEnding {S = g.row.S.Denot} g.S.RowSink.has w rows out c.args.sink.now c.loop-place.sink rs)
+    (drop_all c.loop-place.place c.loop-place.self.operators.items (omega (arith, c.loop-place.invariant.0, c.loop-place-test.false, c.len-place-end.ensures, c.args.self.now.operators.ok.0)))
+    (c.loop-place.invariant.1 w rows out run)) h

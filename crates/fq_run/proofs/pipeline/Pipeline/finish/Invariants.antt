@@ -1,10 +1,9 @@
-use Rattle.std.proofs.Common.{List, drop}
-use Rattle.fq_column.specs.Frame.{Fields, Row}
-use Rattle.fq_run.specs.Transforms.{Chain, Transform}
-use Rattle.fq_run.specs.RunningOperators.{HaveTaken}
-use Rattle.fq_run.proofs.PipelineLemmas.{EndedSoFar}
+use Rattle.std.proofs.Common.{◌≡◌, List, drop, length}
+use Rattle.fq_column.specs.Frame.{Row}
+use Rattle.fq_run.specs.Pipelines.{HasRun, Transforming}
+use Rattle.fq_run.proofs.PipelineLemmas.{IsEnding}
 use Rattle.fq_run.proofs.pipeline.Pipeline.finish.Given as goal
 
-abbrev pub invariant-loop-running : goal.invariant-loop-running
-invariant-loop-running l = (ms : List Transform) (rows : List Row) (before after : Fields) → HaveTaken l.fn.self.operators.items ms rows → Chain before ms after →
-    EndedSoFar (drop l.running-index l.running-items) ms rows after l.passed
+abbrev pub invariant-loop-place : goal.invariant-loop-place
+invariant-loop-place g l = (length l.self.operators.items ≡ length l.fn.self.operators.items)
+    × ((w : Transforming) (rows out : List Row) → HasRun l.fn.self.operators.items w rows out → IsEnding g.S.RowSink.has w rows out l.fn.sink l.sink (drop l.place l.self.operators.items))

@@ -44,4 +44,4 @@ returns c after fits =
     let l = c.loop-number in let i = l.number in let sides = c.args.sides.items in let before = c.args.schema.now in let stages = c.args.stages.now in
     let all = started-all sides before stages after fits l.operators.items l.at.now
     (subst (λ (ss : List Stage). StartedSoFar sides before stages after l.operators.items l.at.now ss) (drop_all i stages (omega arith)) (l.invariant.started after fits)) in
-    (c.in_ok-copy.ensures ∙ all.0, all.1)
+    all.1

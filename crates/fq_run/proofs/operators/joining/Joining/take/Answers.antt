@@ -1,20 +1,19 @@
-use Rattle.std.proofs.Common.{◌≡◌, ◌∙◌, ap, sym, Option, ℕ, ◌-◌, arith, length}
-use Rattle.std.specs.Option.{option_map}
-use Rattle.fq_run.specs.declared.faults.Fault.TheVariants.{JoinRows}
-use Rattle.fq_run.proofs.OperatorLemmas.{join-bound, joined-next}
-use Rattle.fq_run.proofs.operators.joining.Joining.take.Goals.{Joined-fault, in-Some, in-None}
+use Rattle.std.proofs.Common.{[], ap}
+use Rattle.std.proofs.lemmas.Result.{IfOk-weaker}
+use Rattle.fq_run.proofs.OperatorLemmas.{giving-start}
 use Rattle.fq_run.proofs.operators.joining.Joining.take.Goals as goal
 
-pub overflow_sub-self : goal.overflow_sub-self
-overflow_sub-self c = let j = c.args.self.now in
-    omega (arith, c.rows.ensures.rows, ap length c.in_ok-batch.ensures.rows, join-bound j.how j.table.nulls_equal c.args.batch.fields j.table.fields j.table.on j.table.rows j.room c.args.batch.rows)
-
-fault-is : (c : Joined-fault) → c.match-fault.fault ≡ option_map (λ _. JoinRows c.args.self.now.number) c.in_ok-batch.field-0.fault
-fault-is c = elim c.match-fault.branch [
-  | in-Some w ↦ w.fault-is ∙ sym (ap (λ (o : Option ℕ). option_map (λ _. JoinRows c.args.self.now.number) o) w.in-Some.is)
-  | in-None w ↦ w.fault-is ∙ sym (ap (λ (o : Option ℕ). option_map (λ _. JoinRows c.args.self.now.number) o) w.in-None.is)
-]
+pub go_on-requires : goal.go_on-requires
+go_on-requires c =
+    let m = c.requires.0 in
+    let rows = c.requires.1.0 in
+    let same = c.requires.1.1.0 in
+    let t = c.requires.1.1.1 in
+    let e = c.new-probe.ensures in
+    (m, (rows, (c.args.batch, ([], giving-start c.args.self.now m rows c.args.batch c.new-probe.result t same (e.parts.0, e.parts.1, ap (λ f. f.given) e.parts.2) (e.all c.args.self.now.table)))))
 
 pub returns : goal.returns
-returns c m rows same unended h = let made = c.in_ok-batch.field-0 in let j = c.args.self.now in
-    joined-next j m rows c.args.batch h same unended made.batch made.fault c.match-fault.fault (j.room - c.rows.result) (fault-is (goal.at.returns c).Joined-fault) (ap (λ n. j.room - n) c.rows.ensures.rows) c.in_ok-batch.ensures.fields c.in_ok-batch.ensures.rows c.in_ok-batch.ensures.fault
+returns c =
+    let e = c.new-probe.ensures in
+    IfOk-weaker c.go_on.result _ _ (λ p made m rows same t.
+    made m rows c.args.batch [] (giving-start c.args.self.now m rows c.args.batch c.new-probe.result t same (e.parts.0, e.parts.1, ap (λ f. f.given) e.parts.2) (e.all c.args.self.now.table))) c.go_on.ensures

@@ -1,7 +1,7 @@
 use Rattle.std.proofs.Common.{◌≡◌, ◌++◌, map, None}
 use Rattle.fq_run.specs.Gathering.{gathered_stream}
 use Rattle.fq_run.specs.Sources.{first_fault}
-use Rattle.fq_run.proofs.main_stream.whole_batches.Given as goal
+use Rattle.fq_run.proofs.gathering.whole_batches.Given as goal
 
 abbrev pub invariant-loop-source : goal.invariant-loop-source
 invariant-loop-source l =

@@ -4,7 +4,7 @@ use Rattle.fq_run.specs.Gathering.{gathered_stream}
 use Rattle.fq_run.specs.Sources.{first_fault}
 use Rattle.fq_run.specs.declared.gathering.Gathered.{Gathered}
 use Rattle.fq_run.proofs.SourceFaultLemmas.{fault-found, still-none}
-use Rattle.fq_run.proofs.main_stream.whole_batches.Goals as goal
+use Rattle.fq_run.proofs.gathering.whole_batches.Goals as goal
 
 pub returns-in-Some-fault-clause-fault : goal.returns-in-Some-fault-clause-fault
 returns-in-Some-fault-clause-fault c =
