@@ -1,6 +1,5 @@
 """Builds programs that are kept as text, over copies of the crates: the gate takes no file of Rattle outside of a crate that it proves."""
 import os
-import shutil
 import subprocess
 import sys
 
@@ -26,9 +25,7 @@ def build(folder, name, program, crates, proof=None, replaced=()):
     and what takes its place.
     """
     own = f"{folder}/crates/{name}"
-    lines = {line.split(":")[0].split()[0]: line for line in read(f"{ROOT}/crates.txt").splitlines() if line.strip()}
-    for crate in crates:
-        shutil.copytree(f"{ROOT}/crates/{crate}", f"{folder}/crates/{crate}", ignore=shutil.ignore_patterns("out"))
+    subprocess.run([f"{ROOT}/tools/stage", folder, *crates], check=True)
     for path, old, new in replaced:
         text = read(f"{folder}/{path}")
         if text.count(old) != 1:
@@ -37,8 +34,7 @@ def build(folder, name, program, crates, proof=None, replaced=()):
     write(f"{own}/src/main.rt", read(program))
     if proof:
         write(f"{own}/proofs/{proof[1]}", read(proof[0]))
-    write(f"{folder}/crates.txt", "\n".join([*(lines[crate] for crate in crates), f"{name}: {' '.join(crates)}", ""]))
-    shutil.copy(f"{ROOT}/HANDLES", folder)
+    write(f"{folder}/crates.txt", read(f"{folder}/crates.txt") + f"{name}: {' '.join(crates)}\n")
     # (this runs the program too, without input: what it then prints or answers says nothing)
     ran = subprocess.run(["rt", "run"], cwd=own, stdin=subprocess.DEVNULL, stdout=subprocess.PIPE, stderr=subprocess.STDOUT, check=False)
     if not os.access(f"{own}/out/{name}", os.X_OK):
