@@ -4,7 +4,7 @@ import sys
 import unittest
 
 ROOT = os.path.dirname(os.path.dirname(os.path.dirname(os.path.abspath(__file__))))
-sys.path[:0] = [os.path.join(ROOT, "python"), os.path.join(ROOT, "differential")]
+sys.path[:0] = [os.path.join(ROOT, "python"), os.path.join(ROOT, "tests", "differential")]
 
 import frameq as fq  # noqa: E402
 from frameq._program import find_program  # noqa: E402

@@ -10,7 +10,7 @@ import sys
 from calls import HERE, KIT, ROOT
 from counts import LONGEST_RUN, together, write
 
-sys.path.insert(0, f"{ROOT}/differential")
+sys.path.insert(0, f"{ROOT}/tests/differential")
 import cases
 import oracle
 

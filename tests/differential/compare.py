@@ -1,7 +1,7 @@
 #!/usr/bin/env python3
 """Compares frameq with a second implementation of its definitions, on random plans and files.
 
-    differential/compare.py [--cases N] [--seed S] [--version V] [--rows N] [--program PATH]
+    tests/differential/compare.py [--cases N] [--seed S] [--version V] [--rows N] [--program PATH]
 
 Each case runs at five settings, one of them random, and, if it has one file, also without arguments. If it has 16 files, the
 random setting has 16 workers. Output, exit status and the line on standard error are compared byte by byte. At the first
@@ -19,7 +19,7 @@ from collections import Counter, namedtuple
 import cases
 import oracle
 
-ROOT = os.path.dirname(os.path.dirname(os.path.abspath(__file__)))
+ROOT = os.path.dirname(os.path.dirname(os.path.dirname(os.path.abspath(__file__))))
 LONGEST_RUN = 60  # seconds
 SETTINGS = [[], ["--batch", "1", "--workers", "1"], ["--batch", "2", "--workers", "16"], ["--batch", "3", "--workers", "3"]]
 

@@ -1,4 +1,4 @@
-/* Refuses one of the calls that a program makes of the C library. faults/run loads it before that library (LD_PRELOAD).
+/* Refuses one of the calls that a program makes of the C library. tests/faults/run loads it before that library (LD_PRELOAD).
 
    REFUSE has the sort of the calls, and which of them is refused, counted from 1, as 'memory 7':
 

@@ -1,4 +1,4 @@
-"""Rows of calls of the libraries, in which each allocation fails in turn: the trials of trials/src/refusals.rt.txt."""
+"""Rows of calls of the libraries, in which each allocation fails in turn: the tests of tests/calls/src/refusals.rt.txt."""
 import os
 import re
 import shutil
@@ -8,7 +8,7 @@ import time
 from counts import LONGEST_RUN, together
 
 HERE = os.path.dirname(os.path.abspath(__file__))
-ROOT = os.path.dirname(HERE)
+ROOT = os.path.dirname(os.path.dirname(HERE))
 KIT = os.path.dirname(os.path.dirname(os.path.realpath(shutil.which("rt") or "/bin/rt")))
 LONGEST_BUILD = 900  # seconds
 
@@ -23,11 +23,11 @@ def build_calls(room):
     second name while the tests run.
     """
     os.mkdir(room)
-    subprocess.run([f"{ROOT}/trials/stage", f"{room}/staged"], check=True)
+    subprocess.run([f"{ROOT}/tests/calls/stage", f"{room}/staged"], check=True)
     program, said = f"{room}/calls", f"{room}/said"
     command = ["rt", "try", "--test", "--fail-alloc", str(FAILED_ALLOCATION), "--", "refusals::"]
     with open(said, "wb") as out:
-        tried = subprocess.Popen(command, cwd=f"{room}/staged/crates/fq_trials", stdin=subprocess.DEVNULL, stdout=out, stderr=out,
+        tried = subprocess.Popen(command, cwd=f"{room}/staged/crates/fq_calls", stdin=subprocess.DEVNULL, stdout=out, stderr=out,
                                  env={**os.environ, "TMPDIR": room})
         began = time.monotonic()
         while tried.poll() is None and time.monotonic() - began < LONGEST_BUILD:
