@@ -398,7 +398,8 @@ def csv_file(draw, columns, most_rows, care, nulls):
 
 
 def files_of(draw, value, rows):
-    """Files for all sources. Seldom the main source is large, with more rows than a batch has by default, unless the most rows are given."""
+    """Files for all sources. Seldom the main source is large, with more rows than a batch has by default, unless the most rows are
+    given."""
     care = Care(edges=draw.choice([0, 0, 2, 25]), long=draw.choice([0] * 29 + [8]), wrong=draw.choice([0, 0, 0, 0.5, 4]))
     files = []
     for place, one in enumerate(value["sources"]):

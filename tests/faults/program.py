@@ -74,27 +74,35 @@ ROWS = [
 ]
 
 # Arguments that run no plan, after the status that they give.
-ARGUMENTS = [(0, "--help"), (2, "--nope"), (2, "--plan"), (2, "--plan", "p", "--workers", "17", "a"), (2, "--plan", "p", "--batch", "x", "a")]
+ARGUMENTS = [(0, "--help"), (2, "--nope"), (2, "--plan"), (2, "--plan", "p", "--workers", "17", "a"),
+             (2, "--plan", "p", "--batch", "x", "a")]
 
 # Plans and files that fault, the status, the line, and what --details says after it, of the plan P and the file F.
 DETAILS = [
-    ("a bad cell", plan([source(1, "x int")], ""), "x\n\n1\nz\n", 4, "file 0, row 2, column 0: bad cell", '  F:4: column "x": "z" is not an int\n'),
+    ("a bad cell", plan([source(1, "x int")], ""), "x\n\n1\nz\n", 4, "file 0, row 2, column 0: bad cell",
+        '  F:4: column "x": "z" is not an int\n'),
     ("a header", plan([source(1, "x int")], ""), "y\n1\n", 4, "file 0: header differs", '  F:1: column 0 is "y", the plan has "x"\n'),
     ("a width", plan([source(1, "x int", "t text")], ""), 'x,t\n1,a\n2"\n', 4, "file 0, row 2: wrong number of fields",
         "  F:3: 1 field, the header has 2\n"),
-    ("a sum", plan([source(1, "x int")], '{"filter":["gt",["add",{"col":"x"},1],0]}'), "x\n9223372036854775807\n", 4, "step 0, item 0: overflow",
-        "  filter\n"),
-    ("a shape", '{"version":1,"sources":[],"steps":[]}', "", 3, "plan: wrong shape", "  P: sources: [] has no source; a plan has at least one\n"),
+    ("a sum", plan([source(1, "x int")], '{"filter":["gt",["add",{"col":"x"},1],0]}'), "x\n9223372036854775807\n", 4,
+        "step 0, item 0: overflow", "  filter\n"),
+    ("a shape", '{"version":1,"sources":[],"steps":[]}', "", 3, "plan: wrong shape",
+        "  P: sources: [] has no source; a plan has at least one\n"),
     ("a column", plan([source(1, "x int")], OVER_TEN), "", 3, "plan: step 0: no such column", '  "v"; there are "x"\n'),
 ]
 
 
-# Files that are reviewed: the options, of the plan P and the file F, the plan, the file, the answer, and what is said of the file before a line.
+# Files that are reviewed: the options, of the plan P and the file F, the plan, the file, the answer, and what is said of the file before
+# a line.
 X_INT = plan([source(1, "x int")], "")
-DRAFTED = '{\n  "version": 2,\n  "sources": [\n    {\n      "files": 1,\n      "columns": [\n        ["x", "text"]\n      ]\n    }\n  ],\n  "steps": []\n}\n'
+DRAFTED = (
+    '{\n  "version": 2,\n  "sources": [\n    {\n      "files": 1,\n      "columns": [\n        ["x", "text"]\n      ]\n    }\n  ],\n'
+    '  "steps": []\n}\n'
+)
 REVIEWS = [
     ("a check", ("--plan", "P", "--check", "F"), X_INT, 'x\n\n1\nz\n2,3\n"4"5\nz\n', fault(4, "the files have problems"),
-        'F:4: column "x": "z" is not an int\nF:5: 2 fields, the header has 1\nF:6: text follows a closing quote\nF:7: column "x": "z" is not an int\n'
+        'F:4: column "x": "z" is not an int\nF:5: 2 fields, the header has 1\nF:6: text follows a closing quote\n'
+        'F:7: column "x": "z" is not an int\n'
         '2 bad fields. "x": "z" 2\n1 row of another width\n1 flaw of quotes or line ends\n'),
     ("a check that finds nothing", ("--plan", "P", "--check", "F"), X_INT, "x\n1\n\n2\n", frame(""), ""),
     ("a draft", ("--draft", "F"), X_INT, "x\n" + "1\n" * 20 + "a longer text than others\n2,3\n", frame(DRAFTED),
@@ -161,7 +169,8 @@ def is_allowed(sort, answer, own):
     if sort in ("open", "keep") and answer == Answer(5, "", WRITE_LINE):
         return True
     if sort in ("open", "read"):
-        return answer == NO_PLAN or bool(re.fullmatch(r"frameq: read failed: file \d+\n", answer.err)) and answer.status == 5 and not answer.out
+        is_failed = re.fullmatch(r"frameq: read failed: file \d+\n", answer.err) and answer.status == 5 and not answer.out
+        return answer == NO_PLAN or bool(is_failed)
     if sort == "write" and own.status == 0:
         return answer.status == 5 and answer.err == WRITE_LINE and own.out.startswith(answer.out)
     # a line on standard error that is not written to its end changes no status
@@ -281,7 +290,8 @@ def try_reviews(count, pool, program, library, room):
     for name, options, own_plan, rows, own, said in REVIEWS:
         run = Reviewed(program, f"{room}/{name.replace(' ', '-')}", options, own_plan, rows, own, said)
         answer = run.whole()
-        count.add("program, reviews", f"status {own.status}", None if answer == own._replace(err=run.said + own.err) else f"{name}: {answer}")
+        is_right = answer == own._replace(err=run.said + own.err)
+        count.add("program, reviews", f"status {own.status}", None if is_right else f"{name}: {answer}")
         runs.append((name, run, own))
     together(((try_sort, count, *it, library, sort) for it in runs for sort in SORTS), pool)
 
@@ -292,7 +302,8 @@ def try_details(count, pool, program, library, room):
     for name, own_plan, rows, status, line, details in DETAILS:
         run, own = Detailed(program, f"{room}/details-{name.replace(' ', '-')}", own_plan, rows, details), fault(status, line)
         answer = run.whole()
-        count.add("program, details", f"status {status}", None if answer == own._replace(err=own.err + run.details) else f"{name}: {answer}")
+        is_right = answer == own._replace(err=own.err + run.details)
+        count.add("program, details", f"status {status}", None if is_right else f"{name}: {answer}")
         runs.append((f"{name}, with details", run, own))
     together(((try_sort, count, *it, library, sort) for it in runs for sort in SORTS), pool)
 
@@ -321,7 +332,8 @@ def makes(run, library, sort, number):
 def try_setting(count, name, run, library, sort, least, most):
     """Whether a run makes at least and at most so many calls of a sort."""
     fits = makes(run, library, sort, least) and not makes(run, library, sort, most + 1)
-    count.add("program, settings", "as asked for" if fits else "otherwise", None if fits else f"{name}: not {least} to {most} calls, {sort}")
+    wrong = None if fits else f"{name}: not {least} to {most} calls, {sort}"
+    count.add("program, settings", "as asked for" if fits else "otherwise", wrong)
 
 
 def try_settings(count, program, library, room):

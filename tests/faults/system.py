@@ -157,7 +157,8 @@ def outputs(count, program, room):
             with open(path, encoding="utf-8") as opened:
                 said = opened.read()
         new = [it for it in os.listdir(room) if it.startswith(".frameq")]
-        check(count, "output file", f"{what}: holds {said!r}, beside it {new}", answer, lambda it: it == wanted and said == holds and not new)
+        is_right = lambda it: it == wanted and said == holds and not new
+        check(count, "output file", f"{what}: holds {said!r}, beside it {new}", answer, is_right)
 
     done, failed = Answer(0, "", ""), Answer(5, "", WRITE_LINE)
     into("a new file", f"{room}/new.csv", data, done, text)
@@ -200,7 +201,8 @@ def read_terminal(controller):
 def terminal(count, program, room):
     """A terminal as standard input, without arguments, and as standard error, which shows how much is read."""
     text = "v\n" + "1234567\n" * 300_000
-    watched = ["--progress", "--plan", write(f"{room}/megabytes.json", plan([source(1, "v int")], "")), write(f"{room}/megabytes.csv", text)]
+    watched = ["--progress", "--plan", write(f"{room}/megabytes.json", plan([source(1, "v int")], "")),
+               write(f"{room}/megabytes.csv", text)]
     shown = "\r\x1b[K".join(["", "frameq: file 0: 1 of 2 MB", "frameq: file 0: 2 of 2 MB", "", ""])  # at the file's end, and the run's
     controller, terminal = pty.openpty()
     answer = program.run([], stdin=terminal)
@@ -281,7 +283,8 @@ def try_system(count, pool, program, room):
     rows = large_rows(room)
     small = [(it.name, program.arguments[it.name], it.answer) for it in ROWS if it.answer.status == 0 and it.options is not None]
     parts = [(stack_sizes, count, program, rows), (devices, count, program, rows), (early_reader, count, program, rows),
-             (open_files, count, program, small + rows), (folders, count, program, room), (pipes, count, program, room), (shrinking_files, count, program, room),
+             (open_files, count, program, small + rows), (folders, count, program, room), (pipes, count, program, room),
+             (shrinking_files, count, program, room),
              (outputs, count, program, room), (terminal, count, program, room),
              (threads, count, program, small + rows)]
     together(parts, pool)
