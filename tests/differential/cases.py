@@ -16,7 +16,8 @@ NAMES = ["a", "b", "c", "d", "e", "k", "a_right", "é", "x,y", ""]
 UNKNOWN = "nowhere"
 EDGES = [GREATEST, GREATEST - 1, LEAST, LEAST + 1]
 SMALL = [0, 0, 1, 1, 2, 3, -1, -7, 10]
-TEXTS = ["", "x", "y", "zz", "é", "\U0001f600", 'a"b', '"q"', "p,q", "l\nm", "l\rm", "true", "7", "sixteen bytes ab", "sixteen bytes abc"]
+TEXTS = ["", "x", "y", "zz", "é", "\U0001f600", 'a"b', '"q"', "p,q", "l\nm", "l\rm", "true", "7", "sixteen bytes ab",
+         "twenty-four bytes in all", "twenty-five bytes in all."]
 
 
 class Draw(random.Random):

@@ -1,5 +1,5 @@
 -- What contracts see of an array, under the changes of its values and marks.
-use Rattle.std.proofs.Common.{◌≡◌, ℕ, zero, suc, ◌<◌, set, refl, Bool, List, [], ◌∷◌, ◌++◌, length, take, get_or, ap, sym, ◌∙◌, Some, None, Option, true, false, arith}
+use Rattle.std.proofs.Common.{◌≡◌, ℕ, zero, suc, ◌<◌, set, refl, Bool, List, [], ◌∷◌, ◌++◌, length, take, get_or, ap, sym, ◌∙◌, Some, None, Option, replicate, true, false, arith}
 use Rattle.std.specs.Prelude.{slice_get}
 use Rattle.std.proofs.lemmas.List.{get_or_default}
 use Rattle.fq_column.specs.Lists.{zip_with, value_if, keep}
@@ -37,3 +37,9 @@ array_of-set [] (y ∷ values) i x e = absurd (omega (arith, e))
 array_of-set (m ∷ marks) [] i x e = absurd (omega (arith, e))
 array_of-set (m ∷ marks) (y ∷ values) zero x e = refl
 array_of-set (m ∷ marks) (y ∷ values) (suc i) x e = ap (λ zs. value_if m y ∷ zs) (array_of-set marks values i x (omega (arith, e)))
+
+pub array_of-missing : {X : Type 0} (n : ℕ) (values : List X) → length values ≡ n → zip_with value_if (replicate n false) values ≡ replicate n None
+array_of-missing zero [] e = refl
+array_of-missing zero (x ∷ values) e = absurd (omega (arith, e))
+array_of-missing (suc n) [] e = absurd (omega (arith, e))
+array_of-missing (suc n) (x ∷ values) e = ap (λ xs. None ∷ xs) (array_of-missing n values (omega (arith, e)))

@@ -36,26 +36,6 @@ pub none_under : (o : Option ℕ) → option_map suc o ≡ None → o ≡ None
 none_under None f = refl
 none_under (Some j) f = absurd (cc)
 
--- a place in the front part of a list is the place in the whole
-pub position-append : {X : Type 0} (p : X → Bool) (xs ys : List X) (i : ℕ) → position p xs ≡ Some i → position p (xs ++ ys) ≡ Some i
-position-append p [] ys i e = absurd (cc)
-position-append p (x ∷ xs) ys i e = position-cons p x (xs ++ ys) ∙ go (λ j f. position-append p xs ys j f) (p x) i (sym (position-cons p x xs) ∙ e)
-  where
-    go : ((j : ℕ) → position p xs ≡ Some j → position p (xs ++ ys) ≡ Some j) → (b : Bool) (i : ℕ) →
-        cond b (Some 0) (option_map suc (position p xs)) ≡ Some i → cond b (Some 0) (option_map suc (position p (xs ++ ys))) ≡ Some i
-    go rest true i f = f
-    go rest false i f = let w = some_under (position p xs) i f in ap (option_map suc) (rest w.0 w.1) ∙ ap Some w.2
-
--- a list without a place for p, with one that passes after it
-pub position-push : {X : Type 0} (p : X → Bool) (xs : List X) (y : X) (ys : List X) → position p xs ≡ None → p y ≡ true → position p (xs ++ y ∷ ys) ≡ Some (length xs)
-position-push p [] y ys e h = position-cons p y ys ∙ ap (λ b. cond b (Some 0) (option_map suc (position p ys))) h
-position-push p (x ∷ xs) y ys e h = position-cons p x (xs ++ y ∷ ys) ∙ go (λ f. position-push p xs y ys f h) (p x) (sym (position-cons p x xs) ∙ e)
-  where
-    go : (position p xs ≡ None → position p (xs ++ y ∷ ys) ≡ Some (length xs)) → (b : Bool) →
-        cond b (Some 0) (option_map suc (position p xs)) ≡ None → cond b (Some 0) (option_map suc (position p (xs ++ y ∷ ys))) ≡ Some (length (x ∷ xs))
-    go rest true f = absurd (cc)
-    go rest false f = ap (option_map suc) (rest (none_under (position p xs) f))
-
 module _ {X : Type 0} where
   -- at most one more
   pub length-put_named-most : (ps : List (Name × X)) (x : Name × X) → length (put_named ps x) ≤ suc (length ps)

@@ -1,12 +1,12 @@
 -- Marks in words, under the changes of a list of marks.
-use Rattle.std.proofs.Common.{◌≡◌, ◌<◌, ◌≤◌, ◌⊎◌, ◌+◌, ◌*◌, ◌/◌, ◌%◌, ◌∙◌, ℕ, zero, suc, Bool, true, false, List, [], ◌∷◌, ◌++◌, Some, ap, arith, cond, get_or, inl, inr, length, min, refl, set, sym, take}
+use Rattle.std.proofs.Common.{◌≡◌, ◌<◌, ◌≤◌, ◌⊎◌, ◌+◌, ◌*◌, ◌/◌, ◌%◌, ◌∙◌, ℕ, zero, suc, Bool, true, false, List, [], ◌∷◌, ◌++◌, Some, ap, arith, cond, get_or, inl, inr, length, min, refl, replicate, set, sym, take}
 use Rattle.std.specs.Prelude.{slice_get, if◌then◌else◌}
 use Rattle.std.specs.Bool.{◌==◌}
 use Rattle.std.specs.Int.{bit_at}
 use Rattle.std.proofs.lemmas.Bool.{cases_eq, cases_lt, eq-eqb, ne_eqb}
-use Rattle.std.proofs.lemmas.List.{append-nil, append_assoc, get_or_append_left, get_or-append-add, get_or-take, get_or_past, get_or-set_same, get_or-set_other, length-set, length-take-le, same_lists, take_all, take_more}
+use Rattle.std.proofs.lemmas.List.{append-nil, append_assoc, get_or_append_left, get_or-append-add, get_or-replicate, get_or-take, get_or_past, get_or-set_same, get_or-set_other, length-replicate, length-set, length-take-le, same_lists, take_all, take_more}
 use Rattle.std.proofs.lemmas.List.FromFn.{get_or-map-range_with_len, length-map-range_with_len, map-range_with_len_more, take-map-range_with_len}
-use Rattle.std.proofs.lemmas.Nat.Bits.{bit_at_ones}
+use Rattle.std.proofs.lemmas.Nat.Bits.{bit_at-zero, bit_at_ones}
 use Rattle.std.proofs.lemmas.Option.{slice_get-get_or}
 use Rattle.fq_column.specs.Lists.{keep}
 use Rattle.fq_column.specs.Validity.{mark_at, marks, word_at}
@@ -174,3 +174,11 @@ pub marks-behind : (words others : List ℕ) (n m : ℕ) → length words ≤ n 
 marks-behind words others n m l none =
     marks-append words others words n m (λ i b. refl)
     (λ j b. mark-behind words (n + j) (omega (arith, l)) ∙ sym (mark-behind others j (omega (arith, none))))
+
+-- words with no bit
+pub marks-zero : (words : List ℕ) (n : ℕ) → n ≤ length words * 64 → ((k d : ℕ) → k < length words → get_or words k d ≡ 0) → marks words n ≡ replicate n false
+marks-zero words n room bits =
+    same_lists (marks words n) (replicate n false) (length-marks words n ∙ sym (length-replicate n false))
+    (λ k d l. let below : k < n = omega (arith, l, length-marks words n) in
+    mark-at words n k d below ∙ ap (λ w. bit_at w (k % 64) == 1) (bits (k / 64) all-bits (omega (arith, below, room)))
+    ∙ ap (λ b. b == 1) (bit_at-zero (k % 64)) ∙ sym (get_or-replicate n k false d below))

@@ -4,7 +4,6 @@ pub mod Column
 pub mod Examples
 pub mod Frame
 pub mod Lists
-pub mod Piece
 pub mod Refusal
 pub mod Schema
 pub mod SchemaLaws

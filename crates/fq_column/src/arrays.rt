@@ -121,11 +121,12 @@ impl<T: Element> Array<T> {
     pub fn nulls(alloc: Global, count: usize) -> Result<Array<T>, Memory>
         ensures { IfOk result (λ a. a ≡ replicate count None) }
     {
-        let mut array = Array::with_capacity(alloc, count)?;
+        let validity = Validity::missing(alloc, count)?;
+        let mut values = Vec::with_capacity(alloc, count)?;
         for _ in 0..count {
-            array.push_null()?;
+            values.push(T::filler())?;
         }
-        Ok(array)
+        Ok(Array { values, validity })
     }
 
     /// The allocator of the values.

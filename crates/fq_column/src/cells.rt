@@ -33,7 +33,7 @@ pub enum Cell {
 }
 
 impl Cell {
-    /// An equal cell in memory of its own; allocates for a text of more than 16 bytes.
+    /// An equal cell in memory of its own; allocates for a text of more than 24 bytes.
     pub fn copy(&self, alloc: Global) -> Result<Cell, Memory>
         ensures { IfOk result (λ c. c ≡ self.now) }
     {
@@ -43,5 +43,17 @@ impl Cell {
             Cell::Text(text) => Ok(Cell::Text(text.copy(alloc)?)),
             Cell::Truth(value) => Ok(Cell::Truth(*value)),
         }
+    }
+}
+
+impl Default for Cell {
+    ghost use Rattle.std.specs.Prelude.{◌≡◌};
+    ghost use Rattle.fq_column.specs.declared.cells.Cell.TheVariants as cell;
+
+    ghost is_default = { λ c. c ≡ cell.Null };
+
+    /// Null.
+    fn default() -> Cell {
+        Cell::Null
     }
 }

@@ -1,7 +1,8 @@
 //! Columns: cells of one kind.
-ghost use Rattle.std.specs.Prelude.{◌≡◌, ◌<◌, ◌↔◌, ◌++◌, [], ◌∷◌, Some, take, length, map, IsTrue, IfOk, OnOk, OnErr, slice_get};
+ghost use Rattle.std.specs.Prelude.{◌≡◌, ◌<◌, ◌↔◌, ◌++◌, [], ◌∷◌, Some, take, length, map, IsTrue, IfOk, OnOk, OnErr, slice_get, option_copied};
 ghost use Rattle.std.specs.Option.{option_map_or};
-ghost use Rattle.fq_column.specs.Column.{AreOfKind, cells_of};
+ghost use Rattle.fq_column.specs.Cell.{cell_cmp};
+ghost use Rattle.fq_column.specs.Column.{AreOfKind, cells_of, nullable};
 ghost use Rattle.fq_column.specs.Frame.{value_at};
 ghost use Rattle.fq_column.specs.Lists.{keep as kept};
 
@@ -10,6 +11,7 @@ use crate::cells::{Cell, Kind};
 use crate::faults::Memory;
 use crate::texts::Text;
 use std::alloc::Global;
+use std::cmp::Ordering;
 use std::marker::Model;
 
 /// The cells of a column, as an array of its kind.
@@ -149,6 +151,18 @@ impl Column {
         match &self.values {
             Values::Truth(array) => *array.get(i).unwrap(),
             _ => unreachable!(),
+        }
+    }
+
+    /// How cell `i` is ordered beside another cell, as cells are: nothing is copied.
+    pub fn compare(&self, i: usize, other: &Cell) -> Ordering
+        requires { i < length self.now.cells }
+        ensures { result ≡ cell_cmp (value_at i self.now.cells) other.now }
+    {
+        match &self.values {
+            Values::Whole(array) => compare_whole(array.get(i).copied(), other),
+            Values::Text(array) => compare_text(array.get(i), other),
+            Values::Truth(array) => compare_truth(array.get(i).copied(), other),
         }
     }
 
@@ -327,5 +341,42 @@ impl Column {
             Values::Truth(array) => Values::Truth(array.copy(alloc)?),
         };
         Ok(Column { values })
+    }
+}
+
+// How a whole number, or null, is ordered beside a cell.
+fn compare_whole(value: Option<i64>, other: &Cell) -> Ordering
+    ensures { result ≡ cell_cmp (nullable Cell.Whole value) other.now }
+{
+    match (value, other) {
+        (None, Cell::Null) => Ordering::Equal,
+        (Some(_), Cell::Null) => Ordering::Greater,
+        (Some(value), Cell::Whole(other)) => value.cmp(other),
+        _ => Ordering::Less,
+    }
+}
+
+// How a text, or null, is ordered beside a cell.
+fn compare_text(value: Option<&Text>, other: &Cell) -> Ordering
+    ensures { result ≡ cell_cmp (nullable Cell.Text (option_copied value.entry)) other.now }
+{
+    match (value, other) {
+        (None, Cell::Null) => Ordering::Equal,
+        (None, _) => Ordering::Less,
+        (Some(value), Cell::Text(other)) => value.cmp(other),
+        (Some(_), Cell::Truth(_)) => Ordering::Less,
+        (Some(_), _) => Ordering::Greater,
+    }
+}
+
+// How a truth value, or null, is ordered beside a cell.
+fn compare_truth(value: Option<bool>, other: &Cell) -> Ordering
+    ensures { result ≡ cell_cmp (nullable Cell.Truth value) other.now }
+{
+    match (value, other) {
+        (None, Cell::Null) => Ordering::Equal,
+        (None, _) => Ordering::Less,
+        (Some(value), Cell::Truth(other)) => value.cmp(other),
+        (Some(_), _) => Ordering::Greater,
     }
 }

@@ -15,7 +15,7 @@ use std::hash::{Hash, Hasher};
 use std::marker::Model;
 
 /// The most bytes of a text that lies in the cell itself.
-const INLINE: usize = 16;
+const INLINE: usize = 24;
 
 /// Where the bytes of a text lie.
 #[derive(Drop, Debug)]
@@ -28,7 +28,7 @@ enum Storage {
 
 /// A text of a cell. Texts are compared, ordered and hashed by their UTF-8 bytes.
 ///
-/// A copy of up to 16 bytes lies in the value itself, and a longer one is allocated; a text made from a `String` keeps its memory.
+/// A copy of up to 24 bytes lies in the value itself, and a longer one is allocated; a text made from a `String` keeps its memory.
 #[derive(Drop, Debug)]
 pub struct Text {
     storage: Storage,
@@ -53,7 +53,7 @@ impl Text {
         }
     }
 
-    /// A copy of these characters; allocates if they are more than 16 bytes.
+    /// A copy of these characters; allocates if they are more than 24 bytes.
     pub fn new(alloc: Global, text: &str) -> Result<Text, Memory>
         ensures { IfOk result (λ t. t ≡ text.now) }
     {
@@ -97,7 +97,7 @@ impl Text {
         Ok(())
     }
 
-    /// An equal text; allocates if it is more than 16 bytes.
+    /// An equal text; allocates if it is more than 24 bytes.
     pub fn copy(&self, alloc: Global) -> Result<Text, Memory>
         ensures { IfOk result (λ t. t ≡ self.now) }
     {

@@ -1,5 +1,5 @@
 //! Which places of an array have a value.
-ghost use Rattle.std.specs.Prelude.{◌≡◌, ◌<◌, ◌≤◌, ◌/◌, ◌*◌, ◌^◌, ◌+◌, ◌++◌, [], ◌∷◌, ℕ, take, length, if◌then◌else◌, OnOk, OnErr, slice_get, slice_set, true, Some};
+ghost use Rattle.std.specs.Prelude.{◌≡◌, ◌<◌, ◌≤◌, ◌/◌, ◌*◌, ◌^◌, ◌+◌, ◌++◌, [], ◌∷◌, ℕ, List, take, length, replicate, if◌then◌else◌, IfOk, OnOk, OnErr, slice_get, slice_set, true, false, Some};
 ghost use Rattle.std.specs.Bool.{◌==◌};
 ghost use Rattle.fq_column.specs.Lists.{keep as kept};
 ghost use Rattle.fq_column.specs.Validity.{mark_at, marks};
@@ -39,6 +39,15 @@ impl Validity {
             words: Vec::new(alloc),
             len: 0,
         }
+    }
+
+    /// This many places that have no value.
+    pub fn missing(alloc: Global, count: usize) -> Result<Validity, Memory>
+        ensures { IfOk result (λ v. v ≡ replicate count false) }
+    {
+        let mut words = Vec::new(alloc);
+        words.resize(count.div_ceil(BITS), 0)?;
+        Ok(Validity { words, len: count })
     }
 
     /// How many places there are.
@@ -93,7 +102,11 @@ impl Validity {
         requires { length mask.now ≡ length self.old }
         ensures { self.new ≡ kept mask.now self.old }
     {
-        self.len = compact_marks(&mut self.words, mask);
+        self.len = if self.words.is_empty() {
+            count_marked(mask)
+        } else {
+            compact_marks(&mut self.words, mask)
+        };
     }
 
     /// Appends copies of another's places.
@@ -156,6 +169,19 @@ fn write_mark(words: &mut Vec<u64>, i: usize, mark: bool)
     let bit = 1 << (i % BITS);
     let written = if mark { word | bit } else { word & !bit };
     words[i / BITS] = written;
+}
+
+// How many places a mask marks. If no mark lies in a word, all of these have a value.
+fn count_marked(mask: &[bool]) -> usize
+    ensures { (words : List ℕ) → length words ≡ 0 → marks words result ≡ kept mask.now (marks words (length mask.now)) }
+{
+    let mut count = 0;
+    for i in 0..mask.len() {
+        if mask[i] {
+            count += 1;
+        }
+    }
+    count
 }
 
 // Moves the marks of the places that the mask marks to the front, and says how many they are.

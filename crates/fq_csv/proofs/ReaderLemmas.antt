@@ -1,8 +1,10 @@
 -- Records that a reader gives, and their fields.
-use Rattle.std.specs.Prelude.{MatchBool, slice_get}
-use Rattle.std.proofs.Common.{◌≡◌, ◌<◌, ◌∙◌, ℕ, zero, suc, Bool, true, false, List, [], ◌∷◌, Option, None, length, refl, sym, ap, arith}
+use Rattle.std.specs.Prelude.{IsAscii, IsUtf8, MatchBool, slice_get, unwrap_or}
+use Rattle.std.proofs.Common.{◌≡◌, ◌<◌, ◌+◌, ◌-◌, ◌∙◌, ℕ, zero, suc, Bool, true, false, List, [], ◌∷◌, Option, Some, None, length, drop, refl, subst, sym, take, ap, arith}
+use Rattle.std.proofs.lemmas.List.{get_or-drop}
+use Rattle.std.proofs.lemmas.Str.{IsUtf8-from_ascii}
 use Rattle.csv.specs.Reading.{Reached, ReadRecord, default_config}
-use Rattle.csv.specs.Records.{field_at}
+use Rattle.csv.specs.Records.{AllText, cut_from, field_at}
 use Rattle.csv.proofs.ReadFacts.{rows-end, rows-more}
 use Rattle.fq_csv.specs.File.{Record}
 use Rattle.fq_csv.specs.Readers.{HasLeft, IsPlain, records_left, retried}
@@ -36,3 +38,23 @@ unfolding field_at
 field-gone [] i h e = omega (arith, h)
 field-gone (f ∷ fs) zero h e = cc e
 field-gone (f ∷ fs) (suc i) h e = field-gone fs i (omega (arith, h)) e
+
+ascii-take : (n : ℕ) (bytes : List ℕ) → IsAscii bytes → IsAscii (take n bytes)
+ascii-take zero bytes h i = omega arith
+ascii-take (suc n) [] h i = omega arith
+ascii-take (suc n) (b ∷ bytes) h zero = h 0
+ascii-take (suc n) (b ∷ bytes) h (suc i) = ascii-take n bytes (λ j. h (suc j)) i
+
+-- each field of a record of ASCII is a text
+pub ascii-fields : (start : ℕ) (ends bytes : List ℕ) → IsAscii bytes → AllText (cut_from start ends bytes)
+unfolding AllText cut_from
+ascii-fields start [] bytes h = tt
+ascii-fields start (end ∷ ends) bytes h =
+    let rest : IsAscii (drop start bytes) = λ i. rw (get_or-drop start bytes i 0) (h (start + i)) in
+    (IsUtf8-from_ascii _ (ascii-take (end - start) _ rest), ascii-fields end ends bytes h)
+
+pub field-text : (fs : Record) (i : ℕ) → AllText fs → {field : List ℕ} → field_at fs i ≡ Some field → IsUtf8 field
+unfolding AllText field_at
+field-text [] i all e = cc e
+field-text (f ∷ fs) zero all e = subst IsUtf8 (ap (λ x. unwrap_or x f) e) all.0
+field-text (f ∷ fs) (suc i) all e = field-text fs i all.1 e

@@ -1,5 +1,5 @@
 //! The cells that fields are.
-ghost use Rattle.std.specs.Prelude.{◌≡◌, ◌≤◌, Some, None, IfOk, MatchBool, is_some, length, option_map, true};
+ghost use Rattle.std.specs.Prelude.{◌≡◌, ◌≤◌, Some, None, IfOk, IsUtf8, MatchBool, is_some, length, option_map, true};
 ghost use Rattle.std.specs.Option.{SomeIff};
 ghost use Rattle.std.specs.Str.Parse.{digits_value, starts_with_minus, without_leading_sign};
 ghost use Rattle.fq_column.specs.declared.cells.Cell.{Cell};
@@ -81,11 +81,14 @@ pub fn truth(field: &[u8]) -> Option<bool>
     }
 }
 
-/// The text that a field is, if its bytes are UTF-8.
-fn text(field: &[u8]) -> Option<&str>
+/// The text that a field is, if its bytes are UTF-8, which may be known.
+fn text(field: &[u8], is_known: bool) -> Option<&str>
+    requires { is_known ≡ true → IsUtf8 field.now }
     ensures { option_map (λ t. t.now) result ≡ text_of field.now }
 {
-    if field.len() < LONG_FIELD {
+    if is_known {
+        Some(unsafe { str::from_utf8_unchecked(field) })
+    } else if field.len() < LONG_FIELD {
         str::from_utf8(field).ok()
     } else {
         simdutf8::compat::from_utf8(field).ok()
@@ -120,19 +123,21 @@ pub fn is_cell(field: &[u8], kind: Kind, nulls: &NullValues) -> bool
     }
     match kind {
         Kind::Whole => whole(field).is_some(),
-        Kind::Text => text(field).is_some(),
+        Kind::Text => text(field, false).is_some(),
         Kind::Truth => truth(field).is_some(),
     }
 }
 
-/// Appends the cell that a field is to a column, with these texts as null, and says whether it is one.
+/// Appends the cell that a field is to a column, with these texts as null, and says whether it is one. The field may be known to be UTF-8.
 ///
 /// Allocates for a text, and if the column grows.
 pub(crate) fn push_field(
     column: &mut Column,
     field: &[u8],
+    is_text: bool,
     nulls: &NullValues,
 ) -> Result<bool, Memory>
+    requires { is_text ≡ true → IsUtf8 field.now }
     ensures good { IfOk result (λ good. MatchBool good
         ((cell : Cell) × (cell_under nulls.now column.old.kind field.now ≡ Some cell) × (column.new ≡ with_cell column.old cell))
         ((cell_under nulls.now column.old.kind field.now ≡ None) × (column.new ≡ column.old))) }
@@ -146,7 +151,7 @@ pub(crate) fn push_field(
             Some(value) => column.push_whole(value)?,
             None => return Ok(false),
         },
-        Kind::Text => match text(field) {
+        Kind::Text => match text(field, is_text) {
             Some(value) => column.push_text(value)?,
             None => return Ok(false),
         },

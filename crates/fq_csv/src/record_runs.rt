@@ -57,7 +57,7 @@ impl RecordRun {
     /// The rows that the records are, in a batch, and the fault that ends them: `Width` at the first record with more or fewer
     /// fields than there are columns, or `BadCell` at one with a field that is not a cell of its column.
     ///
-    /// Allocates for the batch's columns, for texts over 16 bytes, and for one record. `Memory` if an allocation fails.
+    /// Allocates for the batch's columns, for texts over 24 bytes, and for one record. `Memory` if an allocation fails.
     pub fn into_batch(self, alloc: Global) -> Result<Piece<ScanFault>, Memory>
         ensures { IfOk result (λ p. ReadsRun self p.batch p.fault) }
     {

@@ -12,7 +12,7 @@ use crate::layouts::NullValues;
 use crate::pieces::Pieces;
 use crate::readers::{next_record, read_text};
 use csv::ByteRecord;
-use fq_column::{Column, MAX_COLUMNS, Memory, cut_columns};
+use fq_column::{Column, Kind, MAX_COLUMNS, Memory, cut_columns};
 use std::alloc::Global;
 
 /// Why a record is not a row.
@@ -26,9 +26,11 @@ pub(crate) enum NoRow {
 
 // Adds the cells that a record's fields are to columns of `height` cells, one to each.
 //
-// If the record is not a row, the columns are as before.
+// If the record is not a row, the columns are as before. If some columns are of texts, one look at the whole record as a rule spares a
+// look at each of its fields.
 fn push_record(
     columns: &mut [Column],
+    has_texts: bool,
     row: &ByteRecord,
     height: u32,
     nulls: &NullValues,
@@ -43,11 +45,12 @@ fn push_record(
     if row.len() != columns.len() {
         return Ok(Some(NoRow::Width));
     }
+    let is_ascii = has_texts && row.as_slice().is_ascii();
     for i in 0..columns.len() {
         let Some(field) = row.get(i) else {
             unreachable!()
         };
-        if !push_field(&mut columns[i], field, nulls)? {
+        if !push_field(&mut columns[i], field, is_ascii, nulls)? {
             cut_columns(columns, height as usize);
             return Ok(Some(NoRow::BadCell(i as u16)));
         }
@@ -71,13 +74,14 @@ pub(crate) fn push_records(
     requires count { length (records default_config text) ≡ count }
     ensures { IfOk result (λ bad. HoldsRowsOf nulls.now (kinds_in columns.old) (records default_config text) columns.new bad) }
 {
+    let has_texts = columns.iter().any(|column| column.kind() == Kind::Text);
     let mut reader = read_text(alloc, text)?;
     let mut fields = ByteRecord::new(alloc);
     for row in 0..count {
         if !next_record(&mut reader, &mut fields)? {
             unreachable!()
         }
-        if let Some(why) = push_record(columns, &fields, row, nulls)? {
+        if let Some(why) = push_record(columns, has_texts, &fields, row, nulls)? {
             return Ok(Some((row, why)));
         }
     }

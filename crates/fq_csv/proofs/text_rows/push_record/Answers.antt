@@ -2,7 +2,8 @@ use Rattle.std.specs.Prelude.{slice_get}
 use Rattle.std.proofs.Common.{◌≡◌, ◌<◌, ◌∙◌, Some, arith, length, sym}
 use Rattle.csv.specs.Records.{fields_of}
 use Rattle.fq_csv.proofs.HeldRowLemmas.{Added-bad, Added-done, Added-more}
-use Rattle.fq_csv.proofs.ReaderLemmas.{field-gone, field-there}
+use Rattle.fq_csv.proofs.ReaderLemmas.{ascii-fields, field-gone, field-text, field-there}
+use Rattle.fq_csv.proofs.text_rows.push_record.Goals.{then-has_texts, else-has_texts}
 use Rattle.fq_csv.proofs.text_rows.push_record.Goals as goal
 
 pub unreachable-requires : goal.unreachable-requires
@@ -10,6 +11,15 @@ unreachable-requires c =
     let fs = fields_of c.args.row.now in
     let there : c.loop-i.i < length fs = omega (arith, c.len.ensures, c.if-len-columns.false, c.loop-i-test.true) in
     field-gone fs c.loop-i.i there (sym (rw c.in_default.is at c.get.ensures.value))
+
+pub push_field-requires : goal.push_field-requires
+push_field-requires c = λ e.
+    elim c.if-has_texts.branch [
+      | then-has_texts w ↦
+          let ascii = rw (sym w.is_ascii-is ∙ e) at w.is_ascii-is_ascii.ensures.cases in
+          field-text (fields_of c.args.row.now) c.loop-i.i (ascii-fields 0 c.args.row.now.ends c.args.row.now.bytes (rw w.as_slice.ensures at ascii)) (sym c.in-Some.ensures.value)
+      | else-has_texts w ↦ cc (sym w.is_ascii-is ∙ e)
+    ]
 
 pub returns-then-not-branch-clause-none : goal.returns-then-not-branch-clause-none
 returns-then-not-branch-clause-none c =

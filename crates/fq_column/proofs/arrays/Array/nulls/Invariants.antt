@@ -1,5 +1,5 @@
-use Rattle.std.proofs.Common.{◌≡◌, None, replicate}
+use Rattle.std.proofs.Common.{◌≡◌, length}
 use Rattle.fq_column.proofs.arrays.Array.nulls.Given as goal
 
 abbrev pub invariant-loop : goal.invariant-loop
-invariant-loop g l = l.array ≡ replicate l.counter None
+invariant-loop g l = length l.values.items ≡ l.counter
