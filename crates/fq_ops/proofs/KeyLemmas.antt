@@ -24,6 +24,3 @@ key-more cells places i x row low size before at =
     ∙ take-suc-set cells i x (omega (arith, low, size))
     ∙ (λ k. before k ++ at k ∷ [])
     ∙ sym (ap (λ j. key_at (take j places) row) (let e : i + 1 ≡ suc i = omega arith in e) ∙ ap (λ l. key_at l row) (take-suc places i 0 low) ∙ map-append (λ p. value_at p row) (take i places) (get_or places i 0 ∷ []))
-
-pub key-cons : (places : List ℕ) (p : ℕ) (others : List ℕ) (row : Row) (x : Cell) → places ≡ p ∷ others → x ≡ value_at p row → (xs : List Cell) → xs ≡ key_at others row → x ∷ xs ≡ key_at places row
-key-cons places p others row x e first xs rest = (λ k. first k ∷ rest k) ∙ ap (λ ps. key_at ps row) (sym e)

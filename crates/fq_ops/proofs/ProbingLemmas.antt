@@ -22,9 +22,6 @@ gives-more output count a b c ps qs g h = (
   g.2 ∙ h.2,
 )
 
-pub gives-none : (output : ℕ → List Pair) (count : ℕ) (c : Cursor) → IsCursor output count c → Gives output count c [] c
-gives-none output count c is = (is, refl, refl)
-
 -- no pair is left
 module _ (output : ℕ → List Pair) (count : ℕ) (c : Cursor) where
   pub ends : count ≤ c.row → pairs_from output count c ≡ ([], None)

@@ -44,9 +44,6 @@ unless-past checks more x e = ap (chosen x) (first_refusal-past checks more e)
 pub unless-next : {X : Type 0} (b : Bool) (f : StepFault) (more : List (Option StepFault)) (x : X) → b ≡ false → unless_refused (refuse_if b f ∷ more) x ≡ unless_refused more x
 unless-next b f more x e = ap (λ c. chosen x (first_refusal (refuse_if c f ∷ more))) e
 
-pub unless-first : {X : Type 0} (b : Bool) (f : StepFault) (more : List (Option StepFault)) (x : X) → b ≡ true → unless_refused (refuse_if b f ∷ more) x ≡ Err f
-unless-first b f more x e = ap (λ c. chosen x (first_refusal (refuse_if c f ∷ more))) e
-
 pub map-map : {X Y Z : Type 0} (g : Y → Z) (f : X → Y) (xs : List X) → map g (map f xs) ≡ map (λ x. g (f x)) xs
 map-map g f [] = refl
 map-map g f (x ∷ xs) = ap (λ ys. g (f x) ∷ ys) (map-map g f xs)

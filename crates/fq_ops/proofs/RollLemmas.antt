@@ -130,10 +130,6 @@ drop-at f [] i x e = absurd (cc)
 drop-at f (y ∷ xs) zero x e = let s : y ≡ x = cc in ap (λ z. f z ∷ map f xs) s
 drop-at f (y ∷ xs) (suc i) x e = drop-at f xs i x e
 
-pub shifted-none : (o : Option ℕ) → o ≡ option_map (λ k. 0 + k) o
-shifted-none None = refl
-shifted-none (Some k) = ap Some (let e : k ≡ 0 + k = omega arith in e)
-
 shifted-more : (i : ℕ) (o : Option ℕ) → option_map (λ k. i + k) (option_map suc o) ≡ option_map (λ k. i + 1 + k) o
 shifted-more i None = refl
 shifted-more i (Some k) = ap Some (let e : i + suc k ≡ i + 1 + k = omega arith in e)

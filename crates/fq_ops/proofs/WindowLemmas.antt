@@ -27,9 +27,6 @@ fold-plus a (n ∷ ns) =
 pub int_sum-cons : (n : ℤ) (ns : List ℤ) → int_sum (n ∷ ns) ≡ n +ℤ int_sum ns
 int_sum-cons n ns = fold-plus (pos 0 +ℤ n) ns ∙ (let e : (pos 0 +ℤ n) +ℤ int_sum ns ≡ n +ℤ int_sum ns = omega (arith, ints) in e)
 
-pub int_sum-push : (ns : List ℤ) (n : ℤ) → int_sum (ns ++ n ∷ []) ≡ int_sum ns +ℤ n
-int_sum-push ns n = fold-append (λ s n. s +ℤ n) (pos 0) ns (n ∷ [])
-
 -- a number that fits lies within one
 pub fits-low : (n : ℤ) → fits n ≡ true → pos 0 ≤ℤ (n +ℤ pos (2 ^ 63))
 fits-low (pos n) e = omega (arith, ints)
@@ -201,9 +198,6 @@ module _ (m : ℕ) (places : List (Option ℤ)) (sum : ℤ) (count : ℕ) (s : s
   sum-out_of_range h f = judged ∙ ap (λ b. if b then fitted sum else Some Null) (le-leb m count h) ∙ ap (λ b. if b then Some (Whole sum) else None) f
 
 -- ---- the sums along cells
-
-keep_last-all : {X : Type 0} (n : ℕ) (xs : List X) → length xs ≤ n → keep_last n xs ≡ xs
-keep_last-all n xs h = ap (λ k. drop k xs) (let e : length xs - n ≡ 0 = omega (arith, h) in e)
 
 drop-append-le : {X : Type 0} (n : ℕ) (xs ys : List X) → n ≤ length xs → drop n (xs ++ ys) ≡ drop n xs ++ ys
 drop-append-le zero xs ys h = refl

@@ -1,7 +1,6 @@
 pub mod Accumulated
 pub mod Aggregate
 pub mod Examples
-pub mod Fed
 pub mod Fields
 pub mod Gathered
 pub mod Group

@@ -197,10 +197,9 @@ fn step_all<S: State>(
     ensures stepped { OnOk result (map S.running states.new.items ≡ stepped_along (map S.running states.old.items) numbers.now column.now.cells) }
     ensures bounded { OnOk result (HaveTaken (length numbers.now) (map S.running states.old.items) (map S.running states.new.items)) }
 {
-    let mut scratch = Cell::Null;
     for row in 0..numbers.len() {
         let state = &mut states[numbers[row]];
-        state.step(alloc, column, row, &mut scratch)?;
+        state.step(alloc, column, row)?;
     }
     Ok(())
 }

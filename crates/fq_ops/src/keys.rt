@@ -1,53 +1,50 @@
 //! Keys of joins and groups: the values of a row in the key columns.
-ghost use Rattle.std.specs.Prelude.{◌≡◌, ◌<◌, ◌≤◌, List, [], ◌∷◌, length, replicate, All, IfOk, OnOk, slice_get, slice_index_or, option_copied};
+ghost use Rattle.std.specs.Prelude.{◌≡◌, ◌<◌, List, [], length, replicate, All, IfOk, OnOk, slice_get, slice_index_or, option_copied};
 ghost use Rattle.std.specs.Cmp.Lexicographic.{pointwise, lists_per, lists_equiv};
+ghost use Rattle.std.specs.Hash as fed;
+ghost use Rattle.std.specs.Hash.{items_Alike};
 ghost use Rattle.std.specs.List.{list_any};
 ghost use Rattle.fq_column.specs.Cell.{is_null};
 ghost use Rattle.fq_column.specs.contracts.cells.CellPartialEq.TheImpl.Laws.{laws-law as cell_partial_eq};
 ghost use Rattle.fq_column.specs.contracts.cells.CellEq.TheImpl.Laws.{laws-law as cell_eq};
 ghost use Rattle.fq_column.specs.contracts.cells.CellHash.TheImpl.Laws.{respects_eq-law as cell_hash};
 ghost use Rattle.fq_column.specs.declared.cells.Cell.{Cell as Value};
-ghost use Rattle.fq_ops.specs.Fed.{inline, inline_respects};
 ghost use Rattle.fq_ops.specs.Group.{same_key};
 ghost use Rattle.fq_ops.specs.Grouping.{key_at};
 
 use fq_column::{Batch, Cell, Memory};
+use smallvec::SmallVec;
 use std::alloc::Global;
 use std::hash::{Hash, Hasher};
 use std::marker::Model;
 
-/// The values of a row in the key columns, at least one.
+/// The values of a row in the key columns.
 ///
-/// The first stands in place, so that a key of one whole number or truth value needs no allocation.
+/// One lies in the key itself, so that a key of one column needs no allocation, but for a long text.
 #[derive(Drop)]
 pub struct Key {
-    first: Cell,
-    rest: Vec<Cell>,
+    cells: SmallVec<Cell, 1>,
 }
 
 impl Model for Key {
-    ghost use Rattle.std.specs.Prelude.{List, ◌∷◌};
+    ghost use Rattle.std.specs.Prelude.{List};
     ghost use Rattle.fq_column.specs.declared.cells.Cell.{Cell};
 
     ghost Value = { List Cell };
 
-    ghost view = { λ k. k.first ∷ k.rest.items };
+    ghost view = { λ k. k.cells.items };
 }
 
 impl Key {
-    /// A key of this many nulls, at least one.
+    /// A key of this many nulls.
     pub fn nulls(alloc: Global, count: usize) -> Result<Key, Memory>
-        requires { 1 ≤ count }
         ensures { IfOk result (λ key. key ≡ replicate count Cell.Null) }
     {
-        let mut rest = Vec::with_capacity(alloc, count - 1)?;
-        for _ in 1..count {
-            rest.push(Cell::Null)?;
+        let mut cells = SmallVec::with_capacity(alloc, count)?;
+        for _ in 0..count {
+            cells.push(Cell::Null)?;
         }
-        Ok(Key {
-            first: Cell::Null,
-            rest,
-        })
+        Ok(Key { cells })
     }
 
     /// Takes the values of a row, in the key's own memory if it is large enough.
@@ -64,45 +61,32 @@ impl Key {
         ensures read { OnOk result (self.new ≡ key_at places.now (slice_index_or batch.now.rows row [])) }
         ensures size { length self.new ≡ length places.now }
     {
-        match places.split_first() {
-            Some((first, others)) => {
-                batch.column(*first).read_cell(alloc, row, &mut self.first)?;
-                read_cells(alloc, batch, others, row, self.rest.as_mut_slice())?;
-            }
-            None => unreachable!(),
-        }
-        Ok(())
+        read_cells(alloc, batch, places, row, self.cells.as_mut_slice())
     }
 
     /// An equal key in memory of its own.
     pub fn copy(&self, alloc: Global) -> Result<Key, Memory>
         ensures { IfOk result (λ key. key ≡ self.now) }
     {
-        let mut rest = Vec::with_capacity(alloc, self.rest.len())?;
-        for cell in &self.rest {
-            rest.push(cell.copy(alloc)?)?;
+        let mut cells = SmallVec::with_capacity(alloc, self.cells.len())?;
+        for cell in self.cells.as_slice() {
+            cells.push(cell.copy(alloc)?)?;
         }
-        Ok(Key {
-            first: self.first.copy(alloc)?,
-            rest,
-        })
+        Ok(Key { cells })
     }
 
     /// The value in a key column.
     pub fn cell(&self, place: usize) -> Option<&Cell>
         ensures { option_copied result ≡ slice_get self.now place }
     {
-        if place == 0 {
-            return Some(&self.first);
-        }
-        self.rest.get(place - 1)
+        self.cells.as_slice().get(place)
     }
 
     /// Whether a value is null.
     pub fn has_null(&self) -> bool
         ensures { result ≡ list_any is_null self.now }
     {
-        matches!(&self.first, Cell::Null) || has_null(self.rest.as_slice())
+        self.cells.iter().any(|cell| matches!(cell, Cell::Null))
     }
 }
 
@@ -112,7 +96,7 @@ impl PartialEq for Key {
     ghost laws = { lists_per cell_partial_eq };
 
     fn eq(&self, other: &Key) -> bool {
-        self.first == other.first && self.rest == other.rest
+        self.cells == other.cells
     }
 }
 
@@ -121,13 +105,12 @@ impl Eq for Key {
 }
 
 impl Hash for Key {
-    ghost hash_input = { inline ⟦<Cell as Hash>⟧.hash_input };
+    ghost hash_input = { fed.slice ⟦<Cell as Hash>⟧.hash_input };
 
-    ghost respects_eq = { inline_respects ⟦<Cell as PartialEq>⟧.eq ⟦<Cell as Hash>⟧.hash_input cell_hash };
+    ghost respects_eq = { (items_Alike (record { fed = cell_hash })).fed };
 
     fn hash<H: Hasher>(&self, state: &mut H) {
-        self.first.hash(state);
-        self.rest.hash(state);
+        self.cells.hash(state);
     }
 }
 
@@ -155,16 +138,4 @@ fn read_cells(
             .read_cell(alloc, row, &mut cells[i])?;
     }
     Ok(())
-}
-
-// Whether one of the cells is null.
-fn has_null(cells: &[Cell]) -> bool
-    ensures { result ≡ list_any is_null cells.now }
-{
-    for cell in cells {
-        if let Cell::Null = cell {
-            return true;
-        }
-    }
-    false
 }

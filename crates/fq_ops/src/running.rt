@@ -19,14 +19,8 @@ pub trait State: Drop {
     fn start(alloc: Global) -> Self
         ensures { running result ≡ start_of function };
 
-    /// Takes one more row, whose cell stands in a column; reads the cell into `scratch` if it must be compared.
-    fn step(
-        &mut self,
-        alloc: Global,
-        column: &Column,
-        row: usize,
-        scratch: &mut Cell,
-    ) -> Result<(), Memory>
+    /// Takes one more row, whose cell stands in a column; copies the cell if it must be kept.
+    fn step(&mut self, alloc: Global, column: &Column, row: usize) -> Result<(), Memory>
         requires row { row < length column.now.cells }
         requires few { IsBoundedBy MAX_GROUPED_ROWS (running self.old) }
         ensures stepped { OnOk result (running self.new ≡ stepped (running self.old) (value_at row column.now.cells)) }

@@ -13,7 +13,6 @@ use crate::running::{State, push_cell};
 use fq_column::{Cell, Column, Memory, Values};
 use indexmap::IndexSet;
 use std::alloc::Global;
-use std::mem::swap;
 
 /// The sum of the whole numbers.
 #[derive(Drop)]
@@ -37,13 +36,7 @@ impl State for Sum {
         Sum(0)
     }
 
-    fn step(
-        &mut self,
-        _alloc: Global,
-        column: &Column,
-        row: usize,
-        _scratch: &mut Cell,
-    ) -> Result<(), Memory> {
+    fn step(&mut self, _alloc: Global, column: &Column, row: usize) -> Result<(), Memory> {
         self.0 += whole_or_zero(column, row) as i128;
         Ok(())
     }
@@ -69,16 +62,10 @@ impl State for Least {
         Least(Cell::Null)
     }
 
-    fn step(
-        &mut self,
-        alloc: Global,
-        column: &Column,
-        row: usize,
-        scratch: &mut Cell,
-    ) -> Result<(), Memory> {
-        column.read_cell(alloc, row, scratch)?;
-        if is_less(scratch, &self.0) {
-            swap(&mut self.0, scratch);
+    fn step(&mut self, alloc: Global, column: &Column, row: usize) -> Result<(), Memory> {
+        let best = &mut self.0;
+        if is_less(column, row, best) {
+            column.read_cell(alloc, row, best)?;
         }
         Ok(())
     }
@@ -101,16 +88,10 @@ impl State for Greatest {
         Greatest(Cell::Null)
     }
 
-    fn step(
-        &mut self,
-        alloc: Global,
-        column: &Column,
-        row: usize,
-        scratch: &mut Cell,
-    ) -> Result<(), Memory> {
-        column.read_cell(alloc, row, scratch)?;
-        if is_greater(scratch, &self.0) {
-            swap(&mut self.0, scratch);
+    fn step(&mut self, alloc: Global, column: &Column, row: usize) -> Result<(), Memory> {
+        let best = &mut self.0;
+        if is_greater(column, row, best) {
+            column.read_cell(alloc, row, best)?;
         }
         Ok(())
     }
@@ -133,13 +114,7 @@ impl State for Count {
         Count(0)
     }
 
-    fn step(
-        &mut self,
-        _alloc: Global,
-        column: &Column,
-        row: usize,
-        _scratch: &mut Cell,
-    ) -> Result<(), Memory> {
+    fn step(&mut self, _alloc: Global, column: &Column, row: usize) -> Result<(), Memory> {
         if !column.is_null(row) {
             self.0 += 1;
         }
@@ -164,13 +139,7 @@ impl State for RowCount {
         RowCount(0)
     }
 
-    fn step(
-        &mut self,
-        _alloc: Global,
-        _column: &Column,
-        _row: usize,
-        _scratch: &mut Cell,
-    ) -> Result<(), Memory> {
+    fn step(&mut self, _alloc: Global, _column: &Column, _row: usize) -> Result<(), Memory> {
         self.0 += 1;
         Ok(())
     }
@@ -193,13 +162,7 @@ impl State for First {
         First(None)
     }
 
-    fn step(
-        &mut self,
-        alloc: Global,
-        column: &Column,
-        row: usize,
-        _scratch: &mut Cell,
-    ) -> Result<(), Memory> {
+    fn step(&mut self, alloc: Global, column: &Column, row: usize) -> Result<(), Memory> {
         if self.0.is_none() {
             self.0 = Some(column.cell(alloc, row)?);
         }
@@ -227,13 +190,7 @@ impl State for Last {
         Last(Cell::Null)
     }
 
-    fn step(
-        &mut self,
-        alloc: Global,
-        column: &Column,
-        row: usize,
-        _scratch: &mut Cell,
-    ) -> Result<(), Memory> {
+    fn step(&mut self, alloc: Global, column: &Column, row: usize) -> Result<(), Memory> {
         column.read_cell(alloc, row, &mut self.0)
     }
 
@@ -255,15 +212,10 @@ impl State for Distinct {
         Distinct(IndexSet::new(alloc))
     }
 
-    fn step(
-        &mut self,
-        alloc: Global,
-        column: &Column,
-        row: usize,
-        scratch: &mut Cell,
-    ) -> Result<(), Memory> {
-        column.read_cell(alloc, row, scratch)?;
-        insert_new(alloc, &mut self.0, scratch)
+    fn step(&mut self, alloc: Global, column: &Column, row: usize) -> Result<(), Memory> {
+        cell_law();
+        self.0.insert(column.cell(alloc, row)?)?;
+        Ok(())
     }
 
     fn push_to(&self, column: &mut Column) -> Result<(), Memory> {
@@ -271,44 +223,27 @@ impl State for Distinct {
     }
 }
 
-// Inserts a cell, which is copied only if it is new.
-fn insert_new(alloc: Global, cells: &mut IndexSet<Cell>, cell: &Cell) -> Result<(), Memory>
-    ensures { OnOk result (cells.new.keys ≡ insert_key same_cell cells.old.keys cell.now) }
-{
-    cell_law();
-    if cells.get_index_of(cell).is_some() {
-        return Ok(());
-    }
-    let own = cell.copy(alloc)?;
-    cells.insert(own)?;
-    Ok(())
-}
-
 // Cells are equal by the derived test exactly when they are by the definitions.
 fn cell_law()
     ensures { (a b : Value) → ⟦<Cell as PartialEq>⟧.eq a b ≡ same_cell a b }
 {}
 
-// Whether a cell takes the place of the least so far.
-fn is_less(cell: &Cell, best: &Cell) -> bool
-    ensures { result ≡ (not (is_null cell.now) && (is_null best.now || is_lt (cell_cmp cell.now best.now))) }
+// Whether a row's cell takes the place of the least so far.
+fn is_less(column: &Column, row: usize, best: &Cell) -> bool
+    requires { row < length column.now.cells }
+    ensures { result ≡ (not (is_null (value_at row column.now.cells))
+        && (is_null best.now || is_lt (cell_cmp (value_at row column.now.cells) best.now))) }
 {
-    match (cell, best) {
-        (Cell::Null, _) => false,
-        (_, Cell::Null) => true,
-        _ => cell < best,
-    }
+    !column.is_null(row) && (matches!(best, Cell::Null) || column.compare(row, best).is_lt())
 }
 
-// Whether a cell takes the place of the greatest so far.
-fn is_greater(cell: &Cell, best: &Cell) -> bool
-    ensures { result ≡ (not (is_null cell.now) && (is_null best.now || is_gt (cell_cmp cell.now best.now))) }
+// Whether a row's cell takes the place of the greatest so far.
+fn is_greater(column: &Column, row: usize, best: &Cell) -> bool
+    requires { row < length column.now.cells }
+    ensures { result ≡ (not (is_null (value_at row column.now.cells))
+        && (is_null best.now || is_gt (cell_cmp (value_at row column.now.cells) best.now))) }
 {
-    match (cell, best) {
-        (Cell::Null, _) => false,
-        (_, Cell::Null) => true,
-        _ => cell > best,
-    }
+    !column.is_null(row) && (matches!(best, Cell::Null) || column.compare(row, best).is_gt())
 }
 
 // What a cell of a column adds to a sum: 0 if it is not a whole number.
