@@ -40,18 +40,6 @@ is_true-nullable (Some b) = refl
 abbrev judged : Fields → Result Kind StepFault → Result Fields StepFault
 judged fields r = and_then r (λ k. unless_refused (refuse_if (not (same_kind k kind.Truth)) NotBool ∷ []) fields)
 
-pub predicate-kind : (fields : Fields) (e : Expression) → IsOk (step_schema fields (filter_by e)) → kind_of fields e ≡ Ok kind.Truth
-predicate-kind fields e h = go (kind_of fields e) h
-  where
-    go : (r : Result Kind StepFault) → IsOk (judged fields r) → r ≡ Ok kind.Truth
-    go (Err f) h = absurd (cc)
-    go (Ok kind.Whole) h = absurd (cc)
-    go (Ok kind.Text) h = absurd (cc)
-    go (Ok kind.Truth) h = refl
-
-pub fields_after-filter : (fields : Fields) (e : Expression) → IsOk (step_schema fields (filter_by e)) → fields_after fields (filter_by e) ≡ fields
-fields_after-filter fields e h = ap (λ r. result_unwrap_or (judged fields r) fields) (predicate-kind fields e h)
-
 -- what a row gives, then what the others do
 abbrev streamed : Result (List Row) ℕ → Stream ℕ → Stream ℕ
 streamed r u = elim r [ Ok rows ↦ then_stream (done rows) u | Err f ↦ faulted f ]

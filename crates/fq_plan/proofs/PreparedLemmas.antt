@@ -31,9 +31,6 @@ judged_by p o r = result_map_both (λ schemas. p) (λ refusal. refusal) (let all
 abbrev pub steps_judged : Query → Result (List Fields) CheckFault
 steps_judged p = judged_steps (side_fields p) 0 (main_fields p) p.steps
 
-pub source-refuses : (p : Query) (e : CheckFault) → source_refusal 0 p.sources ≡ Some e → checked p ≡ Err e
-source-refuses p e h = ap (λ o. judged_by p o (steps_judged p)) h
-
 pub step-refuses : (p : Query) (e : CheckFault) → source_refusal 0 p.sources ≡ None → steps_judged p ≡ Err e → checked p ≡ Err e
 step-refuses p e h g = ap (λ o. judged_by p o (steps_judged p)) h ∙ ap (λ r. judged_by p None r) g
 

@@ -45,13 +45,6 @@ ended-stream {F} v end = go v.rows v.fault
     go rows None = ap (λ (l : List Row). record { rows = l; fault = end }) (sym (append-nil rows))
     go rows (Some f) = refl
 
-pub step_on-is : {F G : Type 0} (rows_step : List Row → Stream G) (name : G → F) (u : Stream F) (rows : List Row) (fault : Option G) →
-    rows ≡ (rows_step u.rows).rows → fault ≡ (rows_step u.rows).fault →
-    record { rows = rows; fault = option_or (option_map name fault) u.fault } ≡ step_on rows_step name u
-step_on-is rows_step name u rows fault e f =
-    (λ i. record { rows = e i; fault = option_or (option_map name (f i)) u.fault })
-    ∙ ended-stream (rename_fault name (rows_step u.rows)) u.fault
-
 -- ---- row-wise steps
 
 pub apply_steps-none : (n : ℕ) (fields : Fields) (steps : List Step) (end : Option Fault) → apply_steps Overflow n fields steps (record { rows = []; fault = end }) ≡ record { rows = []; fault = end }
@@ -144,25 +137,6 @@ pub length-before : (sums : List (Option Cell)) → length (before_missing sums)
 length-before [] = omega arith
 length-before (None ∷ sums) = omega arith
 length-before (Some c ∷ sums) = omega (arith, length-before sums)
-
--- as many sums as rows that are kept
-pub height-of-sums : (fields : Fields) (column : Name) (n m : ℕ) (rows : List Row) (sums : List Cell) → sums ≡ before_missing (sums_of fields column n m rows) → length sums ≡ length (take (length sums) rows)
-height-of-sums fields column n m rows sums e =
-    grind (arith, length-take-le (length sums) rows (omega (arith, ap length e, length-before (sums_of fields column n m rows), length-sums fields column n m rows)))
-
-pub rolled-stream : (fields : Fields) (column : Name) (n m : ℕ) (name : Name) (f : Fault) (u : Stream Fault) (sums : List Cell) (fault : Option ℕ) →
-    sums ≡ before_missing (sums_of fields column n m u.rows) → fault ≡ first_missing (sums_of fields column n m u.rows) →
-    record { rows = zip_with (row_with fields name) (take (length sums) u.rows) sums; fault = option_or (option_map (λ _. f) fault) u.fault }
-    ≡ roll_stream fields column n m name f u
-rolled-stream fields column n m name f u sums fault e g =
-    let all = with-sums fields name (sums_of fields column n m u.rows) u.rows (length-sums fields column n m u.rows) in
-    (λ i. record { rows = zip_with (row_with fields name) (take (length (e i)) u.rows) (e i); fault = option_or (named fault i) u.fault })
-    ∙ step_on-is (roll_rows fields column n m name) (λ (_ : Unit {0}). f) u (zip_with (row_with fields name) (take (length (before_missing (sums_of fields column n m u.rows))) u.rows) (before_missing (sums_of fields column n m u.rows)))
-    (option_map (λ _. tt) fault) (ap (λ (v : Stream (Unit {0})). v.rows) (sym all)) (ap (option_map (λ _. tt)) g ∙ ap (λ (v : Stream (Unit {0})). v.fault) (sym all))
-  where
-    named : (o : Option ℕ) → option_map (λ (_ : ℕ). f) o ≡ option_map (λ (_ : Unit {0}). f) (option_map (λ (_ : ℕ). let t : Unit {0} = tt in t) o)
-    named None = refl
-    named (Some n) = refl
 
 -- the columns after row-wise steps that are not refused
 pub fields-after-all : (fields after : Fields) (steps : List Step) → steps_schema fields steps ≡ Ok after → fields_after_all fields steps ≡ after
