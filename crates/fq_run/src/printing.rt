@@ -17,6 +17,9 @@ use std::{mem, thread};
 /// more of them the rows have left the caches, and the run waits longer for the last of them.
 pub(crate) const ROWS_AT_ONCE: usize = 2_048;
 
+/// How many rows are few: at most eight batches of more rows are gathered.
+const FEW_ROWS: usize = 256;
+
 /// What a thread promises that prints batches.
 #[derive(Drop)]
 pub(crate) struct PrintPromise {
@@ -140,11 +143,12 @@ impl<'r, T: Threads> Printing<'r, T> {
             return Ok(());
         }
         self.room = self.room.saturating_sub(batch.rows());
-        self.batches.push(batch)?;
-        if self.room > 0 {
-            return Ok(());
+        if self.room == 0 {
+            self.batches.push(batch)?;
+            return self.hand_on();
         }
-        self.hand_on()
+        self.batches.push(fitted(self.press.alloc, batch)?)?;
+        Ok(())
     }
 
     // Makes a part of the gathered batches.
@@ -193,6 +197,17 @@ impl<'r, T: Threads> Printing<'r, T> {
             all = followed_by(all, part.wait(press.rt));
         }
         followed_by(all, last)
+    }
+}
+
+// A batch while it waits: one of few rows gives up the room that it has for more, of which a filter or a part of a join may leave it much.
+fn fitted(alloc: Global, batch: Batch) -> Result<Batch, Memory>
+    ensures { IfOk result (λ b. b ≡ batch) }
+{
+    if batch.rows() < FEW_ROWS {
+        batch.copy(alloc)
+    } else {
+        Ok(batch)
     }
 }
 
