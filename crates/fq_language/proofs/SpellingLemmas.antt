@@ -26,9 +26,9 @@ read_as_plan-none bytes h = go (is_utf8 bytes) refl
     go false e = sym (ap (λ b. of_data (only_if b (read bytes))) e)
 
 -- if the value that was read spells a plan, the bytes do
-pub spells-if_read : (bytes : List ℕ) (d : Data) (p : Query) (o : Option Query) → IsUtf8 bytes → read bytes ≡ Some d → o ≡ plan_of d → o ≡ Some p → IsOk (read_as_plan bytes)
-spells-if_read bytes d p o valid e same is =
-    let P : Result Query PlanFault → Type 0 = λ r. IsOk r in subst P (read_as_plan-some bytes d (Some p) valid e (sym is ∙ same)) (search rules)
+pub spells-if_read : (bytes : List ℕ) (d : Data) (p : Query) → IsUtf8 bytes → read bytes ≡ Some d → Some p ≡ plan_of d → IsOk (read_as_plan bytes)
+spells-if_read bytes d p valid e same =
+    let P : Result Query PlanFault → Type 0 = λ r. IsOk r in subst P (read_as_plan-some bytes d (Some p) valid e same) (search rules)
 
 -- if no value was read, the bytes spell no plan
 pub spells_not-if_unread : (bytes : List ℕ) → (IsUtf8 bytes → read bytes ≡ None) → IsOk (read_as_plan bytes) → ⊥

@@ -1,6 +1,7 @@
 pub mod Parts
 pub mod Plan
 pub mod Spelling
+pub mod Reading
 pub mod View
 pub mod Judged
 pub mod Versions

@@ -1,11 +1,12 @@
 //! Plans.
-ghost use Rattle.std.specs.Prelude.{◌≡◌, ◌≤◌, ◌⊎◌, Err, length, map, sum_by};
+ghost use Rattle.std.specs.Prelude.{◌≡◌, ◌≤◌, ◌⊎◌, ◌↔◌, None, Err, IfOk, IsOk, length, map, sum_by};
 ghost use Rattle.fq_language.specs.Spelling.{read_as_plan};
 ghost use Rattle.fq_language.specs.Plan.{IsWithinLimits, files_wanted};
 ghost use Rattle.fq_language.specs.View.{field_of, plan_step_of, source_data};
 
 use crate::faults::PlanFault;
-use crate::reading::plan_in;
+use crate::reading::{no_json, plan_in};
+use crate::reasons::{PartFault, Reason};
 use fq_column::{Kind, Memory};
 use fq_csv::{MAX_FILES, NullValues};
 use fq_expr::{MAX_STEPS, RowStep};
@@ -147,11 +148,30 @@ pub fn read_plan(alloc: Global, text: &[u8]) -> Result<Plan, PlanFault>
 {
     match Value::from_slice(alloc, text) {
         Ok(value) => match plan_in(alloc, &value) {
-            Ok(plan) => plan.ok_or(PlanFault::Shape),
-            Err(Memory) => Err(PlanFault::Memory),
+            Ok(plan) => Ok(plan),
+            Err(PartFault::Wrong(_)) => Err(PlanFault::Shape),
+            Err(PartFault::Memory) => Err(PlanFault::Memory),
         },
         Err(error) if error.is_memory() => Err(PlanFault::Memory),
         Err(_) => Err(PlanFault::Json),
+    }
+}
+
+/// Why a text spells no plan, for people; `None` if it spells one. `Memory` if an allocation fails.
+///
+/// The first reason, in the order of the language: of an object that it is none, or has another member than it may have, and then
+/// of each member that it is missing, or what is wrong with it.
+pub fn reason_of(alloc: Global, text: &[u8]) -> Result<Option<Reason>, Memory>
+    ensures { IfOk result (λ reason. (reason ≡ None) ↔ IsOk (read_as_plan text.now)) }
+{
+    match Value::from_slice(alloc, text) {
+        Ok(value) => match plan_in(alloc, &value) {
+            Ok(_) => Ok(None),
+            Err(PartFault::Wrong(reason)) => Ok(Some(reason)),
+            Err(PartFault::Memory) => Err(Memory),
+        },
+        Err(error) if error.is_memory() => Err(Memory),
+        Err(error) => Ok(Some(no_json(alloc, text, error)?)),
     }
 }
 

@@ -1,23 +1,28 @@
-//! Reading a plan out of a JSON value.
-ghost use Rattle.std.specs.Prelude.{◌≡◌, Option, option_map, IfOk};
+//! Reading a plan out of a JSON value: its parts, or why a value spells none.
+ghost use Rattle.std.specs.Prelude.{Option};
 ghost use Rattle.serde_json.specs.View.{view};
 ghost use Rattle.serde_json.specs.Data.{Data};
 ghost use Rattle.fq_language.specs.Parts.{member};
+ghost use Rattle.fq_language.specs.Reading.{Answers, IsSameAnswer};
 ghost use Rattle.fq_language.specs.declared.plans.Version.{Version as VersionData};
 
 use crate::plans::Version;
-use fq_column::Memory;
+use crate::reading::explanations::missing;
+use crate::reasons::{Explained, Segment};
 use serde_json::Value;
 use std::alloc::Global;
 
-pub mod aggregates;
+mod aggregates;
+mod explanations;
 mod expressions;
+mod json;
 mod lists;
-pub mod plans;
+mod plans;
 mod steps;
-pub mod values;
-pub mod words;
+mod values;
+mod words;
 
+pub use json::no_json;
 pub use plans::plan_in;
 
 /// A part of a plan, which a JSON value may spell.
@@ -29,22 +34,56 @@ pub trait Spelled: Drop {
     // The data of a part.
     ghost part_of: { Self → Self.Part };
 
-    /// The part that a value spells, or `None` if the value is not a spelling of one.
-    fn read(alloc: Global, version: Version, value: &Value) -> Result<Option<Self>, Memory>
-        ensures { IfOk result (λ o. option_map part_of o ≡ spelled_by version (view value.now)) };
+    /// The part that a value spells, or the first reason why it spells none, in the order of the language.
+    fn read(alloc: Global, version: Version, value: &Value) -> Explained<Self>
+        ensures { Answers part_of (spelled_by version (view value.now)) result };
 }
 
-/// The part that an object's member spells. `None` if the object has no such member, or if its value is no spelling of a part.
+/// A part that stands in arrays of its sort.
+pub trait Listed {
+    /// What such an array holds.
+    const ITEMS: &'static str;
+}
+
+/// A part that stands after a name, in an array of the two.
+pub trait Named {
+    /// What such an array is.
+    const FORM: &'static str;
+}
+
+/// The part that a value spells which stands there.
+pub fn read_at<T: Spelled>(
+    alloc: Global,
+    version: Version,
+    place: Segment,
+    value: &Value,
+) -> Explained<T>
+    ensures { Answers T.part_of (T.spelled_by version (view value.now)) result }
+{
+    within(place, T::read(alloc, version, value))
+}
+
+/// The part that an object's member spells.
 pub fn read_member<T: Spelled>(
     alloc: Global,
     version: Version,
     value: &Value,
-    name: &str,
-) -> Result<Option<T>, Memory>
-    ensures { IfOk result (λ o. option_map T.part_of o ≡ member name.now (T.spelled_by version) (view value.now)) }
+    name: &'static str,
+) -> Explained<T>
+    ensures { Answers T.part_of (member name.now (T.spelled_by version) (view value.now)) result }
 {
     match value.get(name) {
-        Some(part) => T::read(alloc, version, part),
-        None => Ok(None),
+        Some(part) => read_at(alloc, version, Segment::Member(name), part),
+        None => Err(missing(alloc, name)),
+    }
+}
+
+/// A part, or why there is none, seen from what it stands in.
+pub fn within<T>(place: Segment, part: Explained<T>) -> Explained<T>
+    ensures { IsSameAnswer part result }
+{
+    match part {
+        Ok(part) => Ok(part),
+        Err(fault) => Err(fault.within(place)),
     }
 }

@@ -1,76 +1,121 @@
-//! Why a part of a plan does not fit, and which part it is.
+//! Why a plan, or a part of one, is refused, and where that part stands.
 use fq_column::Memory;
 use std::alloc::{AllocError, AllocFailed, Global};
 use std::fmt;
 use std::fmt::{Display, Formatter, Write};
 
-/// Into a member of an object, or into an item of a list.
+/// A member of an object, an item of an array, or a place in a text, its line and its column from 1.
 #[derive(Clone, Copy)]
 pub enum Segment {
     Member(&'static str),
     Item(usize),
+    Text { line: usize, column: usize },
 }
 
-/// Why a part does not fit, and the path from it out to the whole. Empty as long as all fits.
+/// Why a text spells no plan, and where, or what the check refuses in a plan.
+///
+/// It goes right after the name of the plan's file: the line and the column if the text is not JSON, as in
+/// `:3:7: found "#"; JSON has no comments`, or else the path to the first part that does not fit, as in
+/// `: steps[2].filter: null is not an expression`.
 #[derive(Drop)]
 pub struct Reason {
+    // from the part out to the whole
     path: Vec<Segment>,
-    pub text: String,
+    pub(crate) text: String,
 }
 
-/// Why something does not fit: for a reason that is noted, or since an allocation failed.
-#[derive(Clone, Copy)]
-pub enum Unfit {
-    Noted,
+/// Why there is no such part: for a reason, or since an allocation failed.
+#[derive(Drop)]
+pub enum PartFault {
+    Wrong(Reason),
     Memory,
 }
 
-/// What fits, or why it does not.
-pub type Fit<T = ()> = Result<T, Unfit>;
+/// A part of a plan, or why there is none.
+pub type Explained<T = ()> = Result<T, PartFault>;
 
-impl From<Memory> for Unfit {
-    fn from(_failed: Memory) -> Unfit {
-        Unfit::Memory
+impl From<Memory> for PartFault {
+    ghost use Rattle.std.specs.Prelude.{◌≡◌};
+    ghost use Rattle.fq_language.specs.declared.reasons.PartFault.TheVariants as fault;
+
+    ghost from_gives = { λ _ e. e ≡ fault.Memory };
+
+    fn from(_failed: Memory) -> PartFault {
+        PartFault::Memory
     }
 }
 
-impl From<AllocError> for Unfit {
-    fn from(_failed: AllocError) -> Unfit {
-        Unfit::Memory
+impl From<AllocError> for PartFault {
+    ghost use Rattle.std.specs.Prelude.{◌≡◌};
+    ghost use Rattle.fq_language.specs.declared.reasons.PartFault.TheVariants as fault;
+
+    ghost from_gives = { λ _ e. e ≡ fault.Memory };
+
+    fn from(_failed: AllocError) -> PartFault {
+        PartFault::Memory
     }
 }
 
-impl<T: Drop> From<AllocFailed<T>> for Unfit {
-    fn from(_failed: AllocFailed<T>) -> Unfit {
-        Unfit::Memory
+impl<T: Drop> From<AllocFailed<T>> for PartFault {
+    ghost use Rattle.std.specs.Prelude.{◌≡◌};
+    ghost use Rattle.fq_language.specs.declared.reasons.PartFault.TheVariants as fault;
+
+    ghost from_gives = { λ _ e. e ≡ fault.Memory };
+
+    fn from(_failed: AllocFailed<T>) -> PartFault {
+        PartFault::Memory
     }
 }
 
-/// Returns, once the reason is what a format writes, of the whole so far.
+/// Returns why there is no part, as a format says.
 macro_rules! bail {
-    ($reason:expr, $($format:tt)+) => {{
-        write!($reason.text, $($format)+)?;
-        return Err($crate::reasons::Unfit::Noted)
+    ($alloc:expr, $($format:tt)+) => {{
+        let text = format!(in $alloc; $($format)+);
+        return Err($crate::reasons::PartFault::of($alloc, text))
     }};
 }
 
 pub(crate) use bail;
 
 impl Reason {
-    /// None so far.
-    pub fn new(alloc: Global) -> Reason {
+    /// What a text says of a whole.
+    pub(crate) fn new(alloc: Global, text: String) -> Reason {
         Reason {
             path: Vec::new(alloc),
-            text: String::new(alloc),
+            text,
         }
     }
 
-    /// A part that fits or not, seen from what it is a part of.
-    pub fn within<T: Drop>(&mut self, segment: Segment, part: Fit<T>) -> Fit<T> {
-        if let Err(Unfit::Noted) = part {
-            self.path.push(segment)?;
+    /// The reason, seen from what its part stands in.
+    pub(crate) fn within(mut self, segment: Segment) -> Result<Reason, Memory> {
+        self.path.push(segment)?;
+        Ok(self)
+    }
+}
+
+impl PartFault {
+    ghost use Rattle.std.specs.Prelude.{◌≡◌};
+    ghost use Rattle.fq_language.specs.declared.reasons.PartFault.TheVariants as fault;
+
+    /// The reason that a text says, if there was memory for the text.
+    pub fn of(alloc: Global, text: Result<String, AllocError>) -> PartFault {
+        match text {
+            Ok(text) => PartFault::Wrong(Reason::new(alloc, text)),
+            Err(_) => PartFault::Memory,
         }
-        part
+    }
+
+    /// The fault, seen from what its part stands in.
+    pub fn within(self, segment: Segment) -> PartFault
+        ensures { self ≡ fault.Memory → result ≡ fault.Memory }
+    {
+        match self {
+            PartFault::Wrong(reason) => match reason.within(segment) {
+                Ok(reason) => PartFault::Wrong(reason),
+                Err(Memory) => PartFault::Memory,
+            },
+            PartFault::Memory => PartFault::Memory,
+        }
     }
 }
 
@@ -81,6 +126,7 @@ impl Display for Reason {
             match segment {
                 Segment::Member(name) => write!(f, "{before}{name}")?,
                 Segment::Item(number) => write!(f, "[{number}]")?,
+                Segment::Text { line, column } => write!(f, ":{line}:{column}")?,
             }
         }
         write!(f, ": {}", self.text)

@@ -1,6 +1,6 @@
 //! What a refusal of the check is about, for people.
 use crate::plans::{Plan, Source};
-use crate::reasons::{Fit, Reason, Unfit, bail};
+use crate::reasons::{Explained, PartFault, bail};
 use fq_column::{Memory, Schema};
 use std::alloc::Global;
 use std::fmt;
@@ -25,11 +25,10 @@ impl Plan {
     ///
     /// Sources and steps are judged as `Plan::check` judges them, in the same order.
     pub fn refusal(&self, alloc: Global) -> Result<Option<Refusal>, Memory> {
-        let mut why = Reason::new(alloc);
-        match judge(alloc, self, &mut why) {
+        match judge(alloc, self) {
             Ok(()) => Ok(None),
-            Err(Unfit::Noted) => Ok(Some(Refusal { text: why.text })),
-            Err(Unfit::Memory) => Err(Memory),
+            Err(PartFault::Wrong(reason)) => Ok(Some(Refusal { text: reason.text })),
+            Err(PartFault::Memory) => Err(Memory),
         }
     }
 }
@@ -41,25 +40,25 @@ impl Display for Refusal {
 }
 
 // Nothing if the check does not refuse a plan.
-fn judge(alloc: Global, plan: &Plan, why: &mut Reason) -> Fit {
+fn judge(alloc: Global, plan: &Plan) -> Explained {
     let Some((main, sides)) = plan.sources.split_last() else {
         unreachable!()
     };
     let mut schemas = Vec::with_capacity(alloc, sides.len())?;
     for (number, source) in sides.iter().enumerate() {
-        schemas.push(source_schema(alloc, number, source, why)?)?;
+        schemas.push(source_schema(alloc, number, source)?)?;
     }
-    let mut schema = source_schema(alloc, sides.len(), main, why)?;
+    let mut schema = source_schema(alloc, sides.len(), main)?;
     for step in plan.steps.iter() {
-        schema = schema_after(alloc, schemas.as_slice(), &schema, step, why)?;
+        schema = schema_after(alloc, schemas.as_slice(), &schema, step)?;
     }
     Ok(())
 }
 
 // The schema of a source.
-fn source_schema(alloc: Global, number: usize, source: &Source, why: &mut Reason) -> Fit<Schema> {
+fn source_schema(alloc: Global, number: usize, source: &Source) -> Explained<Schema> {
     if source.columns.is_empty() {
-        bail!(why, "source {number} has no columns")
+        bail!(alloc, "source {number} has no columns")
     }
     let mut names = Vec::with_capacity(alloc, source.columns.len())?;
     let mut kinds = Vec::with_capacity(alloc, source.columns.len())?;
@@ -72,7 +71,7 @@ fn source_schema(alloc: Global, number: usize, source: &Source, why: &mut Reason
         Err(fault) => {
             let names = source.columns.iter().map(|(name, _)| name.as_str());
             let names: Vec<&str> = names.collect(alloc)?;
-            explain_columns(&names, names.len(), fault, why)
+            explain_columns(alloc, &names, names.len(), fault)
         }
     }
 }

@@ -2,7 +2,7 @@
 use crate::failures::Failure;
 use crate::file_details::FileDetails;
 use fq_column::Kind;
-use fq_language::{Plan, misfit_of, read_plan};
+use fq_language::{Plan, read_plan, reason_of};
 use fq_places::{Quoted, Unread};
 use fq_run::Fault;
 use fq_shell::{OpenFault, Opener, Options, STANDARD_INPUT};
@@ -57,7 +57,7 @@ pub fn write_details<O: Opener, E: Write>(
         Failure::Arguments | Failure::Problems | Failure::DraftTooLarge | Failure::Draft(_) => None,
         Failure::InputTwice => write_inputs(options, err),
         Failure::PlanFile => write_cause(files, options.plan().unwrap_or_default(), err),
-        Failure::Plan(_) => write_misfit(alloc, options.plan().unwrap_or_default(), text, err),
+        Failure::Plan(_) => write_reason(alloc, options.plan().unwrap_or_default(), text, err),
         Failure::Check(_) => write_refusal(alloc, text, err),
         Failure::Run(Fault::Write) => write_write(options, learned.write, err),
         Failure::Run(Fault::Read { file }) => write_unread(options.files(), file, files, err),
@@ -109,9 +109,9 @@ fn cause_of<O: Opener>(files: &mut O, name: &str) -> Option<Unread> {
 }
 
 // Where a text stops being a plan.
-fn write_misfit<E: Write>(alloc: Global, name: &str, text: &[u8], err: &mut E) -> Option<()> {
-    let misfit = misfit_of(alloc, text).ok()??;
-    writeln!(err, "  {name}{misfit}").ok()
+fn write_reason<E: Write>(alloc: Global, name: &str, text: &[u8], err: &mut E) -> Option<()> {
+    let reason = reason_of(alloc, text).ok()??;
+    writeln!(err, "  {name}{reason}").ok()
 }
 
 // What the check refuses in a plan.

@@ -13,8 +13,8 @@ pub use fq_csv::{MAX_BATCH_SIZE, MAX_FILES, ScanFault};
 pub use fq_expr::{MAX_STEPS, Piece, RowFault};
 pub use fq_lanes::{Gate, MAX_WORKERS, NoGate, Report};
 pub use fq_language::{
-    CheckFault, ConstantComparison, MAX_NULL_VALUES, MAX_SOURCES, Misfit, Place, Plan, PlanFault,
-    Refusal, Source, StepText, misfit_of, plans_of_both_versions, read_plan,
+    CheckFault, ConstantComparison, MAX_NULL_VALUES, MAX_SOURCES, Place, Plan, PlanFault, Reason,
+    Refusal, Source, StepText, plans_of_both_versions, read_plan, reason_of,
 };
 pub use fq_run::{Explanation, Fault, Worked};
 pub use laws::{meaning_of_cut_files, meaning_of_items, renamed_steps};

@@ -7,11 +7,11 @@ ghost use Rattle.fq_language.specs.Parts.{word};
 ghost use Rattle.fq_language.specs.Spelling.{aggregate, row_counts};
 
 use crate::plans::Version;
-use crate::reading::Spelled;
+use crate::reading::explanations::{other_word, wrong_length};
 use crate::reading::values::{three_items, two_items};
-use crate::reading::words::name as read_name;
-use crate::words::function as read_function;
-use fq_column::Memory;
+use crate::reading::{Listed, Spelled, read_at};
+use crate::reasons::{Explained, PartFault, Segment};
+use crate::words::{AGGREGATES, function as read_function};
 use fq_ops::{Agg, What};
 use serde_json::Value;
 use std::alloc::Global;
@@ -24,27 +24,32 @@ impl Spelled for Agg {
 
     ghost part_of = { λ agg. (string_bytes agg.name, aggregate_of agg.what) };
 
-    fn read(alloc: Global, _version: Version, value: &Value) -> Result<Option<Agg>, Memory> {
+    fn read(alloc: Global, version: Version, value: &Value) -> Explained<Agg> {
         if let Some((name, function)) = two_items(value) {
-            let Some(name) = read_name(alloc, name)? else {
-                return Ok(None);
+            let name = read_at(alloc, version, Segment::Item(0), name)?;
+            let Some(what) = of_rows(function) else {
+                let takes = "needs a column: [NAME, FUNCTION, COLUMN]";
+                return Err(no_function(alloc, version, function, takes));
             };
-            return Ok(of_rows(function).map(|what| Agg { name, what }));
+            return Ok(Agg { name, what });
         }
         let Some((name, function, column)) = three_items(value) else {
-            return Ok(None);
+            let form = "an aggregate is [NAME, \"len\"] or [NAME, FUNCTION, COLUMN]";
+            return Err(wrong_length(alloc, value, form));
         };
-        let Some(name) = read_name(alloc, name)? else {
-            return Ok(None);
+        let name = read_at(alloc, version, Segment::Item(0), name)?;
+        let Some(function) = read_function(function) else {
+            let takes = "takes no column: [NAME, \"len\"]";
+            return Err(no_function(alloc, version, function, takes));
         };
-        let Some(column) = read_name(alloc, column)? else {
-            return Ok(None);
-        };
-        Ok(read_function(function).map(|function| Agg {
-            name,
-            what: What::Of(function, column),
-        }))
+        let column = read_at(alloc, version, Segment::Item(2), column)?;
+        let what = What::Of(function, column);
+        Ok(Agg { name, what })
     }
+}
+
+impl Listed for Agg {
+    const ITEMS: &'static str = "aggregates, each [NAME, \"len\"] or [NAME, FUNCTION, COLUMN]";
 }
 
 // The aggregate of no column that a word names.
@@ -55,4 +60,9 @@ fn of_rows(function: &Value) -> Option<What>
         "len" => Some(What::Len),
         _ => None,
     }
+}
+
+// An aggregate's second item that is no function of this form. Of those of the other it is said what they take.
+fn no_function(alloc: Global, version: Version, function: &Value, takes: &str) -> PartFault {
+    other_word(alloc, version, function, AGGREGATES, AGGREGATES, takes).within(Segment::Item(1))
 }

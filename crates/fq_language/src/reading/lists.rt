@@ -1,55 +1,51 @@
 //! Lists and pairs.
-ghost use Rattle.std.specs.Prelude.{List, map};
-ghost use Rattle.fq_language.specs.Parts.{each_of, pair_of};
+ghost use Rattle.std.specs.Prelude.{List, map, string_bytes};
+ghost use Rattle.fq_column.specs.Frame.{Name};
+ghost use Rattle.fq_language.specs.Parts.{each_of, name_of, pair_of};
 
 use crate::plans::Version;
-use crate::reading::Spelled;
+use crate::reading::explanations::{no_list, wrong_length};
 use crate::reading::values::two_items;
-use fq_column::Memory;
+use crate::reading::{Listed, Named, Spelled, read_at};
+use crate::reasons::{Explained, Segment};
 use serde_json::Value;
 use std::alloc::Global;
 
 // An array whose items each spell a part.
-impl<T: Spelled> Spelled for Vec<T> {
+impl<T: Spelled + Listed> Spelled for Vec<T> {
     ghost Part = { List T.Part };
 
     ghost spelled_by = { λ version. each_of (T.spelled_by version) };
 
     ghost part_of = { λ parts. map T.part_of parts.items };
 
-    fn read(alloc: Global, version: Version, value: &Value) -> Result<Option<Vec<T>>, Memory> {
+    fn read(alloc: Global, version: Version, value: &Value) -> Explained<Vec<T>> {
         let Some(items) = value.as_array() else {
-            return Ok(None);
+            return Err(no_list(alloc, value, T::ITEMS));
         };
         let mut parts = Vec::with_capacity(alloc, items.len())?;
         for item in items {
-            let Some(part) = T::read(alloc, version, item)? else {
-                return Ok(None);
-            };
+            let part = read_at(alloc, version, Segment::Item(parts.len()), item)?;
             parts.push(part)?;
         }
-        Ok(Some(parts))
+        Ok(parts)
     }
 }
 
-// An array of two items.
-impl<A: Spelled, B: Spelled> Spelled for (A, B) {
-    ghost Part = { A.Part × B.Part };
+// An array of a name and a part.
+impl<B: Spelled + Named> Spelled for (String, B) {
+    ghost Part = { Name × B.Part };
 
-    ghost spelled_by = { λ version. pair_of (A.spelled_by version) (B.spelled_by version) };
+    ghost spelled_by = { λ version. pair_of name_of (B.spelled_by version) };
 
-    ghost part_of = { λ pair. (A.part_of pair.0, B.part_of pair.1) };
+    ghost part_of = { λ pair. (string_bytes pair.0, B.part_of pair.1) };
 
-    fn read(alloc: Global, version: Version, value: &Value) -> Result<Option<(A, B)>, Memory> {
-        let Some((first, second)) = two_items(value) else {
-            return Ok(None);
+    fn read(alloc: Global, version: Version, value: &Value) -> Explained<(String, B)> {
+        let Some((name, part)) = two_items(value) else {
+            return Err(wrong_length(alloc, value, B::FORM));
         };
-        let Some(first) = A::read(alloc, version, first)? else {
-            return Ok(None);
-        };
-        let Some(second) = B::read(alloc, version, second)? else {
-            return Ok(None);
-        };
-        Ok(Some((first, second)))
+        let name = read_at(alloc, version, Segment::Item(0), name)?;
+        let part = read_at(alloc, version, Segment::Item(1), part)?;
+        Ok((name, part))
     }
 }

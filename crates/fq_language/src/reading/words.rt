@@ -1,6 +1,6 @@
-//! Names, whole numbers, and the words of kinds and joins.
-ghost use Rattle.std.specs.Prelude.{◌≡◌, ℤ, IfOk, option_map, string_bytes};
-ghost use Rattle.serde_json.specs.View.{view};
+//! Names, whole numbers, truth values, and the words of kinds and joins.
+ghost use Rattle.std.specs.Prelude.{ℤ, Bool, string_bytes};
+ghost use Rattle.serde_json.specs.Find.{as_bool};
 ghost use Rattle.fq_language.specs.Parts.{whole, name_of, word};
 ghost use Rattle.fq_language.specs.Spelling.{kinds, hows};
 ghost use Rattle.fq_column.specs.Frame.{Name};
@@ -8,9 +8,11 @@ ghost use Rattle.fq_column.specs.declared.cells.Kind.{Kind as KindData};
 ghost use Rattle.fq_ops.specs.declared.joins.How.{How as HowData};
 
 use crate::plans::Version;
-use crate::reading::Spelled;
-use crate::words::{how, kind};
-use fq_column::{Kind, Memory};
+use crate::reading::explanations::{no_word, wrong};
+use crate::reading::{Listed, Named, Spelled};
+use crate::reasons::Explained;
+use crate::words::{HOWS, KINDS, how, kind};
+use fq_column::Kind;
 use fq_ops::How;
 use serde_json::Value;
 use std::alloc::Global;
@@ -23,9 +25,16 @@ impl Spelled for String {
 
     ghost part_of = { string_bytes };
 
-    fn read(alloc: Global, _version: Version, value: &Value) -> Result<Option<String>, Memory> {
-        name(alloc, value)
+    fn read(alloc: Global, _version: Version, value: &Value) -> Explained<String> {
+        match value.as_str() {
+            Some(text) => Ok(String::from_str(alloc, text)?),
+            None => Err(wrong(alloc, value, "is not a string")),
+        }
     }
+}
+
+impl Listed for String {
+    const ITEMS: &'static str = "strings";
 }
 
 // A whole number of 64 bits.
@@ -36,8 +45,26 @@ impl Spelled for i64 {
 
     ghost part_of = { λ number. number };
 
-    fn read(_alloc: Global, _version: Version, value: &Value) -> Result<Option<i64>, Memory> {
-        Ok(value.as_i64())
+    fn read(alloc: Global, _version: Version, value: &Value) -> Explained<i64> {
+        match value.as_i64() {
+            Some(number) => Ok(number),
+            None => Err(wrong(alloc, value, "is not a whole number of 64 bits")),
+        }
+    }
+}
+
+impl Spelled for bool {
+    ghost Part = { Bool };
+
+    ghost spelled_by = { λ _. as_bool };
+
+    ghost part_of = { λ truth. truth };
+
+    fn read(alloc: Global, _version: Version, value: &Value) -> Explained<bool> {
+        match value.as_bool() {
+            Some(truth) => Ok(truth),
+            None => Err(wrong(alloc, value, "is not true or false")),
+        }
     }
 }
 
@@ -48,9 +75,20 @@ impl Spelled for Kind {
 
     ghost part_of = { λ kind. kind };
 
-    fn read(_alloc: Global, _version: Version, value: &Value) -> Result<Option<Kind>, Memory> {
-        Ok(kind(value))
+    fn read(alloc: Global, version: Version, value: &Value) -> Explained<Kind> {
+        match kind(value) {
+            Some(kind) => Ok(kind),
+            None => Err(no_word(alloc, version, value, KINDS)),
+        }
     }
+}
+
+impl Named for Kind {
+    const FORM: &'static str = "a column is [NAME, KIND]";
+}
+
+impl Listed for (String, Kind) {
+    const ITEMS: &'static str = "columns, each [NAME, KIND]";
 }
 
 impl Spelled for How {
@@ -60,17 +98,10 @@ impl Spelled for How {
 
     ghost part_of = { λ how. how };
 
-    fn read(_alloc: Global, version: Version, value: &Value) -> Result<Option<How>, Memory> {
-        Ok(how(version, value))
-    }
-}
-
-/// A name.
-pub fn name(alloc: Global, value: &Value) -> Result<Option<String>, Memory>
-    ensures { IfOk result (λ o. option_map string_bytes o ≡ name_of (view value.now)) }
-{
-    match value.as_str() {
-        Some(text) => Ok(Some(String::from_str(alloc, text)?)),
-        None => Ok(None),
+    fn read(alloc: Global, version: Version, value: &Value) -> Explained<How> {
+        match how(version, value) {
+            Some(how) => Ok(how),
+            None => Err(no_word(alloc, version, value, HOWS)),
+        }
     }
 }

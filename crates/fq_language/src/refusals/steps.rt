@@ -1,7 +1,7 @@
 //! What a refusal of a step is about.
 use crate::hints::Hint;
 use crate::plans::Step;
-use crate::reasons::{Fit, Reason, Unfit, bail};
+use crate::reasons::{Explained, PartFault, bail};
 use crate::refusals::columns::{explain_column, explain_columns, explain_fault, explain_sum};
 use crate::refusals::expressions::explain_kind;
 use crate::refusals::joins::explain_join;
@@ -11,7 +11,6 @@ use fq_expr::{Expr, RowStep};
 use fq_ops::{Agg, Function, MAX_WINDOW, What, group_schema, join_schema, roll_schema};
 use fq_places::Quoted;
 use std::alloc::Global;
-use std::fmt::Write;
 
 /// The schema after a step. The sides are the schemas of the sources before the last.
 pub fn schema_after(
@@ -19,12 +18,11 @@ pub fn schema_after(
     sides: &[Schema],
     schema: &Schema,
     step: &Step,
-    why: &mut Reason,
-) -> Fit<Schema> {
+) -> Explained<Schema> {
     match step {
         Step::Rows(step) => match step.schema(alloc, schema) {
             Ok(after) => Ok(after),
-            Err(fault) => explain_rows(alloc, schema, step, fault, why),
+            Err(fault) => explain_rows(alloc, schema, step, fault),
         },
         Step::Join {
             source,
@@ -34,17 +32,17 @@ pub fn schema_after(
         } => {
             let place = usize::try_from(*source).ok();
             let Some(right) = place.and_then(|place| sides.get(place)) else {
-                return explain_source(*source, sides.len(), why);
+                return explain_source(alloc, *source, sides.len());
             };
             match join_schema(alloc, schema, right, on, *how) {
                 Ok(after) => Ok(after),
-                Err(fault) => explain_join(alloc, schema, right, on, fault, why),
+                Err(fault) => explain_join(alloc, schema, right, on, fault),
             }
         }
         Step::GroupBy { keys, aggs } => {
             match group_schema(alloc, schema, keys, aggs) {
                 Ok(after) => Ok(after),
-                Err(fault) => explain_grouping(alloc, schema, keys, aggs, fault, why),
+                Err(fault) => explain_grouping(alloc, schema, keys, aggs, fault),
             }
         }
         Step::RollingSum {
@@ -56,7 +54,7 @@ pub fn schema_after(
             let (column, window, samples) = (column.as_str(), *window, *min_samples);
             match roll_schema(alloc, schema, column, window, samples, name) {
                 Ok(after) => Ok(after),
-                Err(fault) => explain_roll(schema, column, window, samples, fault, why),
+                Err(fault) => explain_roll(alloc, schema, column, window, samples, fault),
             }
         }
     }
@@ -68,27 +66,26 @@ fn explain_rows<T>(
     schema: &Schema,
     step: &RowStep,
     fault: StepFault,
-    why: &mut Reason,
-) -> Fit<T> {
+) -> Explained<T> {
     match step {
         RowStep::Filter(predicate) => {
-            explain_kind(schema, predicate, why)?;
+            explain_kind(alloc, schema, predicate)?;
             match predicate.kind_in(schema) {
                 Ok(kind) if kind != Kind::Truth => {
                     let (kind, hint) = (kind_word(kind), Hint::of(&[predicate], Some(schema)));
-                    bail!(why, "the condition is {kind}{hint}")
+                    bail!(alloc, "the condition is {kind}{hint}")
                 }
-                _ => explain_fault(fault, why),
+                _ => explain_fault(alloc, fault),
             }
         }
         RowStep::WithColumns(outputs) => {
             let names = outputs.iter().map(|output| output.0.as_str());
             let count = names.filter(|name| schema.position(name).is_none()).count();
             let count = schema.len().saturating_add(count);
-            explain_outputs(alloc, schema, outputs, count, fault, why)
+            explain_outputs(alloc, schema, outputs, count, fault)
         }
         RowStep::Select(outputs) => {
-            explain_outputs(alloc, schema, outputs, outputs.len(), fault, why)
+            explain_outputs(alloc, schema, outputs, outputs.len(), fault)
         }
     }
 }
@@ -100,28 +97,27 @@ fn explain_outputs<T>(
     outputs: &[(String, Expr)],
     count: usize,
     fault: StepFault,
-    why: &mut Reason,
-) -> Fit<T> {
+) -> Explained<T> {
     if outputs.is_empty() {
-        bail!(why, "select has no outputs")
+        bail!(alloc, "select has no outputs")
     }
     for (name, expression) in outputs {
-        let fits = explain_kind(schema, expression, why);
-        of_output(alloc, name.as_str(), fits, why)?;
+        let fits = explain_kind(alloc, schema, expression);
+        of_output(alloc, name.as_str(), fits)?;
     }
     let names: Vec<&str> = outputs
         .iter()
         .map(|output| output.0.as_str())
         .collect(alloc)?;
-    explain_columns(&names, count, fault, why)
+    explain_columns(alloc, &names, count, fault)
 }
 
 // Why the source of a number cannot be joined, if so many can be.
-fn explain_source<T>(number: i64, count: usize, why: &mut Reason) -> Fit<T> {
+fn explain_source<T>(alloc: Global, number: i64, count: usize) -> Explained<T> {
     match count {
-        0 => bail!(why, "{number}; there is no source before the last"),
-        1 => bail!(why, "{number}; only source 0 can be joined"),
-        _ => bail!(why, "{number}; sources 0 to {} can be joined", count - 1),
+        0 => bail!(alloc, "{number}; there is no source before the last"),
+        1 => bail!(alloc, "{number}; only source 0 can be joined"),
+        _ => bail!(alloc, "{number}; sources 0 to {} can be joined", count - 1),
     }
 }
 
@@ -132,55 +128,57 @@ fn explain_grouping<T>(
     keys: &[String],
     aggs: &[Agg],
     fault: StepFault,
-    why: &mut Reason,
-) -> Fit<T> {
+) -> Explained<T> {
     if keys.is_empty() {
-        bail!(why, "keys is empty")
+        bail!(alloc, "keys is empty")
     }
     for key in keys {
-        explain_column(schema, key.as_str(), "", why)?;
+        explain_column(alloc, schema, key.as_str(), "")?;
     }
     for agg in aggs {
-        let fits = explain_aggregate(schema, &agg.what, why);
-        of_output(alloc, agg.name.as_str(), fits, why)?;
+        let fits = explain_aggregate(alloc, schema, &agg.what);
+        of_output(alloc, agg.name.as_str(), fits)?;
     }
     let names = keys.iter().map(|key| key.as_str());
     let names = names.chain(aggs.iter().map(|agg| agg.name.as_str()));
     let names: Vec<&str> = names.collect(alloc)?;
-    explain_columns(&names, names.len(), fault, why)
+    explain_columns(alloc, &names, names.len(), fault)
 }
 
 // What fits, or why the output of this name does not.
-fn of_output(alloc: Global, name: &str, fits: Fit, why: &mut Reason) -> Fit {
-    if let Err(Unfit::Noted) = fits {
-        why.text = format!(in alloc; "{}: {}", Quoted(name.as_bytes()), why.text)?;
+fn of_output(alloc: Global, name: &str, fits: Explained) -> Explained {
+    match fits {
+        Err(PartFault::Wrong(reason)) => {
+            let name = Quoted(name.as_bytes());
+            bail!(alloc, "{name}: {}", reason.text)
+        }
+        fits => fits,
     }
-    fits
 }
 
 // Nothing if an aggregate has a kind.
-fn explain_aggregate(schema: &Schema, what: &What, why: &mut Reason) -> Fit {
+fn explain_aggregate(alloc: Global, schema: &Schema, what: &What) -> Explained {
     match what {
         What::Len => Ok(()),
-        What::Of(Function::Sum, column) => explain_sum(schema, column.as_str(), "sum: ", why),
-        What::Of(_, column) => explain_column(schema, column.as_str(), "", why),
+        What::Of(Function::Sum, column) => explain_sum(alloc, schema, column.as_str(), "sum: "),
+        What::Of(_, column) => explain_column(alloc, schema, column.as_str(), ""),
     }
 }
 
 // What the refusal of a rolling sum is about.
 fn explain_roll<T>(
+    alloc: Global,
     schema: &Schema,
     column: &str,
     window: i64,
     samples: i64,
     fault: StepFault,
-    why: &mut Reason,
-) -> Fit<T> {
-    explain_sum(schema, column, "", why)?;
+) -> Explained<T> {
+    explain_sum(alloc, schema, column, "")?;
     let count = schema.len().saturating_add(1);
     match fault {
-        StepFault::Window => bail!(why, "{window} is not from 1 to {MAX_WINDOW}"),
-        StepFault::Samples => bail!(why, "{samples} is not from 1 to the window, {window}"),
-        _ => explain_columns(&[], count, fault, why),
+        StepFault::Window => bail!(alloc, "{window} is not from 1 to {MAX_WINDOW}"),
+        StepFault::Samples => bail!(alloc, "{samples} is not from 1 to the window, {window}"),
+        _ => explain_columns(alloc, &[], count, fault),
     }
 }

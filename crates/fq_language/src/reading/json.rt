@@ -1,18 +1,19 @@
 //! Why a text is not JSON, and where.
+use crate::reasons::{Reason, Segment};
 use fq_column::Memory;
 use fq_places::Quoted;
 use serde_json::Error;
 use std::alloc::Global;
 use std::str;
 
-/// Why a text that was refused with an error is not JSON, after the line and the column, in bytes, from 1.
-pub fn no_json(alloc: Global, text: &[u8], error: Error) -> Result<String, Memory> {
+/// Why a text that was refused with an error is not JSON, with its line and its column, in bytes, from 1.
+pub fn no_json(alloc: Global, text: &[u8], error: Error) -> Result<Reason, Memory> {
     let (line, column) = (error.line(), error.column().max(1));
-    let reason = match str::from_utf8(text) {
+    let said = match str::from_utf8(text) {
         Ok(text) => reason_at(alloc, rest_of_line(text, line, column), error)?,
         Err(_) => String::from_str(alloc, "invalid UTF-8")?,
     };
-    Ok(format!(in alloc; ":{line}:{column}: {reason}")?)
+    Reason::new(alloc, said).within(Segment::Text { line, column })
 }
 
 // The rest of a line of a text from a column on, both from 1.
