@@ -3,6 +3,7 @@ pub mod Cell
 pub mod Column
 pub mod Examples
 pub mod Frame
+pub mod Hashed
 pub mod Lists
 pub mod Refusal
 pub mod Schema

@@ -4,6 +4,7 @@ ghost use Rattle.std.specs.Prelude.{◌≡◌, IfOk};
 use crate::faults::Memory;
 use crate::texts::Text;
 use std::alloc::Global;
+use std::hash::{Hash, Hasher};
 
 /// The kind of a column.
 #[derive(Clone, Copy, Debug, PartialEq, Eq)]
@@ -20,7 +21,7 @@ pub enum Kind {
 ///
 /// Cells are ordered by kind, in the order of the variants, and within a kind whole numbers by value, texts by their
 /// UTF-8 bytes, and false before true. Null is equal to null: this is the equality of keys, not that of `eq`.
-#[derive(Debug, Drop, PartialEq, Eq, PartialOrd, Ord, Hash)]
+#[derive(Debug, Drop, PartialEq, Eq, PartialOrd, Ord)]
 pub enum Cell {
     /// No value.
     Null,
@@ -55,5 +56,23 @@ impl Default for Cell {
     /// Null.
     fn default() -> Cell {
         Cell::Null
+    }
+}
+
+impl Hash for Cell {
+    ghost use Rattle.fq_column.specs.Hashed.{cell_writes, alike};
+
+    ghost hash_input = { cell_writes };
+
+    ghost respects_eq = { alike };
+
+    /// One write for a value, without its kind: the cells of a column are of one kind, or null.
+    fn hash<H: Hasher>(&self, state: &mut H) {
+        match self {
+            Cell::Null => state.write_u8(2),
+            Cell::Whole(value) => value.hash(state),
+            Cell::Text(text) => text.hash(state),
+            Cell::Truth(value) => value.hash(state),
+        }
     }
 }

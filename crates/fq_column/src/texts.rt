@@ -1,11 +1,9 @@
 //! A text of a cell, which contracts see as its bytes.
-ghost use Rattle.std.specs.Prelude.{◌≡◌, [], Some, refl, IfOk, OnOk, OnErr, nat_eq};
+ghost use Rattle.std.specs.Prelude.{◌≡◌, [], ◌∷◌, Some, refl, IfOk, OnOk, OnErr, nat_eq};
 ghost use Rattle.std.specs.Cmp as laws;
 ghost use Rattle.std.specs.Ordering.{nat_cmp};
-ghost use Rattle.std.specs.Cmp.Lexicographic.{pointwise, slice_cmp, nat_list_eq_equiv, nat_list_cmp_total, texts_ties, texts_po};
-ghost use Rattle.std.specs.Hash as fed;
-ghost use Rattle.std.specs.Cmp.Rules.{hashing};
-ghost use Rattle.std.proofs.Common.{rules};
+ghost use Rattle.std.specs.Cmp.Lexicographic.{pointwise, slice_cmp, bytes_decides, nat_list_eq_equiv, nat_list_cmp_total, texts_ties, texts_po};
+ghost use Rattle.std.specs.Hash.{same_Alike};
 
 use crate::faults::Memory;
 use arrayvec::ArrayString;
@@ -157,11 +155,12 @@ impl Ord for Text {
 }
 
 impl Hash for Text {
-    ghost hash_input = { λ s. fed.str s };
+    ghost hash_input = { λ s. s ∷ [] };
 
-    ghost respects_eq = { Prim.search (hashing, rules) };
+    ghost respects_eq = { (same_Alike (λ s. s ∷ []) bytes_decides).fed };
 
+    /// One write, of the bytes alone: a hasher mixes in how many they are.
     fn hash<H: Hasher>(&self, state: &mut H) {
-        self.as_str().hash(state);
+        state.write(self.as_str().as_bytes());
     }
 }

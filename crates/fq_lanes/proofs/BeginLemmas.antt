@@ -65,8 +65,8 @@ module _ {X S O : Type 0} where
       }
 
   -- after a fault the lanes are drained
-  pub halts_on : (takes : S → ℕ → ℕ → O → S → Type 0) (refuses : S → S → Type 0) (first : S) (tolds tolds' : List (List (FromFeed X))) (ds ds' : List (WorkerView X O)) (tail : S) (fault fault' : RunFault)
-      → length tolds' ≡ length tolds → Grows IsPrefix tolds tolds' → Grows WorkerGrows ds ds' → (BlamesTold tolds fault → BlamesTold tolds' fault')
-      → Halts takes refuses first tolds ds tail fault → Halts takes refuses first tolds' ds' tail fault'
-  halts_on takes refuses first tolds tolds' ds ds' tail fault fault' size g k b ((events, h), blames) =
-      ((events, halt_on takes refuses first tolds tolds' ds ds' tail events size g k h), b blames)
+  pub halts_on : (takes : S → ℕ → ℕ → O → S → Type 0) (refuses : S → S → Type 0) (first : S) (messages tolds' : List (List (FromFeed X))) (ds ds' : List (WorkerView X O)) (tail : S) (fault fault' : RunFault)
+      → length tolds' ≡ length messages → Grows IsPrefix messages tolds' → Grows WorkerGrows ds ds' → (BlamesTold messages fault → BlamesTold tolds' fault')
+      → Halts takes refuses first messages ds tail fault → Halts takes refuses first tolds' ds' tail fault'
+  halts_on takes refuses first messages tolds' ds ds' tail fault fault' size g k b ((events, h), blames) =
+      ((events, halt_on takes refuses first messages tolds' ds ds' tail events size g k h), b blames)

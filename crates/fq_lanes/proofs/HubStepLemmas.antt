@@ -180,20 +180,20 @@ module _ {X S O : Type 0} where
       ap (λ (u : WorkerView X O). u.outstanding) (sym e.2) ∙ nothing_in e.0.outstanding.items none)
 
 module _ {X : Type 0} where
-  blames_on : (tolds tolds' : List (List (FromFeed X))) (fault : RunFault) → Grows IsPrefix tolds tolds' → BlamesTold tolds fault → BlamesTold tolds' fault
-  blames_on tolds tolds' run_fault.Memory g b = tt
-  blames_on tolds tolds' (run_fault.Read f) g (told, at, tells) = let now = g f told at in (now.0, now.1, tells_grows told now.0 (End (Some feed_fault.Read)) now.2 tells)
+  blames_on : (messages tolds' : List (List (FromFeed X))) (fault : RunFault) → Grows IsPrefix messages tolds' → BlamesTold messages fault → BlamesTold tolds' fault
+  blames_on messages tolds' run_fault.Memory g b = tt
+  blames_on messages tolds' (run_fault.Read f) g (told, at, tells) = let now = g f told at in (now.0, now.1, tells_grows told now.0 (End (Some feed_fault.Read)) now.2 tells)
 
   -- of two faults, the one that takes precedence is one of them, or `Memory`
-  first_told : (tolds : List (List (FromFeed X))) (first : RunFault) (other : Option FeedFault) (f : ℕ) (told : List (FromFeed X)) → slice_get tolds f ≡ Some told
-      → IfSome other (λ e. Tells told (End (Some e))) → BlamesTold tolds first → BlamesTold tolds (first_of first other f)
-  first_told tolds first None f told at tells b = b
-  first_told tolds run_fault.Memory (Some e) f told at tells b = tt
-  first_told tolds (run_fault.Read h) (Some feed_fault.Memory) f told at tells b = tt
-  first_told tolds (run_fault.Read h) (Some feed_fault.Read) f told at tells b =
+  first_told : (messages : List (List (FromFeed X))) (first : RunFault) (other : Option FeedFault) (f : ℕ) (told : List (FromFeed X)) → slice_get messages f ≡ Some told
+      → IfSome other (λ e. Tells told (End (Some e))) → BlamesTold messages first → BlamesTold messages (first_of first other f)
+  first_told messages first None f told at tells b = b
+  first_told messages run_fault.Memory (Some e) f told at tells b = tt
+  first_told messages (run_fault.Read h) (Some feed_fault.Memory) f told at tells b = tt
+  first_told messages (run_fault.Read h) (Some feed_fault.Read) f told at tells b =
       elim (cases_lt h f) [
-        | inl lt ↦ let is : min h f ≡ h = omega (arith, lt) in subst (λ n. BlamesTold tolds (run_fault.Read n)) (sym is) b
-        | inr le ↦ let is : min h f ≡ f = omega (arith, le) in subst (λ n. BlamesTold tolds (run_fault.Read n)) (sym is) (told, at, tells)
+        | inl lt ↦ let is : min h f ≡ h = omega (arith, lt) in subst (λ n. BlamesTold messages (run_fault.Read n)) (sym is) b
+        | inr le ↦ let is : min h f ≡ f = omega (arith, le) in subst (λ n. BlamesTold messages (run_fault.Read n)) (sym is) (told, at, tells)
       ]
 
   pub drain_grows : (ns : List (FeedLane X)) (f : ℕ) (n n' : FeedLane X) → slice_get ns f ≡ Some n → IsPrefix (feed_view n).told (feed_view n').told → Grows IsPrefix (told_in (feed_views ns)) (told_in (feed_views (set ns f n')))

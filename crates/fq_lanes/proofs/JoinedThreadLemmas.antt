@@ -103,8 +103,8 @@ module _ {F X : Type 0} where
         ),
       )
 
-  pub all_go : (gives : F → List X → Type 0) (may_fail : F → Type 0) (feeds : List F) (tolds : List (List (FromFeed X))) → Each (Began gives may_fail) feeds tolds
-      → (alls : List (List X)) × Each gives feeds alls × Each GoesTo tolds alls
+  pub all_go : (gives : F → List X → Type 0) (may_fail : F → Type 0) (feeds : List F) (messages : List (List (FromFeed X))) → Each (Began gives may_fail) feeds messages
+      → (alls : List (List X)) × Each gives feeds alls × Each GoesTo messages alls
   all_go gives may_fail [] [] h = ([], tt, tt)
   all_go gives may_fail [] (t ∷ ts) h = absurd h
   all_go gives may_fail (f ∷ fs) [] h = absurd h
@@ -114,8 +114,8 @@ module _ {F X : Type 0} where
       (one.0 ∷ rest.0, (one.1, rest.1), (one.2, rest.2))
 
   -- each feed ended without a fault, so the items told are all that they give
-  pub all_clean : (gives : F → List X → Type 0) (may_fail : F → Type 0) (feeds : List F) (tolds : List (List (FromFeed X))) → Each (Began gives may_fail) feeds tolds
-      → ((f : ℕ) (told : List (FromFeed X)) → slice_get tolds f ≡ Some told → end_told told ≡ Some None) → Each gives feeds (items_in tolds)
+  pub all_clean : (gives : F → List X → Type 0) (may_fail : F → Type 0) (feeds : List F) (messages : List (List (FromFeed X))) → Each (Began gives may_fail) feeds messages
+      → ((f : ℕ) (told : List (FromFeed X)) → slice_get messages f ≡ Some told → end_told told ≡ Some None) → Each gives feeds (items_in messages)
   all_clean gives may_fail [] [] h ends = tt
   all_clean gives may_fail [] (t ∷ ts) h ends = absurd h
   all_clean gives may_fail (f ∷ fs) [] h ends = absurd h
@@ -124,42 +124,42 @@ module _ {F X : Type 0} where
       (subst (λ l. gives f l) (one.2.1 (ends zero t refl)) one.1, all_clean gives may_fail fs ts h.1 (λ i told at. ends (suc i) told at))
 
   -- a fault that was told is the feed's
-  pub blames_feed : (gives : F → List X → Type 0) (may_fail : F → Type 0) (feeds : List F) (tolds : List (List (FromFeed X))) (fault : RunFault) → Each (Began gives may_fail) feeds tolds
-      → BlamesTold tolds fault → BlamesFeed may_fail feeds fault
-  blames_feed gives may_fail feeds tolds run_fault.Memory h b = tt
-  blames_feed gives may_fail feeds tolds (run_fault.Read f) h (told, at, (i, there)) =
-      let (feed, here, (put, (xs, ys, end, is, gave, whole, fails), begins)) = each_second (Began gives may_fail) feeds tolds f told h at in
+  pub blames_feed : (gives : F → List X → Type 0) (may_fail : F → Type 0) (feeds : List F) (messages : List (List (FromFeed X))) (fault : RunFault) → Each (Began gives may_fail) feeds messages
+      → BlamesTold messages fault → BlamesFeed may_fail feeds fault
+  blames_feed gives may_fail feeds messages run_fault.Memory h b = tt
+  blames_feed gives may_fail feeds messages (run_fault.Read f) h (told, at, (i, there)) =
+      let (feed, here, (put, (xs, ys, end, is, gave, whole, fails), begins)) = each_second (Began gives may_fail) feeds messages f told h at in
       let in_put : slice_get put i ≡ Some (End (Some feed_fault.Read)) = get_prefix told put i (End (Some feed_fault.Read)) begins there in
       let same : ◌≡◌ {A = Option FeedFault} (Some feed_fault.Read) end = only_end xs end (Some feed_fault.Read) i (ap (λ l. slice_get l i) (sym is) ∙ in_put) in
       (feed, here, fails (sym same))
 
 module _ {X : Type 0} where
-  goes_item : (tolds : List (List (FromFeed X))) (alls : List (List X)) (f s : ℕ) (x : X) → Each GoesTo tolds alls → item_at (items_in tolds) f s ≡ Some x → item_at alls f s ≡ Some x
-  goes_item tolds alls f s x go e =
-      let file = item_file (items_in tolds) f s x e in
-      let told = get_of_map items_of tolds f file.0 file.1 in
-      let now = each_first GoesTo tolds alls f told.0 go told.1 in
+  goes_item : (messages : List (List (FromFeed X))) (alls : List (List X)) (f s : ℕ) (x : X) → Each GoesTo messages alls → item_at (items_in messages) f s ≡ Some x → item_at alls f s ≡ Some x
+  goes_item messages alls f s x go e =
+      let file = item_file (items_in messages) f s x e in
+      let told = get_of_map items_of messages f file.0 file.1 in
+      let now = each_first GoesTo messages alls f told.0 go told.1 in
       let here : slice_get (items_of told.0) s ≡ Some x = ap (λ l. slice_get l s) told.2 ∙ file.2 in
       file_item alls f s now.0 now.1 ∙ get_prefix (items_of told.0) now.0 s x now.2.0 here
 
 module _ {F X S O : Type 0} where
   -- what was handed on before a fault
   pub lanes_halted : (gives : F → List X → Type 0) (may_fail : F → Type 0) (takes : S → ℕ → ℕ → O → S → Type 0) (refuses : S → S → Type 0)
-      (feeds : List F) (first : S) (tolds : List (List (FromFeed X))) (ds : List (WorkerView X O)) (tail : S) (events : List (Event O))
-      → Each (Began gives may_fail) feeds tolds → Halt takes refuses first tolds ds tail events → Halted gives takes refuses feeds first (items_in tolds) events tail
-  lanes_halted gives may_fail takes refuses feeds first tolds ds tail events began h =
-      let go = all_go gives may_fail feeds tolds began in
+      (feeds : List F) (first : S) (messages : List (List (FromFeed X))) (ds : List (WorkerView X O)) (tail : S) (events : List (Event O))
+      → Each (Began gives may_fail) feeds messages → Halt takes refuses first messages ds tail events → Halted gives takes refuses feeds first (items_in messages) events tail
+  lanes_halted gives may_fail takes refuses feeds first messages ds tail events began h =
+      let go = all_go gives may_fail feeds messages began in
       let all = go.0 in
       let (log, begins, took) = h.stopped in
-      let count : length tolds ≡ length all = each_length GoesTo tolds all go.2 in
-      let due_all : IsPrefix (numbers (due events (length tolds))) (numbers (numbered zero all)) =
+      let count : length messages ≡ length all = each_length GoesTo messages all go.2 in
+      let due_all : IsPrefix (numbers (due events (length messages))) (numbers (numbered zero all)) =
       subst (λ n. IsPrefix (numbers (due events n)) (numbers (numbered zero all))) (sym count) (due_begins events zero all (λ i ys at.
       let here : zero + i ≡ i = omega arith in
-      let on = each_second GoesTo tolds all i ys go.2 at in
+      let on = each_second GoesTo messages all i ys go.2 at in
       subst (λ n. ((r : ℕ) (y : O) → offer_at events n r ≡ Some y → r < length ys) × (is_complete events n ≡ true → length (ready events n) ≡ length ys)) (sym here) (
         (λ r y e.
             let x = h.sourced i r y e in
-            let there = goes_item tolds all i r x.0.item go.2 x.3 in
+            let there = goes_item messages all i r x.0.item go.2 x.3 in
             get_within ys r x.0.item (sym (file_item all i r ys at) ∙ there)),
         (λ whole.
             let close = closed_with (close_at events i) (length (ready events i)) whole in
@@ -170,36 +170,36 @@ module _ {F X S O : Type 0} where
       ))) in (
         all,
         go.1,
-        (λ f s x e. goes_item tolds all f s x go.2 e),
+        (λ f s x e. goes_item messages all f s x go.2 e),
         (
           log,
           took,
-          prefix_then (numbers log) (numbers (due events (length tolds))) (numbers (numbered zero all)) (numbers_prefix log (due events (length tolds)) begins) due_all,
-          all_numbered_prefix (λ f s o. offer_at events f s ≡ Some o) log (due events (length tolds)) begins (due_holds (λ f s o. offer_at events f s ≡ Some o) events zero (length tolds) (λ g r x e. e)),
+          prefix_then (numbers log) (numbers (due events (length messages))) (numbers (numbered zero all)) (numbers_prefix log (due events (length messages)) begins) due_all,
+          all_numbered_prefix (λ f s o. offer_at events f s ≡ Some o) log (due events (length messages)) begins (due_holds (λ f s o. offer_at events f s ≡ Some o) events zero (length messages) (λ g r x e. e)),
         ),
       )
 
   pub lanes_stop : (gives : F → List X → Type 0) (may_fail : F → Type 0) (works : ℕ → X → O → Type 0) (takes : S → ℕ → ℕ → O → S → Type 0) (refuses : S → S → Type 0)
-      (feeds : List F) (first : S) (tolds : List (List (FromFeed X))) (ds : List (WorkerView X O)) (tail : S) (events : List (Event O))
-      → Each (Began gives may_fail) feeds tolds → AllReplied works ds → Halt takes refuses first tolds ds tail events → StopsEarly gives works takes refuses feeds first tail
-  lanes_stop gives may_fail works takes refuses feeds first tolds ds tail events began replied h =
-      stops_early gives works takes refuses feeds first (items_in tolds) events tail
-      (lanes_halted gives may_fail takes refuses feeds first tolds ds tail events began h)
-      (offers_worked works (items_in tolds) ds events replied h.sourced)
+      (feeds : List F) (first : S) (messages : List (List (FromFeed X))) (ds : List (WorkerView X O)) (tail : S) (events : List (Event O))
+      → Each (Began gives may_fail) feeds messages → AllReplied works ds → Halt takes refuses first messages ds tail events → StopsEarly gives works takes refuses feeds first tail
+  lanes_stop gives may_fail works takes refuses feeds first messages ds tail events began replied h =
+      stops_early gives works takes refuses feeds first (items_in messages) events tail
+      (lanes_halted gives may_fail takes refuses feeds first messages ds tail events began h)
+      (offers_worked works (items_in messages) ds events replied h.sourced)
 
   pub lanes_finish : (gives : F → List X → Type 0) (may_fail : F → Type 0) (works : ℕ → X → O → Type 0) (takes : S → ℕ → ℕ → O → S → Type 0)
-      (feeds : List F) (first : S) (tolds : List (List (FromFeed X))) (ds : List (WorkerView X O)) (hub : Hub S O) (events : List (Event O))
-      → Each (Began gives may_fail) feeds tolds → AllReplied works ds → Settled takes first tolds ds hub events → Finishes gives works takes feeds first hub.trace.items hub.tail
-  lanes_finish gives may_fail works takes feeds first tolds ds hub events began replied h =
-      let items = items_in tolds in
+      (feeds : List F) (first : S) (messages : List (List (FromFeed X))) (ds : List (WorkerView X O)) (hub : Hub S O) (events : List (Event O))
+      → Each (Began gives may_fail) feeds messages → AllReplied works ds → Settled takes first messages ds hub events → Finishes gives works takes feeds first hub.trace.items hub.tail
+  lanes_finish gives may_fail works takes feeds first messages ds hub events began replied h =
+      let items = items_in messages in
       let worked = offers_worked works items ds events replied h.sourced in
       let settled : numbers (due events (length items)) ≡ numbers (numbered zero items) =
       books_settle items events h.books (λ i xs at.
-      let told = get_of_map items_of tolds i xs at in
+      let told = get_of_map items_of messages i xs at in
       (h.ends i told.0 told.1).1 ∙ ap (λ l. Some (length l)) told.2) in
-      let files : length items ≡ file_count hub.sink = length-map tolds items_of ∙ sym h.files in (
+      let files : length items ≡ file_count hub.sink = length-map messages items_of ∙ sym h.files in (
         items,
-        all_clean gives may_fail feeds tolds began (λ f told at. (h.ends f told at).0),
+        all_clean gives may_fail feeds messages began (λ f told at. (h.ends f told at).0),
         (
           due events (file_count hub.sink),
           each_worked works (λ f s x. item_at items f s ≡ Some x) (λ f s o. (x : X) × (item_at items f s ≡ Some x) × works f x o)
@@ -212,10 +212,10 @@ module _ {F X S O : Type 0} where
       )
 
 module _ {X S O : Type 0} where
-  pub run_ok : (takes : S → ℕ → ℕ → O → S → Type 0) (refuses : S → S → Type 0) (first : S) (tolds : List (List (FromFeed X))) (ds : List (WorkerView X O)) (hub : Hub S O) (outcome : Result (Unit {0}) RunFault) (u : Unit {0})
-      → RunDone takes refuses first tolds ds hub outcome → outcome ≡ Ok u → (events : List (Event O)) × Settled takes first tolds ds hub events
-  run_ok takes refuses first tolds ds hub outcome u h is = subst (λ r. RunDone takes refuses first tolds ds hub r) is h
+  pub run_ok : (takes : S → ℕ → ℕ → O → S → Type 0) (refuses : S → S → Type 0) (first : S) (messages : List (List (FromFeed X))) (ds : List (WorkerView X O)) (hub : Hub S O) (outcome : Result (Unit {0}) RunFault) (u : Unit {0})
+      → RunDone takes refuses first messages ds hub outcome → outcome ≡ Ok u → (events : List (Event O)) × Settled takes first messages ds hub events
+  run_ok takes refuses first messages ds hub outcome u h is = subst (λ r. RunDone takes refuses first messages ds hub r) is h
 
-  pub run_err : (takes : S → ℕ → ℕ → O → S → Type 0) (refuses : S → S → Type 0) (first : S) (tolds : List (List (FromFeed X))) (ds : List (WorkerView X O)) (hub : Hub S O) (outcome : Result (Unit {0}) RunFault) (fault : RunFault)
-      → RunDone takes refuses first tolds ds hub outcome → outcome ≡ Err fault → Halts takes refuses first tolds ds hub.tail fault
-  run_err takes refuses first tolds ds hub outcome fault h is = subst (λ r. RunDone takes refuses first tolds ds hub r) is h
+  pub run_err : (takes : S → ℕ → ℕ → O → S → Type 0) (refuses : S → S → Type 0) (first : S) (messages : List (List (FromFeed X))) (ds : List (WorkerView X O)) (hub : Hub S O) (outcome : Result (Unit {0}) RunFault) (fault : RunFault)
+      → RunDone takes refuses first messages ds hub outcome → outcome ≡ Err fault → Halts takes refuses first messages ds hub.tail fault
+  run_err takes refuses first messages ds hub outcome fault h is = subst (λ r. RunDone takes refuses first messages ds hub r) is h

@@ -90,10 +90,10 @@ module _ {X : Type 0} where
   tells_grows told told' t p (i, at) = (i, get_prefix told told' i t p at)
 
   -- an item that was taken stands where it stood
-  pub item_grows : (tolds tolds' : List (List (FromFeed X))) (f s : ℕ) (x : X) → Grows IsPrefix tolds tolds' → item_at (items_in tolds) f s ≡ Some x → item_at (items_in tolds') f s ≡ Some x
-  item_grows tolds tolds' f s x g e =
-      let file = item_file (items_in tolds) f s x e in
-      let told = get_of_map items_of tolds f file.0 file.1 in
+  pub item_grows : (messages tolds' : List (List (FromFeed X))) (f s : ℕ) (x : X) → Grows IsPrefix messages tolds' → item_at (items_in messages) f s ≡ Some x → item_at (items_in tolds') f s ≡ Some x
+  item_grows messages tolds' f s x g e =
+      let file = item_file (items_in messages) f s x e in
+      let told = get_of_map items_of messages f file.0 file.1 in
       let now = g f told.0 told.1 in
       let here : slice_get (items_of told.0) s ≡ Some x = ap (λ l. slice_get l s) told.2 ∙ file.2 in
       file_item (items_in tolds') f s (items_of now.0) (get_map items_of tolds' f now.0 now.1) ∙ get_prefix (items_of told.0) (items_of now.0) s x (items_grow told.0 now.0 now.2) here
@@ -110,8 +110,8 @@ module _ {X : Type 0} where
       subst (λ l. Grows IsPrefix (told_in vs) l) (sym (told_in_set vs f v'))
       (grows_set IsPrefix (told_in vs) f v.told v'.told prefix_same (get_map (λ (u : FeedView X). u.told) vs f v at) p)
 
-  pub tolds_same : (tolds : List (List (FromFeed X))) → Grows IsPrefix tolds tolds
-  tolds_same tolds = grows_same IsPrefix tolds prefix_same
+  pub tolds_same : (messages : List (List (FromFeed X))) → Grows IsPrefix messages messages
+  tolds_same messages = grows_same IsPrefix messages prefix_same
 
   pub tolds_then : (a b c : List (List (FromFeed X))) → Grows IsPrefix a b → Grows IsPrefix b c → Grows IsPrefix a c
   tolds_then a b c g h = grows_then IsPrefix a b c prefix_then g h

@@ -90,12 +90,12 @@ module _ {X O : Type 0} where
   has_item items (Stop ∷ js) (r ∷ rs) job o h (inr k) = has_item items js rs job o h k
 
   -- more was taken, given and answered
-  pub sourced_on : (tolds tolds' : List (List (FromFeed X))) (ds ds' : List (WorkerView X O)) (events : List (Event O))
-      → Grows IsPrefix tolds tolds' → Grows WorkerGrows ds ds' → OffersSourced (items_in tolds) ds events → OffersSourced (items_in tolds') ds' events
-  sourced_on tolds tolds' ds ds' events g k h f s o e =
+  pub sourced_on : (messages tolds' : List (List (FromFeed X))) (ds ds' : List (WorkerView X O)) (events : List (Event O))
+      → Grows IsPrefix messages tolds' → Grows WorkerGrows ds ds' → OffersSourced (items_in messages) ds events → OffersSourced (items_in tolds') ds' events
+  sourced_on messages tolds' ds ds' events g k h f s o e =
       let (job, file, serial, here, (w, d, at, has)) = h f s o e in
       let now = k w d at in
-      (job, file, serial, item_grows tolds tolds' f s job.item g here, (w, now.0, now.1, has_grows d now.0 job o now.2 has))
+      (job, file, serial, item_grows messages tolds' f s job.item g here, (w, now.0, now.1, has_grows d now.0 job o now.2 has))
 
   sourced_more : (items : List (List X)) (ds : List (WorkerView X O)) (events : List (Event O)) (f s : ℕ) (o : O)
       → OffersSourced items ds events → Sourced items ds f s o → OffersSourced items ds (events ++ Offer f s o ∷ [])
@@ -264,15 +264,15 @@ module _ {X S O : Type 0} where
       known_halts takes refuses first vs ds hub.tail events t.known (subst (λ n. HasStopped takes refuses first events n hub.tail) t.files (stops_all takes refuses first events hub t.handed))
 
   -- more is taken and answered after it
-  pub halt_on : (takes : S → ℕ → ℕ → O → S → Type 0) (refuses : S → S → Type 0) (first : S) (tolds tolds' : List (List (FromFeed X))) (ds ds' : List (WorkerView X O)) (tail : S) (events : List (Event O))
-      → length tolds' ≡ length tolds → Grows IsPrefix tolds tolds' → Grows WorkerGrows ds ds' → Halt takes refuses first tolds ds tail events → Halt takes refuses first tolds' ds' tail events
-  halt_on takes refuses first tolds tolds' ds ds' tail events size g k h = record {
+  pub halt_on : (takes : S → ℕ → ℕ → O → S → Type 0) (refuses : S → S → Type 0) (first : S) (messages tolds' : List (List (FromFeed X))) (ds ds' : List (WorkerView X O)) (tail : S) (events : List (Event O))
+      → length tolds' ≡ length messages → Grows IsPrefix messages tolds' → Grows WorkerGrows ds ds' → Halt takes refuses first messages ds tail events → Halt takes refuses first tolds' ds' tail events
+  halt_on takes refuses first messages tolds' ds ds' tail events size g k h = record {
     closes = λ f n e.
         let was = h.closes f n e in
         let now = g f was.0 was.1 in
         let stays = ended_grows was.0 now.0 None now.2 was.2 in
         (now.0, now.1, stays.1, was.3 ∙ ap length (sym stays.0));
-    sourced = sourced_on tolds tolds' ds ds' events g k h.sourced;
+    sourced = sourced_on messages tolds' ds ds' events g k h.sourced;
     stopped = subst (λ n. HasStopped takes refuses first events n tail) (sym size) h.stopped;
   }
 

@@ -12,8 +12,8 @@ module _ {F X : Type 0} where
   Leads gives old xs now = (ys : List X) → gives now ys → gives old (xs ++ ys)
 
   -- the messages are the items that the feed gave and then its end; without a fault they are all that it gives
-  abbrev pub Scanned : (F → List X → Type 0) → (F → Type 0) → F → List (FromFeed X) → Type 0
-  Scanned gives may_fail feed told =
+  abbrev pub ToldAll : (F → List X → Type 0) → (F → Type 0) → F → List (FromFeed X) → Type 0
+  ToldAll gives may_fail feed told =
       (xs : List X) × (ys : List X) × (end : Option FeedFault)
       × (told ≡ map Item xs ++ End end ∷ [])
       × gives feed (xs ++ ys)
@@ -23,4 +23,4 @@ module _ {F X : Type 0} where
 module _ {F X : Type 0} where
   -- what was taken begins what the feed's thread put
   abbrev pub Began : (F → List X → Type 0) → (F → Type 0) → F → List (FromFeed X) → Type 0
-  Began gives may_fail feed taken = (put : List (FromFeed X)) × Scanned gives may_fail feed put × IsPrefix taken put
+  Began gives may_fail feed taken = (put : List (FromFeed X)) × ToldAll gives may_fail feed put × IsPrefix taken put

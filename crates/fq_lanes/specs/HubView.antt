@@ -45,7 +45,7 @@ module _ {X : Type 0} where
 
   -- the items of all files, as far as they were taken
   abbrev pub items_in : List (List (FromFeed X)) → List (List X)
-  items_in tolds = map items_of tolds
+  items_in messages = map items_of messages
 
   -- this was told
   abbrev pub Tells : List (FromFeed X) → FromFeed X → Type 0

@@ -24,7 +24,7 @@ use Rattle.fq_lanes.specs.declared.messages.ToWorker.{ToWorker}
 use Rattle.fq_lanes.specs.declared.messages.ToWorker.TheVariants.{Do, Stop}
 
 module _ {X : Type 0} where
-  -- what the hub hears of a feed, by its lane before and after
+  -- what a poll of a feed tells the hub, by its lane before and after
   abbrev pub Polls : FeedView X → Polled X → FeedView X → Type 0
   Polls old polled.Nothing new = new ≡ old
   Polls old (polled.Item s x) new = (old.ended ≡ false) × (new.told ≡ old.told ++ Item x ∷ []) × (s ≡ old.items) × (new.items ≡ old.items + 1) × (new.ended ≡ false)
@@ -40,8 +40,8 @@ module _ {X : Type 0} where
 
   -- a read fault was told by the feed that it names
   abbrev pub BlamesTold : List (List (FromFeed X)) → RunFault → Type 0
-  BlamesTold tolds Memory = Unit {0}
-  BlamesTold tolds (Read file) = (told : List (FromFeed X)) × (slice_get tolds file ≡ Some told) × Tells told (End (Some feed_fault.Read))
+  BlamesTold messages Memory = Unit {0}
+  BlamesTold messages (Read file) = (told : List (FromFeed X)) × (slice_get messages file ≡ Some told) × Tells told (End (Some feed_fault.Read))
 
 module _ {X O : Type 0} where
   -- how often the pair of f and s is outstanding
@@ -87,31 +87,31 @@ module _ {X S O : Type 0} where
     pub near : OutstandingNear events (length vs) ds
 
   -- after a fault: the tail took a prefix of what was due, and refused at most one call
-  pub record Halt (takes : S → ℕ → ℕ → O → S → Type 0) (refuses : S → S → Type 0) (first : S) (tolds : List (List (FromFeed X))) (ds : List (WorkerView X O)) (tail : S) (events : List (Event O)) : Type 0 where
-    pub closes : (f n : ℕ) → close_at events f ≡ Some n → (told : List (FromFeed X)) × (slice_get tolds f ≡ Some told) × (end_told told ≡ Some None) × (n ≡ length (items_of told))
-    pub sourced : OffersSourced (items_in tolds) ds events
-    pub stopped : HasStopped takes refuses first events (length tolds) tail
+  pub record Halt (takes : S → ℕ → ℕ → O → S → Type 0) (refuses : S → S → Type 0) (first : S) (messages : List (List (FromFeed X))) (ds : List (WorkerView X O)) (tail : S) (events : List (Event O)) : Type 0 where
+    pub closes : (f n : ℕ) → close_at events f ≡ Some n → (told : List (FromFeed X)) × (slice_get messages f ≡ Some told) × (end_told told ≡ Some None) × (n ≡ length (items_of told))
+    pub sourced : OffersSourced (items_in messages) ds events
+    pub stopped : HasStopped takes refuses first events (length messages) tail
 
   -- so, and a read fault was told by the feed that it names
   abbrev pub Halts : (S → ℕ → ℕ → O → S → Type 0) → (S → S → Type 0) → S → List (List (FromFeed X)) → List (WorkerView X O) → S → RunFault → Type 0
-  Halts takes refuses first tolds ds tail fault = ((events : List (Event O)) × Halt takes refuses first tolds ds tail events) × BlamesTold tolds fault
+  Halts takes refuses first messages ds tail fault = ((events : List (Event O)) × Halt takes refuses first messages ds tail events) × BlamesTold messages fault
 
   -- a step of the hub: it goes on, or halts at a fault
-  abbrev pub Turns : {U : Type 0} → (S → ℕ → ℕ → O → S → Type 0) → (S → S → Type 0) → S → List (FeedView X) → List (WorkerView X O) → Hub S O → Result U RunFault → Type 0
-  Turns takes refuses first vs ds hub result =
+  abbrev pub HubGoesOn : {U : Type 0} → (S → ℕ → ℕ → O → S → Type 0) → (S → S → Type 0) → S → List (FeedView X) → List (WorkerView X O) → Hub S O → Result U RunFault → Type 0
+  HubGoesOn takes refuses first vs ds hub result =
       MatchResult result (λ _. (events : List (Event O)) × InTurn takes first vs ds hub events)
       (λ fault. Halts takes refuses first (told_in vs) ds hub.tail fault)
 
   -- in the end: each feed ended without a fault, and the work on each of its items was offered
-  pub record Settled (takes : S → ℕ → ℕ → O → S → Type 0) (first : S) (tolds : List (List (FromFeed X))) (ds : List (WorkerView X O)) (hub : Hub S O) (events : List (Event O)) : Type 0 where
-    pub ends : (f : ℕ) (told : List (FromFeed X)) → slice_get tolds f ≡ Some told → (end_told told ≡ Some None) × (close_at events f ≡ Some (length (items_of told)))
-    pub sourced : OffersSourced (items_in tolds) ds events
-    pub books : Books (items_in tolds) none_waits events
+  pub record Settled (takes : S → ℕ → ℕ → O → S → Type 0) (first : S) (messages : List (List (FromFeed X))) (ds : List (WorkerView X O)) (hub : Hub S O) (events : List (Event O)) : Type 0 where
+    pub ends : (f : ℕ) (told : List (FromFeed X)) → slice_get messages f ≡ Some told → (end_told told ≡ Some None) × (close_at events f ≡ Some (length (items_of told)))
+    pub sourced : OffersSourced (items_in messages) ds events
+    pub books : Books (items_in messages) none_waits events
     pub handed : HandedOn takes first events hub
-    pub files : file_count hub.sink ≡ length tolds
+    pub files : file_count hub.sink ≡ length messages
 
   -- how the hub's turns ended
   abbrev pub RunDone : (S → ℕ → ℕ → O → S → Type 0) → (S → S → Type 0) → S → List (List (FromFeed X)) → List (WorkerView X O) → Hub S O → Result (Unit {0}) RunFault → Type 0
-  RunDone takes refuses first tolds ds hub outcome =
-      MatchResult outcome (λ _. (events : List (Event O)) × Settled takes first tolds ds hub events)
-      (λ fault. Halts takes refuses first tolds ds hub.tail fault)
+  RunDone takes refuses first messages ds hub outcome =
+      MatchResult outcome (λ _. (events : List (Event O)) × Settled takes first messages ds hub events)
+      (λ fault. Halts takes refuses first messages ds hub.tail fault)

@@ -54,7 +54,7 @@ pub(crate) fn drain_workers<R: Wait, X, O: Drop>(
     ensures grows { Grows WorkerGrows (worker_views workers.old.items) (worker_views workers.new.items) }
     ensures idle { All (λ d. d.outstanding.items ≡ []) workers.new.items }
     ensures fault { result ≡ (if any_refused (worker_views workers.old.items) (worker_views workers.new.items) then run_fault.Memory else fault) }
-    ensures blames { (tolds : List (List (FromFeed X))) → BlamesTold tolds fault → BlamesTold tolds result }
+    ensures blames { (messages : List (List (FromFeed X))) → BlamesTold messages fault → BlamesTold messages result }
 {
     let mut first = fault;
     for worker in 0..workers.len() {

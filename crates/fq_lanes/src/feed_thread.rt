@@ -1,7 +1,7 @@
 //! The thread of a feed.
 ghost use Rattle.std.specs.Prelude.{◌≡◌, [], ◌∷◌, ◌++◌};
 ghost use Rattle.fq_lanes.specs.Lane.{put_items, SamePut};
-ghost use Rattle.fq_lanes.specs.FeedThread.{Scanned};
+ghost use Rattle.fq_lanes.specs.FeedThread.{ToldAll};
 
 use crate::feeds::Feed;
 use crate::lanes::Put;
@@ -56,7 +56,7 @@ pub(crate) fn run_feed<R: Wait, F: Feed + Drop>(
 ) -> Put<FromFeed<F::Item>>
     requires { F.is_open feed × (put_items put ≡ []) }
     ensures lane { SamePut put result }
-    ensures scanned { Scanned F.gives F.may_fail feed (put_items result) }
+    ensures scanned { ToldAll F.gives F.may_fail feed (put_items result) }
 {
     let mut feed = feed;
     let mut put = put;

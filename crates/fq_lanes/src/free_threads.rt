@@ -73,7 +73,7 @@ impl<X: Drop, O: Drop, S: Tail<Out = O>> Core<X, O> for Run<'_, S, O> {
 
     ghost can_run = { λ run n. (n ≤ MAX_FEEDS) × (file_count run.hub.sink ≡ n) × HasAccepted run.hub.sink [] 0 × (run.hub.trace.items ≡ []) };
 
-    ghost done = { λ old tolds ds new. RunDone S.takes S.refuses old.hub.tail tolds ds new.hub new.outcome };
+    ghost done = { λ old messages ds new. RunDone S.takes S.refuses old.hub.tail messages ds new.hub new.outcome };
 
     fn run<R: Wait>(
         &mut self,

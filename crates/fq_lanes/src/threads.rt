@@ -5,7 +5,7 @@ ghost use Rattle.fq_lanes.specs.WorkerLanes.{worker_name, worker_names, worker_v
 ghost use Rattle.fq_lanes.specs.FeedLane.{feed_names, feed_view, new_feed, told_of, tolds_of, AreNewFeeds};
 ghost use Rattle.fq_lanes.specs.Lane.{Name, put_items, put_name, take_name, taken_items, IsLane, SamePut, SameTake};
 ghost use Rattle.fq_lanes.specs.Beside.{Each};
-ghost use Rattle.fq_lanes.specs.FeedThread.{Scanned, Began};
+ghost use Rattle.fq_lanes.specs.FeedThread.{ToldAll, Began};
 ghost use Rattle.fq_lanes.specs.HubView.{WorkerView, AllReplied};
 ghost use Rattle.fq_lanes.specs.WorkerThread.{Replied};
 ghost use Rattle.fq_lanes.specs.declared.messages.FromFeed.{FromFeed};
@@ -85,7 +85,7 @@ struct FeedPromise<F: Feed> {
 }
 
 impl<F: Feed> Promise<Put<FromFeed<F::Item>>> for FeedPromise<F> {
-    ghost kept_by = { λ p r. SamePut p.put.value r × Scanned F.gives F.may_fail p.feed.value (put_items r) };
+    ghost kept_by = { λ p r. SamePut p.put.value r × ToldAll F.gives F.may_fail p.feed.value (put_items r) };
 }
 
 /// The thread of a worker.
@@ -308,7 +308,7 @@ where
     };
     let task = move || -> Put<FromFeed<F::Item>>
         requires { F.is_open feed × (put_items put ≡ []) }
-        ensures { SamePut put result × Scanned F.gives F.may_fail feed (put_items result) }
+        ensures { SamePut put result × ToldAll F.gives F.may_fail feed (put_items result) }
     { run_feed(rt, waiter, feed, put) };
     match scope.spawn_with(promise, task) {
         Ok(child) => Ok(child),

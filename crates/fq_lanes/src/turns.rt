@@ -1,10 +1,10 @@
-//! The steps of the hub: it hears of a feed, or of a worker.
+//! The steps of the hub: it polls a feed, or a worker.
 ghost use Rattle.std.specs.Prelude.{◌≡◌, ◌≤◌, ◌<◌, ◌==◌, ℕ, List, All, Some, length, IfNone, IfSome};
 ghost use Rattle.fq_lanes.specs.WorkerLanes.{worker_names, worker_views};
 ghost use Rattle.std.specs.List.{list_all, slice_get};
 ghost use Rattle.fq_lanes.specs.FeedLane.{feed_names, feed_views};
 ghost use Rattle.fq_lanes.specs.HubView.{FeedView, told_in};
-ghost use Rattle.fq_lanes.specs.Turns.{InTurn, Turns, RunDone};
+ghost use Rattle.fq_lanes.specs.Turns.{InTurn, HubGoesOn, RunDone};
 ghost use Rattle.fq_lanes.specs.declared.events.Event.{Event};
 ghost use Rattle.fq_lanes.specs.declared.worker_lanes.WorkerLanes.{WorkerLanes as Lanes};
 
@@ -37,7 +37,7 @@ where
     ensures lanes { feed_names lanes.new.items ≡ feed_names lanes.old.items }
     ensures workers { worker_names workers.new.items ≡ worker_names workers.old.items }
     ensures turn { (first : S) (events : List (Event S.Out)) → InTurn S.takes first (feed_views lanes.old.items) (worker_views workers.old.items) hub.old events →
-        Turns S.takes S.refuses first (feed_views lanes.new.items) (worker_views workers.new.items) hub.new result }
+        HubGoesOn S.takes S.refuses first (feed_views lanes.new.items) (worker_views workers.new.items) hub.new result }
 {
     let lane = &mut lanes[file as usize];
     if hub.sink.is_far(file, lane.items) {
@@ -71,7 +71,7 @@ where
     ensures size { length workers.new.items ≡ length workers.old.items }
     ensures workers { worker_names workers.new.items ≡ worker_names workers.old.items }
     ensures turn { (first : S) (vs : List (FeedView X)) (events : List (Event S.Out)) → InTurn S.takes first vs (worker_views workers.old.items) hub.old events →
-        Turns S.takes S.refuses first vs (worker_views workers.new.items) hub.new result }
+        HubGoesOn S.takes S.refuses first vs (worker_views workers.new.items) hub.new result }
 {
     match workers[worker].receive() {
         None => Ok(false),
@@ -117,7 +117,7 @@ where
     ensures lanes { feed_names lanes.new.items ≡ feed_names lanes.old.items }
     ensures workers { worker_names workers.new.items ≡ worker_names workers.old.items }
     ensures turn { (first : S) (events : List (Event S.Out)) → InTurn S.takes first (feed_views lanes.old.items) (worker_views workers.old.items) hub.old events →
-        Turns S.takes S.refuses first (feed_views lanes.new.items) (worker_views workers.new.items) hub.new result }
+        HubGoesOn S.takes S.refuses first (feed_views lanes.new.items) (worker_views workers.new.items) hub.new result }
 {
     let mut found = false;
     for file in 0..lanes.len() {
@@ -148,7 +148,7 @@ where
     ensures lanes { feed_names lanes.new.items ≡ feed_names lanes.old.items }
     ensures workers { worker_names workers.new.items ≡ worker_names workers.old.items }
     ensures turn { (first : S) (events : List (Event S.Out)) → InTurn S.takes first (feed_views lanes.old.items) (worker_views workers.old.items) hub.old events →
-        Turns S.takes S.refuses first (feed_views lanes.new.items) (worker_views workers.new.items) hub.new result }
+        HubGoesOn S.takes S.refuses first (feed_views lanes.new.items) (worker_views workers.new.items) hub.new result }
 {
     let mut found = false;
     for worker in 0..workers.len() {

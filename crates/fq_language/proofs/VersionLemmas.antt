@@ -5,7 +5,7 @@ use Rattle.serde_json.specs.Data.{Data, Items, no_items, item}
 use Rattle.serde_json.specs.Find.{get, as_array}
 use Rattle.fq_column.specs.Frame.{Fields}
 use Rattle.fq_language.specs.Parts.{given, only_if, items_as, each_of, member, has_members, whole_from_to, pair_of, name_of, with_length, word}
-use Rattle.fq_language.specs.Plan.{PlanStep, Query}
+use Rattle.fq_language.specs.Plan.{PlanStep, PlanData}
 use Rattle.fq_csv.specs.Sources.{Source}
 use Rattle.fq_language.specs.Spelling.{kinds, names, plan_of, source_of, source_with, step_of, version_of}
 use Rattle.fq_language.specs.Versions.{IsNextVersion, IsOldStep}
@@ -84,34 +84,34 @@ old-steps (Some d) ss e = go (as_array d) e
 -- ---- plans
 
 -- the plan of these sources and steps
-abbrev plan_with : Option (List Source) → Option (List PlanStep) → Option Query
+abbrev plan_with : Option (List Source) → Option (List PlanStep) → Option PlanData
 plan_with sources steps =
     given (with_length 1 MAX_SOURCES sources) (λ ss.
     given (with_length 0 MAX_STEPS steps) (λ ts.
     only_if (nat_le (sum_by (λ s. s.files) ss) MAX_FILES) (Some (record { sources = ss; steps = ts }))))
 
-parts-are : (o : Option (List Source)) (steps : Option (List PlanStep)) (p : Query) → plan_with o steps ≡ Some p → (o ≡ Some p.sources) × (steps ≡ Some p.steps)
+parts-are : (o : Option (List Source)) (steps : Option (List PlanStep)) (p : PlanData) → plan_with o steps ≡ Some p → (o ≡ Some p.sources) × (steps ≡ Some p.steps)
 parts-are None steps p e = absurd (cc e)
 parts-are (Some ss) None p e = go (nat_le 1 (length ss) && nat_le (length ss) MAX_SOURCES) e
   where
-    go : (b : Bool) → given (only_if b (Some ss)) (λ rs. let none : Option Query = None in none) ≡ Some p → (◌≡◌ {A = Option (List Source)} (Some ss) (Some p.sources)) × (◌≡◌ {A = Option (List PlanStep)} None (Some p.steps))
+    go : (b : Bool) → given (only_if b (Some ss)) (λ rs. let none : Option PlanData = None in none) ≡ Some p → (◌≡◌ {A = Option (List Source)} (Some ss) (Some p.sources)) × (◌≡◌ {A = Option (List PlanStep)} None (Some p.steps))
     go true q = absurd (cc q)
     go false q = absurd (cc q)
 parts-are (Some ss) (Some ts) p e = go (nat_le 1 (length ss) && nat_le (length ss) MAX_SOURCES) (nat_le 0 (length ts) && nat_le (length ts) MAX_STEPS) (nat_le (sum_by (λ s. s.files) ss) MAX_FILES) e
   where
-    made : Query
+    made : PlanData
     made = record { sources = ss; steps = ts }
 
     Are : Type 0
     Are = (◌≡◌ {A = Option (List Source)} (Some ss) (Some p.sources)) × (◌≡◌ {A = Option (List PlanStep)} (Some ts) (Some p.steps))
 
-    go : (a b c : Bool) → given (only_if a (Some ss)) (λ rs. given (only_if b (Some ts)) (λ us. only_if (nat_le (sum_by (λ s. s.files) rs) MAX_FILES) (Some (let q : Query = record { sources = rs; steps = us } in q)))) ≡ Some p → Are
+    go : (a b c : Bool) → given (only_if a (Some ss)) (λ rs. given (only_if b (Some ts)) (λ us. only_if (nat_le (sum_by (λ s. s.files) rs) MAX_FILES) (Some (let q : PlanData = record { sources = rs; steps = us } in q)))) ≡ Some p → Are
     go false b c q = absurd (cc q)
     go true false c q = absurd (cc q)
     go true true c q = files (nat_le (sum_by (λ s. s.files) ss) MAX_FILES) q
       where
         files : (b : Bool) → only_if b (Some made) ≡ Some p → Are
-        files true r = (ap (λ (o : Option Query). elim o [ None ↦ None | Some q ↦ Some q.sources ]) r, ap (λ (o : Option Query). elim o [ None ↦ None | Some q ↦ Some q.steps ]) r)
+        files true r = (ap (λ (o : Option PlanData). elim o [ None ↦ None | Some q ↦ Some q.sources ]) r, ap (λ (o : Option PlanData). elim o [ None ↦ None | Some q ↦ Some q.steps ]) r)
         files false r = absurd (cc r)
 
 -- what a value spells, by its version
@@ -120,7 +120,7 @@ by-version : (d : Data) (v : Version) → member (codes "version") version_of d 
 by-version d v e =
     ap (λ o. only_if (has_members 3 d) (given o (λ v. plan_with (given (get (codes "sources") d) (each_of (source_of v))) (given (get (codes "steps") d) (each_of (step_of v)))))) e
 
-pub next-version : (former latter : Data) (p : Query) → IsNextVersion former latter → plan_of former ≡ Some p → (plan_of latter ≡ Some p) × All (λ s. s.nulls ≡ []) p.sources × All IsOldStep p.steps
+pub next-version : (former latter : Data) (p : PlanData) → IsNextVersion former latter → plan_of former ≡ Some p → (plan_of latter ≡ Some p) × All (λ s. s.nulls ≡ []) p.sources × All IsOldStep p.steps
 next-version former latter p next e = go (has_members 3 former) refl (sym (by-version former One next.one) ∙ e)
   where
     given_sources : Version → Option (List Source)

@@ -10,7 +10,7 @@ use Rattle.fq_expr.specs.Kinds.{step_schema}
 use Rattle.fq_ops.specs.Join.{join_schema}
 use Rattle.fq_ops.specs.Group.{group_schema}
 use Rattle.fq_ops.specs.Roll.{roll_schema}
-use Rattle.fq_language.specs.Plan.{PlanStep, row_wise, join, group_by, rolling_sum, Query, item_at, side_fields, main_fields}
+use Rattle.fq_language.specs.Plan.{PlanStep, row_wise, join, group_by, rolling_sum, PlanData, item_at, side_fields, main_fields}
 use Rattle.fq_csv.specs.Sources.{Source}
 use Rattle.fq_language.specs.declared.faults.CheckFault.{CheckFault}
 use Rattle.fq_language.specs.declared.faults.Place.{Place}
@@ -45,9 +45,9 @@ module _ (sides : List Fields) where
       [ Err code ↦ Err (refused_at (place.Step n) code) | Ok after ↦ result_map_both (λ rest. fields ∷ rest) (λ e. e) (judged_steps (n + 1) after steps) ]
 
 -- the schemas of a plan, step by step, or the first refusal
-abbrev pub judged : Query → Result (List Fields) CheckFault
+abbrev pub judged : PlanData → Result (List Fields) CheckFault
 judged p = elim (source_refusal 0 p.sources) [ Some refusal ↦ Err refusal | None ↦ judged_steps (side_fields p) 0 (main_fields p) p.steps ]
 
 -- the plan, if it is not refused
-abbrev pub checked : Query → Result Query CheckFault
+abbrev pub checked : PlanData → Result PlanData CheckFault
 checked p = result_map_both (λ schemas. p) (λ refusal. refusal) (judged p)

@@ -18,7 +18,7 @@ pub data PlanStep : Type 0 where
   group_by : List Name → List Output → PlanStep
   rolling_sum : Name → ℤ → ℤ → Name → PlanStep
 
-pub record Query : Type 0 where
+pub record PlanData : Type 0 where
   pub sources : List Source
   pub steps : List PlanStep
 
@@ -28,26 +28,26 @@ item_at xs (pos n) = slice_get xs n
 item_at xs (negsuc n) = None
 
 -- how many files a plan wants
-abbrev pub files_wanted : Query → ℕ
+abbrev pub files_wanted : PlanData → ℕ
 files_wanted p = sum_by (λ s. s.files) p.sources
 
 -- how many of them are of the sources before the last
-abbrev pub side_files : Query → ℕ
+abbrev pub side_files : PlanData → ℕ
 side_files p = sum_by (λ s. s.files) (but_last p.sources)
 
 -- how each file is read, in argument order
-abbrev pub file_layouts : Query → List Layout
+abbrev pub file_layouts : PlanData → List Layout
 file_layouts p = flat_map (λ s. replicate s.files (layout_of s)) p.sources
 
 -- the streams of the files' bytes
-abbrev pub file_streams : Query → List (List ℕ) → List (Stream ScanFault)
+abbrev pub file_streams : PlanData → List (List ℕ) → List (Stream ScanFault)
 file_streams p files = streams_of_files (file_layouts p) files
 
 -- the columns of the sources before the last, and of the last
-abbrev pub side_fields : Query → List Fields
+abbrev pub side_fields : PlanData → List Fields
 side_fields p = map (λ s. s.fields) (but_last p.sources)
 
-abbrev pub main_fields : Query → Fields
+abbrev pub main_fields : PlanData → Fields
 main_fields p = last_or [] (map (λ s. s.fields) p.sources)
 
 -- the leading row-wise steps, and the steps after them
@@ -62,7 +62,7 @@ rest_of (row_wise s ∷ steps) = rest_of steps
 rest_of (s ∷ steps) = s ∷ steps
 
 -- the limits of every plan that a text spells
-pub record IsWithinLimits (p : Query) : Type 0 where
+pub record IsWithinLimits (p : PlanData) : Type 0 where
   pub some_source : 1 ≤ length p.sources
   pub few_sources : length p.sources ≤ MAX_SOURCES
   pub some_files : All (λ s. 1 ≤ s.files) p.sources

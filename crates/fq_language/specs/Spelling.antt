@@ -18,7 +18,7 @@ use Rattle.fq_ops.specs.declared.joins.How.{How}
 use Rattle.fq_ops.specs.declared.joins.How.TheVariants.{Inner, Left, Semi, Anti}
 use Rattle.fq_ops.specs.Aggregate.{Aggregate, len, over, Output}
 use Rattle.fq_language.specs.Parts.{given, only_if, word, name_of, whole, whole_from_to, each_of, with_length, two_items, three_items, pair_of, has_members, member, one_member}
-use Rattle.fq_language.specs.Plan.{PlanStep, row_wise, join, group_by, rolling_sum, Query}
+use Rattle.fq_language.specs.Plan.{PlanStep, row_wise, join, group_by, rolling_sum, PlanData}
 use Rattle.fq_csv.specs.Sources.{Source}
 use Rattle.fq_language.specs.declared.faults.PlanFault.{PlanFault}
 use Rattle.fq_language.specs.declared.faults.PlanFault.TheVariants.{Json, Shape}
@@ -159,7 +159,7 @@ abbrev pub version_of : Data → Option Version
 version_of d = option_map (λ n. if n == 1 then One else Two) (whole_from_to 1 2 d)
 
 -- {"version": 1 or 2, "sources": 1 to 8 sources with 16 files in all at most, "steps": 0 to 64 steps}
-abbrev pub plan_of : Data → Option Query
+abbrev pub plan_of : Data → Option PlanData
 plan_of d = only_if (has_members 3 d)
     (given (member (codes "version") version_of d) (λ version.
     given (with_length 1 MAX_SOURCES (member (codes "sources") (each_of (source_of version)) d)) (λ sources.
@@ -171,5 +171,5 @@ abbrev pub json_of : List ℕ → Option Data
 json_of bytes = only_if (is_utf8 bytes) (read bytes)
 
 -- the plan that bytes spell, or why they spell none
-abbrev pub read_as_plan : List ℕ → Result Query PlanFault
+abbrev pub read_as_plan : List ℕ → Result PlanData PlanFault
 read_as_plan bytes = elim (json_of bytes) [ None ↦ Err Json | Some d ↦ ok_or (plan_of d) Shape ]

@@ -72,9 +72,9 @@ pub struct Plan {
 }
 
 impl Model for Plan {
-    ghost use Rattle.fq_language.specs.Plan.{Query};
+    ghost use Rattle.fq_language.specs.Plan.{PlanData};
 
-    ghost Value = { Query };
+    ghost Value = { PlanData };
 
     ghost use Rattle.std.specs.Coded.{codes};
     ghost use Rattle.fq_expr.specs.ExpressionCode.{expression_code};

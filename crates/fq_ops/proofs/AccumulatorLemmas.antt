@@ -12,21 +12,21 @@ use Rattle.fq_column.specs.declared.cells.Cell.{Cell}
 use Rattle.fq_ops.specs.Accumulated.{HaveTaken, numbers_along, padded, stepped_along, stepped_at}
 use Rattle.fq_ops.specs.declared.aggregates.Function.{Function}
 use Rattle.fq_ops.specs.Group.{same_key}
-use Rattle.fq_ops.specs.Running.{Running, Len, IsBoundedBy, start_of, stepped}
+use Rattle.fq_ops.specs.Running.{AggregateState, Len, IsBoundedBy, start_of, stepped}
 use Rattle.fq_ops.proofs.GroupLemmas.{length-insert_key, position-within}
 use Rattle.fq_ops.proofs.RunningLemmas.{IsBoundedBy-more, start-bounded}
 
 -- ---- bounds
 
-pub all-more : (n m : ℕ) → n ≤ m → (rs : List Running) → All (IsBoundedBy n) rs → All (IsBoundedBy m) rs
+pub all-more : (n m : ℕ) → n ≤ m → (rs : List AggregateState) → All (IsBoundedBy n) rs → All (IsBoundedBy m) rs
 all-more n m h rs all k d low = IsBoundedBy-more n m h (get_or rs k d) (all k d low)
 
 -- new groups have taken no row
-pub padded-bounded : (n count : ℕ) (f : Function) (xs : List Running) → All (IsBoundedBy n) xs → All (IsBoundedBy n) (padded count (start_of f) xs)
+pub padded-bounded : (n count : ℕ) (f : Function) (xs : List AggregateState) → All (IsBoundedBy n) xs → All (IsBoundedBy n) (padded count (start_of f) xs)
 padded-bounded n count f xs h =
     All-append (IsBoundedBy n) xs (replicate (count - length xs) (start_of f)) h (All-replicate (IsBoundedBy n) (count - length xs) (start_of f) (start-bounded n f))
 
-pub taken-padded : {T E : Type 0} (r : Result T E) (count groups : ℕ) (f : Function) (old grown new : List Running) → grown ≡ padded groups (start_of f) old →
+pub taken-padded : {T E : Type 0} (r : Result T E) (count groups : ℕ) (f : Function) (old grown new : List AggregateState) → grown ≡ padded groups (start_of f) old →
     OnOk r (HaveTaken count grown new) → OnOk r (HaveTaken count old new)
 taken-padded (Ok x) count groups f old grown new e taken = record { bounded = λ n h. taken.bounded n (subst (All (IsBoundedBy n)) (sym e) (padded-bounded n groups f old h)) }
 taken-padded (Err refused) count groups f old grown new e taken = tt
@@ -50,14 +50,14 @@ zip-more (x ∷ xs) [] i d e low h = absurd (omega (arith, h))
 zip-more (x ∷ xs) (y ∷ ys) zero d e low h = refl
 zip-more (x ∷ xs) (y ∷ ys) (suc i) d e low h = ap (λ l. (x, y) ∷ l) (zip-more xs ys i d e (omega (arith, low)) (omega (arith, h)))
 
-pub stepped-more : (states : List Running) (numbers : List ℕ) (cells : List Cell) (i d : ℕ) (e : Cell) → i < length numbers → length numbers ≡ length cells →
+pub stepped-more : (states : List AggregateState) (numbers : List ℕ) (cells : List Cell) (i d : ℕ) (e : Cell) → i < length numbers → length numbers ≡ length cells →
     stepped_along states (take (i + 1) numbers) (take (i + 1) cells) ≡ stepped_at (stepped_along states (take i numbers) (take i cells)) (get_or numbers i d, get_or cells i e)
 stepped-more states numbers cells i d e low h =
     ap (λ j. stepped_along states (take j numbers) (take j cells)) (let f : i + 1 ≡ suc i = omega arith in f)
     ∙ ap (fold stepped_at states) (zip-more numbers cells i d e low h)
     ∙ fold-append stepped_at states (zip (take i numbers) (take i cells)) ((get_or numbers i d, get_or cells i e) ∷ [])
 
-pub length-stepped : (states : List Running) (numbers : List ℕ) (cells : List Cell) → length (stepped_along states numbers cells) ≡ length states
+pub length-stepped : (states : List AggregateState) (numbers : List ℕ) (cells : List Cell) → length (stepped_along states numbers cells) ≡ length states
 length-stepped states [] cells = refl
 length-stepped states (n ∷ numbers) [] = refl
 length-stepped states (n ∷ numbers) (c ∷ cells) =

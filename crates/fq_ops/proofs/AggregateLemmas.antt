@@ -13,7 +13,7 @@ use Rattle.fq_column.specs.Refusal.{and_then}
 use Rattle.fq_column.specs.Schema.{kind_named}
 use Rattle.fq_ops.specs.declared.aggregates.Function.{Function}
 use Rattle.fq_ops.specs.Aggregate.{Aggregate, len, over, aggregated, count, kind_over, value_of}
-use Rattle.fq_ops.specs.Gathered.{place_named, running_of}
+use Rattle.fq_ops.specs.Grouped.{place_named, running_of}
 use Rattle.fq_ops.specs.Group.{aggregate_kind}
 use Rattle.fq_ops.specs.Running.{finished}
 use Rattle.fq_column.proofs.NameLemmas.{position-here, position-past, unnamed}

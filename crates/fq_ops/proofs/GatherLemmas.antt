@@ -10,10 +10,10 @@ use Rattle.fq_column.specs.declared.cells.Cell.{Cell}
 use Rattle.fq_column.specs.Frame.{Fields, Name, Row, value_at}
 use Rattle.fq_ops.specs.Accumulated.{Accumulated, IsAccumulator, accumulated, numbers_along, padded, stepped_along}
 use Rattle.fq_ops.specs.Aggregate.{Output, first_seen}
-use Rattle.fq_ops.specs.Gathered.{fresh, function_of, gathered, place_of}
+use Rattle.fq_ops.specs.Grouped.{fresh, function_of, gathered, place_of}
 use Rattle.fq_ops.specs.Group.{group_of, key_of, keys_of_rows, same_key}
 use Rattle.fq_ops.specs.Grouping.{keys_seen, replaced, state_of, states_of}
-use Rattle.fq_ops.specs.Running.{Running, Len, IsBoundedBy, start_of, stepped}
+use Rattle.fq_ops.specs.Running.{AggregateState, Len, IsBoundedBy, start_of, stepped}
 use Rattle.fq_ops.proofs.AccumulatorLemmas.{insert-grows}
 use Rattle.fq_ops.proofs.GroupLemmas.{first_seen-push, keys_seen-push, length-insert_key, position-within, same_key_laws, states-push}
 use Rattle.fq_ops.proofs.RefusalLemmas.{map-map}
@@ -64,8 +64,8 @@ module _ {X : Type 0} (f : X → X) (d x : X) where
 
 -- ---- the states of all rows
 
-module _ {R : Type 0} (key : R → List Cell) (cell : R → Cell) (init : Running) where
-  abbrev states : List R → List Running
+module _ {R : Type 0} (key : R → List Cell) (cell : R → Cell) (init : AggregateState) where
+  abbrev states : List R → List AggregateState
   states rows = states_of same_key key (λ s r. stepped s (cell r)) init rows
 
   abbrev keys : List R → List (List Cell)

@@ -20,7 +20,7 @@ use Rattle.fq_column.specs.Schema.{kind_named}
 use Rattle.fq_ops.specs.Accumulated.{Accumulated, first_found, group_pick, group_picks, out_of_range_in, value_in}
 use Rattle.fq_ops.specs.Aggregate.{Output, aggregated, first_seen, len}
 use Rattle.fq_ops.specs.Fields.{Judged}
-use Rattle.fq_ops.specs.Gathered.{Gathered, HasTakenRows, gathered, running_of}
+use Rattle.fq_ops.specs.Grouped.{Grouped, HasTakenRows, gathered, running_of}
 use Rattle.fq_ops.specs.Group.{aggregate_kind, all_ok, group_of, group_row, group_schema, grouped, grouped_fields, grouped_kinds, key_of, keys_of_rows, same_key}
 use Rattle.fq_ops.specs.Picks.{Pick, row_of}
 use Rattle.fq_ops.specs.Running.{Len, finished, of_kind, outcome}
@@ -33,7 +33,7 @@ use Rattle.fq_ops.proofs.RollLemmas.{map-range, missing-none, missing-some}
 
 -- ---- lists by their places
 
-AllIn-from : {X : Type 0} (P : X → Type 0) (xs : List X) → All P xs → AllIn P xs
+pub AllIn-from : {X : Type 0} (P : X → Type 0) (xs : List X) → All P xs → AllIn P xs
 AllIn-from P [] h = tt
 AllIn-from P (x ∷ xs) h = (h 0 x (omega arith), AllIn-from P xs (λ k d low. h (suc k) d (omega (arith, low))))
 
@@ -42,7 +42,7 @@ AllIn-at P [] h k d low = absurd (omega (arith, low))
 AllIn-at P (x ∷ xs) h zero d low = h.0
 AllIn-at P (x ∷ xs) h (suc k) d low = AllIn-at P xs h.1 k d (omega (arith, low))
 
-AllIn-seen : {X : Type 0} (P : X → Type 0) (same : X → X → Bool) (xs : List X) → AllIn P xs → AllIn P (first_seen same xs)
+pub AllIn-seen : {X : Type 0} (P : X → Type 0) (same : X → X → Bool) (xs : List X) → AllIn P xs → AllIn P (first_seen same xs)
 AllIn-seen P same [] h = tt
 AllIn-seen P same (x ∷ xs) h = (h.0, AllIn-filter P _ (first_seen same xs) (AllIn-seen P same xs h.1))
 
@@ -297,7 +297,7 @@ module _ (fields : Fields) (names : List Name) (outputs : List Output) (rows : L
 
 -- ---- what a grouper that has taken rows gives
 
-module _ (g : Gathered) (names : List Name) (outputs : List Output) (rows : List Row) (h : HasTakenRows g names outputs rows) where
+module _ (g : Grouped) (names : List Name) (outputs : List Output) (rows : List Row) (h : HasTakenRows g names outputs rows) where
   pub taken-not : (item : ℕ) → first_found (out_of_range_in g.accumulators) (numbers (length g.seen)) ≡ Some item → grouped g.fields names outputs rows ≡ Err item
   taken-not item e = grouped-not g.fields names outputs rows h.accepted item (sym (λ i. first_found (out_of_range_in (h.accumulators i)) (numbers (length (h.seen i)))) ∙ e)
 

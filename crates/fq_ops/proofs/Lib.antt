@@ -1,9 +1,11 @@
 pub mod AcceptedLemmas
 pub mod AccumulatorLemmas
 pub mod JudgedFieldLemmas
+pub mod CombinedLemmas
 pub mod FinishLemmas
 pub mod GatherLemmas
 pub mod GroupLemmas
+pub mod GroupPartLemmas
 pub mod GroupedLemmas
 pub mod JoinLemmas
 pub mod KeyLemmas
@@ -19,5 +21,6 @@ pub mod ProbingLemmas
 pub mod RefusalLemmas
 pub mod RollLemmas
 pub mod RunningLemmas
+pub mod SeenPartLemmas
 pub mod WindowLemmas
 pub mod ZipLemmas

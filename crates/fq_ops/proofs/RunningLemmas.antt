@@ -18,7 +18,7 @@ use Rattle.fq_ops.specs.declared.aggregates.Function.TheVariants as function
 use Rattle.fq_ops.specs.declared.accumulators.States.{States}
 use Rattle.fq_ops.specs.declared.accumulators.States.TheVariants.{Sum as Sums, Min as Leasts, Max as Greatests, Count as Counts, Len as Lens, First as Firsts, Last as Lasts, NUnique as NUniques}
 use Rattle.fq_ops.specs.Aggregate.{wholes, int_sum, kind_over, must_be_whole, value_of, values, least, greatest, count, first_seen}
-use Rattle.fq_ops.specs.Running.{Running, Sum, Min, Max, Count, Len, First, Last, NUnique, IsBoundedBy, addend, lesser, greater, running_in, start_of, stepped, finished}
+use Rattle.fq_ops.specs.Running.{AggregateState, Sum, Min, Max, Count, Len, First, Last, NUnique, IsBoundedBy, addend, lesser, greater, running_in, start_of, stepped, finished}
 use Rattle.fq_ops.proofs.GroupLemmas.{first_seen-push, same_cell_laws}
 use Rattle.fq_ops.proofs.ProbeLemmas.{AllIn}
 
@@ -35,7 +35,7 @@ addend-other make none (o ∷ array) (suc row) = addend-other make none array ro
 add-none : (total : ℤ) → total +ℤ pos 0 ≡ total
 add-none total = omega (arith, ints)
 
-sum-along : (total : ℤ) (cells : List Cell) → fold stepped (Sum total) cells ≡ Sum (fold (λ a n. a +ℤ n) total (wholes cells))
+pub sum-along : (total : ℤ) (cells : List Cell) → fold stepped (Sum total) cells ≡ Sum (fold (λ a n. a +ℤ n) total (wholes cells))
 sum-along total [] = refl
 sum-along total (Null ∷ cells) = ap (λ t. fold stepped (Sum t) cells) (add-none total) ∙ sum-along total cells
 sum-along total (Whole n ∷ cells) = sum-along (total +ℤ n) cells
@@ -45,14 +45,14 @@ sum-along total (Truth b ∷ cells) = ap (λ t. fold stepped (Sum t) cells) (add
 sum-finished : (cells : List Cell) → finished (fold stepped (Sum (pos 0)) cells) ≡ fitted (int_sum (wholes cells))
 sum-finished cells = ap finished (sum-along (pos 0) cells)
 
-len-along : (n : ℕ) (cells : List Cell) → fold stepped (Len n) cells ≡ Len (n + length cells)
+pub len-along : (n : ℕ) (cells : List Cell) → fold stepped (Len n) cells ≡ Len (n + length cells)
 len-along n [] = ap Len (let e : n ≡ n + 0 = omega arith in e)
 len-along n (c ∷ cells) = len-along (n + 1) cells ∙ ap Len (let e : n + 1 + length cells ≡ n + suc (length cells) = omega arith in e)
 
 pub len-finished : (cells : List Cell) → finished (fold stepped (Len 0) cells) ≡ Some (count cells)
 len-finished cells = ap finished (len-along 0 cells) ∙ ap (λ n. Some (Whole (pos n))) (let e : 0 + length cells ≡ length cells = omega arith in e)
 
-count-along : (n : ℕ) (cells : List Cell) → fold stepped (Count n) cells ≡ Count (n + length (values cells))
+pub count-along : (n : ℕ) (cells : List Cell) → fold stepped (Count n) cells ≡ Count (n + length (values cells))
 count-along n [] = ap Count (let e : n ≡ n + 0 = omega arith in e)
 count-along n (c ∷ cells) = by (is_null c) refl (count-along n cells) (count-along (n + 1) cells)
   where
@@ -100,11 +100,11 @@ module _ (wins : Cell → Cell → Bool) where
   best-all (Text t ∷ cells) = best-along (Text t) refl cells
   best-all (Truth b ∷ cells) = best-along (Truth b) refl cells
 
-min-along : (best : Cell) (cells : List Cell) → fold stepped (Min best) cells ≡ Min (fold lesser best cells)
+pub min-along : (best : Cell) (cells : List Cell) → fold stepped (Min best) cells ≡ Min (fold lesser best cells)
 min-along best [] = refl
 min-along best (c ∷ cells) = min-along (lesser best c) cells
 
-max-along : (best : Cell) (cells : List Cell) → fold stepped (Max best) cells ≡ Max (fold greater best cells)
+pub max-along : (best : Cell) (cells : List Cell) → fold stepped (Max best) cells ≡ Max (fold greater best cells)
 max-along best [] = refl
 max-along best (c ∷ cells) = max-along (greater best c) cells
 
@@ -116,7 +116,7 @@ max-finished cells = ap finished (max-along Null cells) ∙ ap Some (best-all (�
 
 -- ---- the first and the last
 
-first-along : (first : Cell) (cells : List Cell) → fold stepped (First (Some first)) cells ≡ First (Some first)
+pub first-along : (first : Cell) (cells : List Cell) → fold stepped (First (Some first)) cells ≡ First (Some first)
 first-along first [] = refl
 first-along first (c ∷ cells) = first-along first cells
 
@@ -124,7 +124,7 @@ first-finished : (cells : List Cell) → finished (fold stepped (First None) cel
 first-finished [] = refl
 first-finished (c ∷ cells) = ap finished (first-along c cells)
 
-last-along : (last : Cell) (cells : List Cell) → fold stepped (Last last) cells ≡ Last (slice_index_or (last ∷ cells) (length cells) Null)
+pub last-along : (last : Cell) (cells : List Cell) → fold stepped (Last last) cells ≡ Last (slice_index_or (last ∷ cells) (length cells) Null)
 last-along last [] = refl
 last-along last (c ∷ cells) = last-along c cells
 
@@ -219,7 +219,7 @@ module _ (j k : Kind) (cells : List Cell) (fit : AllIn (Fitting j) cells) where
 more : (n m : ℕ) → n ≤ m → n * 2 ^ 63 ≤ m * 2 ^ 63
 more n m h = omega (arith, h)
 
-pub IsBoundedBy-more : (n m : ℕ) → n ≤ m → (r : Running) → IsBoundedBy n r → IsBoundedBy m r
+pub IsBoundedBy-more : (n m : ℕ) → n ≤ m → (r : AggregateState) → IsBoundedBy n r → IsBoundedBy m r
 IsBoundedBy-more n m h (Sum total) b = record { low = omega (arith, ints, b.low, more n m h); high = omega (arith, ints, b.high, more n m h) }
 IsBoundedBy-more n m h (Min best) b = tt
 IsBoundedBy-more n m h (Max best) b = tt
@@ -241,7 +241,7 @@ start-bounded n function.NUnique = omega arith
 
 -- ---- values that always fit
 
-all-fit : {X : Type 0} (run : X → Running) → ((x : X) → is_some (finished (run x)) ≡ true) → (xs : List X) (k : ℕ) → is_some (finished (slice_index_or (map run xs) k (Len 0))) ≡ true
+all-fit : {X : Type 0} (run : X → AggregateState) → ((x : X) → is_some (finished (run x)) ≡ true) → (xs : List X) (k : ℕ) → is_some (finished (slice_index_or (map run xs) k (Len 0))) ≡ true
 all-fit run h [] k = refl
 all-fit run h (x ∷ xs) zero = h x
 all-fit run h (x ∷ xs) (suc k) = all-fit run h xs k

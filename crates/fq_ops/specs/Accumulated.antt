@@ -11,13 +11,13 @@ use Rattle.fq_ops.specs.declared.aggregates.Function.{Function}
 use Rattle.fq_ops.specs.declared.aggregates.Function.TheVariants as function
 use Rattle.fq_ops.specs.Group.{same_key}
 use Rattle.fq_ops.specs.Picks.{Pick}
-use Rattle.fq_ops.specs.Running.{Running, Len, IsBoundedBy, finished, of_kind, outcome, start_of, stepped}
+use Rattle.fq_ops.specs.Running.{AggregateState, Len, IsBoundedBy, finished, of_kind, outcome, start_of, stepped}
 
 -- an aggregate function, the place of its column, and its running value in each group
 pub record Accumulated : Type 0 where
   pub function : Function
   pub column : ℕ
-  pub states : List Running
+  pub states : List AggregateState
 
 -- the numbers of keys in the order of first appearance, where these were seen before
 abbrev pub numbers_along : List (List Cell) → List (List Cell) → List ℕ
@@ -29,15 +29,15 @@ abbrev pub padded : {X : Type 0} → ℕ → X → List X → List X
 padded count x xs = xs ++ replicate (count - length xs) x
 
 -- the states after a step of the one with this number
-abbrev pub stepped_at : List Running → ℕ × Cell → List Running
+abbrev pub stepped_at : List AggregateState → ℕ × Cell → List AggregateState
 stepped_at states p = slice_set states p.0 (stepped (slice_index_or states p.0 (Len 0)) p.1)
 
 -- the states after the steps of rows, each with the number of its group
-abbrev pub stepped_along : List Running → List ℕ → List Cell → List Running
+abbrev pub stepped_along : List AggregateState → List ℕ → List Cell → List AggregateState
 stepped_along states numbers cells = fold stepped_at states (zip numbers cells)
 
 -- the running values of a function after cells, in so many groups
-abbrev pub grown_and_stepped : ℕ → List ℕ → List Cell → Function → List Running → List Running
+abbrev pub grown_and_stepped : ℕ → List ℕ → List Cell → Function → List AggregateState → List AggregateState
 grown_and_stepped groups numbers cells f states = stepped_along (padded groups (start_of f) states) numbers cells
 
 -- the running values after rows, in so many groups
@@ -45,7 +45,7 @@ abbrev pub accumulated : ℕ → List ℕ → List Row → Accumulated → Accum
 accumulated groups numbers rows a = record a { states = grown_and_stepped groups numbers (column_at a.column rows) a.function a.states }
 
 -- running values that are within the bounds of n rows are, after so many more, within those of n and so many
-pub record HaveTaken (count : ℕ) (old new : List Running) : Type 0 where
+pub record HaveTaken (count : ℕ) (old new : List AggregateState) : Type 0 where
   pub bounded : (n : ℕ) → All (IsBoundedBy n) old → All (IsBoundedBy (n + count)) new
 
 -- the accumulator reads a column among so many, and its values, of at most n rows, are those of so many groups
@@ -59,7 +59,7 @@ abbrev pub value_in : ℕ → Accumulated → Option Cell
 value_in group a = finished (slice_index_or a.states group (Len 0))
 
 -- a column of the groups' aggregates
-abbrev pub running_pick : Kind → List Running → Pick ℕ
+abbrev pub running_pick : Kind → List AggregateState → Pick ℕ
 running_pick kind states = (kind, λ group. of_kind kind (outcome (slice_index_or states group (Len 0))))
 
 abbrev pub value_pick : Kind → Accumulated → Pick ℕ

@@ -2,14 +2,16 @@ pub mod Accumulated
 pub mod Aggregate
 pub mod Examples
 pub mod Fields
-pub mod Gathered
+pub mod Grouped
 pub mod Group
 pub mod Grouping
+pub mod Hashed
 pub mod Indexed
 pub mod Join
 pub mod KeySets
 pub mod AggregateData
 pub mod Pairs
+pub mod Parts
 pub mod Picks
 pub mod PlainJoin
 pub mod Probing

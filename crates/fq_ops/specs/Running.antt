@@ -15,15 +15,15 @@ use Rattle.fq_ops.specs.Sums.{IsWithin}
 
 -- the value of an aggregate over the cells of a group so far: a sum, the least and the greatest that is not null, how many
 -- are not null, how many there are, the first, the last, and the distinct ones
-pub data Running : Type 0 where
-  Sum : ℤ → Running
-  Min : Cell → Running
-  Max : Cell → Running
-  Count : ℕ → Running
-  Len : ℕ → Running
-  First : Option Cell → Running
-  Last : Cell → Running
-  NUnique : List Cell → Running
+pub data AggregateState : Type 0 where
+  Sum : ℤ → AggregateState
+  Min : Cell → AggregateState
+  Max : Cell → AggregateState
+  Count : ℕ → AggregateState
+  Len : ℕ → AggregateState
+  First : Option Cell → AggregateState
+  Last : Cell → AggregateState
+  NUnique : List Cell → AggregateState
 
 -- the whole number that a cell adds to a sum
 abbrev pub addend : Cell → ℤ
@@ -40,7 +40,7 @@ abbrev pub greater : Cell → Cell → Cell
 greater best cell = if is_null cell then best else if is_null best then cell else if is_gt (cell_cmp cell best) then cell else best
 
 -- one more cell
-abbrev pub stepped : Running → Cell → Running
+abbrev pub stepped : AggregateState → Cell → AggregateState
 stepped (Sum total) cell = Sum (total +ℤ addend cell)
 stepped (Min best) cell = Min (lesser best cell)
 stepped (Max best) cell = Max (greater best cell)
@@ -52,7 +52,7 @@ stepped (Last last) cell = Last cell
 stepped (NUnique cells) cell = NUnique (insert_key same_cell cells cell)
 
 -- no cell yet
-abbrev pub start_of : Function → Running
+abbrev pub start_of : Function → AggregateState
 start_of function.Sum = Sum (pos 0)
 start_of function.Min = Min Null
 start_of function.Max = Max Null
@@ -63,7 +63,7 @@ start_of function.Last = Last Null
 start_of function.NUnique = NUnique []
 
 -- the aggregate, or none if a sum does not fit 64 bits
-abbrev pub finished : Running → Option Cell
+abbrev pub finished : AggregateState → Option Cell
 finished (Sum total) = fitted total
 finished (Min best) = Some best
 finished (Max best) = Some best
@@ -74,7 +74,7 @@ finished (Last last) = Some last
 finished (NUnique cells) = Some (count cells)
 
 -- the aggregate, or null
-abbrev pub outcome : Running → Cell
+abbrev pub outcome : AggregateState → Cell
 outcome r = unwrap_or (finished r) Null
 
 -- the cell, or null if it is of another kind
@@ -82,7 +82,7 @@ abbrev pub of_kind : Kind → Cell → Cell
 of_kind k c = if has_kind k c then c else Null
 
 -- how far a running value of n rows can be
-abbrev pub IsBoundedBy : ℕ → Running → Type 0
+abbrev pub IsBoundedBy : ℕ → AggregateState → Type 0
 IsBoundedBy n (Sum total) = IsWithin n total
 IsBoundedBy n (Min best) = Unit {0}
 IsBoundedBy n (Max best) = Unit {0}
@@ -103,7 +103,7 @@ function_in (Firsts xs) = function.First
 function_in (Lasts xs) = function.Last
 function_in (NUniques xs) = function.NUnique
 
-abbrev pub running_in : States → List Running
+abbrev pub running_in : States → List AggregateState
 running_in (Sums xs) = map (λ s. Sum s.0) xs.items
 running_in (Leasts xs) = map (λ s. Min s.0) xs.items
 running_in (Greatests xs) = map (λ s. Max s.0) xs.items

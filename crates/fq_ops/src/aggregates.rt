@@ -1,6 +1,7 @@
 //! Aggregates of a group.
 ghost use Rattle.std.specs.Prelude.{◌≡◌};
 ghost use Rattle.fq_ops.specs.Aggregate.{kind_over};
+ghost use Rattle.fq_ops.specs.Parts.{over_parts};
 
 use fq_column::{Kind, StepFault};
 
@@ -37,6 +38,18 @@ impl Function {
             },
             Function::Count | Function::Len | Function::NUnique => Ok(Kind::Whole),
             Function::Min | Function::Max | Function::First | Function::Last => Ok(kind),
+        }
+    }
+
+    /// The function that makes of its values over parts of a group, in order, its value over the whole group; `None` for the number
+    /// of distinct values, which those of the parts do not tell. See [`groups_of_parts`](crate::groups_of_parts).
+    pub fn over_parts(self) -> Option<Function>
+        ensures { result ≡ over_parts self }
+    {
+        match self {
+            Function::Sum | Function::Count | Function::Len => Some(Function::Sum),
+            Function::Min | Function::Max | Function::First | Function::Last => Some(self),
+            Function::NUnique => None,
         }
     }
 }

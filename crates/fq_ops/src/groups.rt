@@ -1,16 +1,18 @@
 //! Groups of rows over batches that come one after another.
-ghost use Rattle.std.specs.Prelude.{◌≡◌, ◌+◌, ◌-◌, ◌<◌, ◌≤◌, ◌^◌, ◌++◌, ℕ, List, [], All, true, false, length, map, string_bytes, Ok, Err, IfOk, IfErr, IfSome, IsOk, OnOk, OnErr};
+ghost use Rattle.std.specs.Prelude.{◌≡◌, ◌+◌, ◌-◌, ◌<◌, ◌≤◌, ◌^◌, ◌++◌, ℕ, List, [], All, true, false, length, map, string_bytes, Some, Ok, Err, IfOk, IfErr, IfSome, IsOk, OnOk, OnErr};
+ghost use Rattle.std.specs.List.{flat_map};
 ghost use Rattle.indexmap.specs.IndexSet.{insert_all};
 ghost use Rattle.fq_column.specs.declared.cells.Kind.{Kind as KindData};
-ghost use Rattle.fq_column.specs.Frame.{IsFrame, Name, Row, kinds_of};
+ghost use Rattle.fq_column.specs.Frame.{Fields, IsFrame, Name, Row, kinds_of};
 ghost use Rattle.fq_column.specs.Lists.{numbers};
 ghost use Rattle.fq_ops.specs.Accumulated.{IsAccumulator, accumulated, first_found, group_picks, key_pick, numbers_along, out_of_range_in};
 ghost use Rattle.fq_ops.specs.Aggregate.{Output};
-ghost use Rattle.fq_ops.specs.Gathered.{HasTakenRows, IsFaultOf, fresh, function_of, place_of as place_in};
+ghost use Rattle.fq_ops.specs.Grouped.{HasTakenRows, IsFaultOf, fresh, function_of, place_of as place_in};
 ghost use Rattle.fq_ops.specs.Group.{aggregate_kind, group_schema as judged_grouping, grouped, grouped_fields, same_key};
 ghost use Rattle.fq_ops.specs.Grouping.{key_at};
 ghost use Rattle.fq_ops.specs.KeySets.{IsWholeAt};
 ghost use Rattle.fq_ops.specs.AggregateData.{aggregate_of, outputs_of};
+ghost use Rattle.fq_ops.specs.Parts.{output_over_parts};
 ghost use Rattle.fq_ops.specs.Picks.{column_of, columns_of};
 ghost use Rattle.fq_ops.specs.Running.{IsBoundedBy};
 
@@ -69,11 +71,11 @@ pub struct Grouper {
 }
 
 impl Model for Grouper {
-    ghost use Rattle.fq_ops.specs.Gathered.{Gathered};
+    ghost use Rattle.fq_ops.specs.Grouped.{Grouped};
 
-    ghost Value = { Gathered };
+    ghost Value = { Grouped };
 
-    ghost use Rattle.fq_ops.specs.Gathered.{IsReady};
+    ghost use Rattle.fq_ops.specs.Grouped.{IsReady};
 
     ghost view = { λ g. record { fields = g.schema; output = g.output; taken = g.rows_taken; failed = g.failed; places = g.places.items; seen = g.seen.keys; is_whole = g.seen.is_whole; accumulators = g.accumulators.items } };
 
@@ -190,6 +192,16 @@ impl Grouper {
         Ok(Batch::new(output, columns))
     }
 }
+
+/// Grouping the groups of parts of rows, in the order of the parts, is grouping all the rows: by the same keys, with the sum of the
+/// sums and of the numbers of rows and of values, the least of the least, the greatest of the greatest, the first of the first and
+/// the last of the last. It holds where the sums of the parts fit 64 bits, and so does the number of the rows.
+pub fn groups_of_parts()
+    ensures { (fields : Fields) (keys : List Name) (outputs again : List Output) (parts : List (List Row × List Row)) →
+        IsOk (judged_grouping fields keys outputs) → map output_over_parts outputs ≡ map Some again →
+        All (λ p. grouped fields keys outputs p.0 ≡ Ok p.1) parts → length (flat_map (λ p. p.0) parts) < 2 ^ 63 →
+        grouped (grouped_fields fields keys outputs) keys again (flat_map (λ p. p.1) parts) ≡ grouped fields keys outputs (flat_map (λ p. p.0) parts) }
+{}
 
 // An accumulator with no group for each aggregate.
 fn accumulators_of(alloc: Global, schema: &Schema, aggs: &[Agg]) -> Result<Vec<Accumulator>, Memory>

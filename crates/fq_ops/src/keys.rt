@@ -1,9 +1,7 @@
 //! Keys of joins and groups: the values of a row in the key columns.
 ghost use Rattle.std.specs.Prelude.{◌≡◌, ◌<◌, List, [], length, replicate, All, IfOk, OnOk, slice_get, slice_index_or, option_copied};
 ghost use Rattle.std.specs.Cmp.Lexicographic.{pointwise, lists_per, lists_equiv};
-ghost use Rattle.std.specs.Hash as fed;
-ghost use Rattle.std.specs.Hash.{items_Alike};
-ghost use Rattle.std.specs.List.{list_any};
+ghost use Rattle.std.specs.List.{flat_map, list_any};
 ghost use Rattle.fq_column.specs.Cell.{is_null};
 ghost use Rattle.fq_column.specs.contracts.cells.CellPartialEq.TheImpl.Laws.{laws-law as cell_partial_eq};
 ghost use Rattle.fq_column.specs.contracts.cells.CellEq.TheImpl.Laws.{laws-law as cell_eq};
@@ -11,6 +9,7 @@ ghost use Rattle.fq_column.specs.contracts.cells.CellHash.TheImpl.Laws.{respects
 ghost use Rattle.fq_column.specs.declared.cells.Cell.{Cell as Value};
 ghost use Rattle.fq_ops.specs.Group.{same_key};
 ghost use Rattle.fq_ops.specs.Grouping.{key_at};
+ghost use Rattle.fq_ops.specs.Hashed.{items_alike};
 
 use fq_column::{Batch, Cell, Memory};
 use smallvec::SmallVec;
@@ -96,7 +95,10 @@ impl PartialEq for Key {
     ghost laws = { lists_per cell_partial_eq };
 
     fn eq(&self, other: &Key) -> bool {
-        self.cells == other.cells
+        match (self.cells.as_slice(), other.cells.as_slice()) {
+            ([cell], [other]) => cell == other,
+            (cells, others) => cells == others,
+        }
     }
 }
 
@@ -105,12 +107,13 @@ impl Eq for Key {
 }
 
 impl Hash for Key {
-    ghost hash_input = { fed.slice ⟦<Cell as Hash>⟧.hash_input };
+    ghost hash_input = { flat_map ⟦<Cell as Hash>⟧.hash_input };
 
-    ghost respects_eq = { (items_Alike (record { fed = cell_hash })).fed };
+    ghost respects_eq = { items_alike cell_hash };
 
+    /// The values alone: the keys of a set have one length.
     fn hash<H: Hasher>(&self, state: &mut H) {
-        self.cells.hash(state);
+        Cell::hash_slice(self.cells.as_slice(), state);
     }
 }
 

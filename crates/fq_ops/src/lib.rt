@@ -21,7 +21,7 @@ mod states;
 mod sums;
 
 pub use aggregates::{Agg, Function, What};
-pub use groups::{GroupFault, Grouper, MAX_GROUPED_ROWS};
+pub use groups::{GroupFault, Grouper, MAX_GROUPED_ROWS, groups_of_parts};
 pub use joins::{How, JoinTable, Probed, join_laws};
 pub use output_schemas::{group_schema, join_schema, roll_schema};
 pub use probes::{Part, Probe, Rest};

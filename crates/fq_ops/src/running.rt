@@ -1,7 +1,7 @@
 //! What a running value of an aggregate does.
 ghost use Rattle.std.specs.Prelude.{◌≡◌, ◌+◌, ◌<◌, ◌^◌, ℕ, [], ◌∷◌, ◌++◌, length, OnOk};
 ghost use Rattle.fq_column.specs.Frame.{value_at};
-ghost use Rattle.fq_ops.specs.Running.{Running, IsBoundedBy, of_kind, outcome, start_of, stepped};
+ghost use Rattle.fq_ops.specs.Running.{AggregateState, IsBoundedBy, of_kind, outcome, start_of, stepped};
 ghost use Rattle.fq_ops.specs.declared.aggregates.Function.{Function};
 
 use crate::groups::MAX_GROUPED_ROWS;
@@ -13,7 +13,7 @@ pub trait State: Drop {
     // The aggregate function.
     ghost function: { Function };
     // What it says of the rows so far.
-    ghost running: { Self → Running };
+    ghost running: { Self → AggregateState };
 
     /// The value over no row; allocates nothing.
     fn start(alloc: Global) -> Self

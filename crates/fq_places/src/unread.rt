@@ -1,4 +1,4 @@
-//! Why a file is not read for people.
+//! Why a file cannot be read again.
 use fq_column::Memory;
 use std::fmt::{Display, Formatter, InlineText};
 use std::io::ErrorKind;

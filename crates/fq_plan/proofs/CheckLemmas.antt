@@ -15,7 +15,7 @@ use Rattle.fq_ops.specs.AggregateData.{outputs_of}
 use Rattle.fq_language.specs.Judged.{judged_step, judged_steps, refused_at, source_refusal}
 use Rattle.fq_language.specs.Plan.{PlanStep, row_wise, join, group_by, rolling_sum}
 use Rattle.fq_csv.specs.Sources.{Source}
-use Rattle.fq_plan.specs.Stages.{operator_steps, stage_steps, Leads, Turns}
+use Rattle.fq_plan.specs.Stages.{operator_steps, stage_steps, Leads, LowersTo}
 use Rattle.fq_language.specs.View.{field_of}
 use Rattle.fq_language.specs.declared.faults.CheckFault.{CheckFault}
 use Rattle.fq_language.specs.declared.faults.Place.TheVariants as place
@@ -153,7 +153,7 @@ module _ (sides : List Fields) where
       refusal-is (judged_steps sides n fields (map row_wise xs ++ (row_wise x ∷ rest))) (refused_at (place.Step (n + length xs)) code)
       (rows-passed n fields xs (row_wise x ∷ rest) mid e ∙ ap refusal_in (step-refused (n + length xs) mid (row_wise x) rest code h))
 
-  operator-passed : (n : ℕ) (fields : Fields) (o : Operator) (rest : List PlanStep) (after : Fields) → Turns sides n fields o after →
+  operator-passed : (n : ℕ) (fields : Fields) (o : Operator) (rest : List PlanStep) (after : Fields) → LowersTo sides n fields o after →
       refusal_in (judged_steps sides n fields (operator_steps o ++ rest)) ≡ refusal_in (judged_steps sides (n + length (operator_steps o)) after rest)
   operator-passed n fields (Rows front) rest after t =
       rows-passed n fields front.steps rest after t.2
@@ -183,11 +183,11 @@ module _ (sides : List Fields) where
 
   -- one more stage
   pub leads-further : (n : ℕ) (fields : Fields) (stages : List Stage) (mid : Fields) (s : Stage) (m : ℕ) → Leads sides n fields stages mid →
-      m ≡ n + length (stage_steps stages) → s.number ≡ m → Turns sides m mid s.operator s.after → Leads sides n fields (stages ++ s ∷ []) s.after
+      m ≡ n + length (stage_steps stages) → s.number ≡ m → LowersTo sides m mid s.operator s.after → Leads sides n fields (stages ++ s ∷ []) s.after
   leads-further n fields [] mid s m h q number turns =
       let here : m ≡ n = omega (arith, q) in (
         number ∙ here,
-        subst (λ k. Turns sides k fields s.operator s.after) here (subst (λ f. Turns sides m f s.operator s.after) (sym h) turns),
+        subst (λ k. LowersTo sides k fields s.operator s.after) here (subst (λ f. LowersTo sides m f s.operator s.after) (sym h) turns),
         refl,
       )
   leads-further n fields (x ∷ stages) mid s m h q number turns =

@@ -8,7 +8,7 @@ use Rattle.fq_column.specs.Lists.{zip_with}
 use Rattle.fq_column.specs.Stream.{Stream, done, rename_fault}
 use Rattle.fq_plan.specs.Cuts.{joined, source_rows, GiveTheSameRows}
 use Rattle.fq_plan.specs.Meaning.{meaning, outcome}
-use Rattle.fq_language.specs.Plan.{PlanStep, Query, files_wanted, side_files, main_fields}
+use Rattle.fq_language.specs.Plan.{PlanStep, PlanData, files_wanted, side_files, main_fields}
 use Rattle.fq_csv.specs.Sources.{Source, but_last, last_or}
 use Rattle.fq_run.specs.Sources.{concat_streams, first_fault, frames_of, scan_fault, source_streams}
 use Rattle.fq_run.specs.declared.faults.Fault.{Fault}
@@ -61,7 +61,7 @@ by_rows steps fields rows =
     let sides : List (Stream Fault) = map done (but_last rows) in
     elim (first_fault sides) [ Some f ↦ Err f | None ↦ outcome (zip_with frame_of (but_last fields) sides) 0 (last_or [] fields) steps (done (last_or [] rows)) ]
 
-meaning-by-rows : (p : Query) (main : Source) → HasMain p.sources main → (files : List (List Row)) → length files ≡ files_wanted p →
+meaning-by-rows : (p : PlanData) (main : Source) → HasMain p.sources main → (files : List (List Row)) → length files ≡ files_wanted p →
     meaning p (map done files) ≡ by_rows p.steps (map (λ (s : Source). s.fields) p.sources) (source_rows p.sources files)
 unfolding by_rows
 meaning-by-rows p main h files count =
@@ -89,7 +89,7 @@ meaning-by-rows p main h files count =
     ∙ ap (λ fs. over (map done (but_last rows)) fs (done (last_or [] rows)))
     (frames-of-fields sides (map done (but_last rows)) ∙ ap (λ fs. zip_with frame_of fs (map done (but_last rows))) (sym fields))
 
-pub same-rows : (p q : Query) (files other : List (List Row)) → 0 < length p.sources → GiveTheSameRows p q files other →
+pub same-rows : (p q : PlanData) (files other : List (List Row)) → 0 < length p.sources → GiveTheSameRows p q files other →
     meaning p (map done files) ≡ meaning q (map done other)
 same-rows p q files other some h =
     let fields : Source → Fields = λ s. s.fields in

@@ -7,7 +7,7 @@ use Rattle.fq_column.specs.Stream.{Stream, done, then_stream}
 use Rattle.fq_expr.specs.Steps.{apply_step, apply_steps, fields_after, fields_after_all}
 use Rattle.fq_expr.specs.Expression.{Step}
 use Rattle.fq_plan.specs.Meaning.{apply_plan_steps, meaning_of_sources}
-use Rattle.fq_language.specs.Plan.{PlanStep, row_wise, join, group_by, rolling_sum, Query, front_of, rest_of, main_fields}
+use Rattle.fq_language.specs.Plan.{PlanStep, row_wise, join, group_by, rolling_sum, PlanData, front_of, rest_of, main_fields}
 use Rattle.fq_plan.specs.Tail.{finished, items_of, last_item, reading}
 use Rattle.fq_run.specs.Outcome.{frame_or_fault}
 use Rattle.fq_run.specs.Physical.{after_leading}
@@ -48,7 +48,7 @@ module _ {F : Type 0} where
       ∙ then-last_item u.rows u.fault
 
 -- the meaning is what the other steps make of worked items that join to the main source's rows after the leading steps
-pub finished-worked : (p : Query) (sides us items : List (Stream Fault)) → concat_streams items ≡ after_leading (reading p) (concat_streams us) →
+pub finished-worked : (p : PlanData) (sides us items : List (Stream Fault)) → concat_streams items ≡ after_leading (reading p) (concat_streams us) →
     finished p sides items ≡ meaning_of_sources p sides (concat_streams us)
 finished-worked p sides us items same =
     let frames : List Frame = frames_of (but_last p.sources) sides in

@@ -8,7 +8,7 @@ use Rattle.fq_expr.specs.Expression.{Step}
 use Rattle.fq_expr.specs.Front.{NumberedSteps}
 use Rattle.fq_expr.specs.Kinds.{steps_schema}
 use Rattle.fq_language.specs.Judged.{checked, judged, judged_steps, source_refusal}
-use Rattle.fq_language.specs.Plan.{PlanStep, row_wise, Query, IsWithinLimits, files_wanted, front_of, side_fields, main_fields, rest_of}
+use Rattle.fq_language.specs.Plan.{PlanStep, row_wise, PlanData, IsWithinLimits, files_wanted, front_of, side_fields, main_fields, rest_of}
 use Rattle.fq_csv.specs.Sources.{Source, but_last, last_or}
 use Rattle.fq_plan.specs.Stages.{columns_of, query_of, stage_steps, IsChecked, Leads}
 use Rattle.fq_run.specs.Physical.{Physical, front_fields}
@@ -25,19 +25,19 @@ use Rattle.fq_run.proofs.StageLemmas.{fields-after-all}
 
 -- ---- the judgement of a plan, by that of its sources and of its steps
 
-abbrev pub judged_by : Query → Option CheckFault → Result (List Fields) CheckFault → Result Query CheckFault
+abbrev pub judged_by : PlanData → Option CheckFault → Result (List Fields) CheckFault → Result PlanData CheckFault
 judged_by p o r = result_map_both (λ schemas. p) (λ refusal. refusal) (let all : Result (List Fields) CheckFault = elim o [ Some refusal ↦ Err refusal | None ↦ r ] in all)
 
-abbrev pub steps_judged : Query → Result (List Fields) CheckFault
+abbrev pub steps_judged : PlanData → Result (List Fields) CheckFault
 steps_judged p = judged_steps (side_fields p) 0 (main_fields p) p.steps
 
-pub step-refuses : (p : Query) (e : CheckFault) → source_refusal 0 p.sources ≡ None → steps_judged p ≡ Err e → checked p ≡ Err e
+pub step-refuses : (p : PlanData) (e : CheckFault) → source_refusal 0 p.sources ≡ None → steps_judged p ≡ Err e → checked p ≡ Err e
 step-refuses p e h g = ap (λ o. judged_by p o (steps_judged p)) h ∙ ap (λ r. judged_by p None r) g
 
-pub plan-passes : (p : Query) → source_refusal 0 p.sources ≡ None → refusal_in (steps_judged p) ≡ None → IsOk (judged p)
+pub plan-passes : (p : PlanData) → source_refusal 0 p.sources ≡ None → refusal_in (steps_judged p) ≡ None → IsOk (judged p)
 plan-passes p h g = no-refusal (judged p) (ap (λ o. refusal_in (let all : Result (List Fields) CheckFault = elim o [ Some refusal ↦ Err refusal | None ↦ steps_judged p ] in all)) h ∙ g)
 
-ok-is : (p : Query) (r : Result (List Fields) CheckFault) → IsOk r → result_map_both (λ schemas. p) (λ refusal. refusal) r ≡ Ok p
+ok-is : (p : PlanData) (r : Result (List Fields) CheckFault) → IsOk r → result_map_both (λ schemas. p) (λ refusal. refusal) r ≡ Ok p
 ok-is p (Ok schemas) h = refl
 ok-is p (Err e) h = absurd (cc)
 
@@ -49,7 +49,7 @@ steps-are steps leading front rest r = (λ i. map row_wise (front i) ++ r i) ∙
 -- ---- the sources before the last, and the last
 
 module _ (sources sides : List SourceFiles) (main : SourceFiles) (parts : sources ≡ sides ++ main ∷ []) where
-  abbrev pub query : List PlanStep → Query
+  abbrev pub query : List PlanStep → PlanData
   query steps = record { sources = map source_of_files sources; steps = steps }
 
   fields-of : (xs : List SourceFiles) → map (λ (s : Source). s.fields) (map source_of_files xs) ≡ columns_of xs
@@ -127,7 +127,7 @@ module _ (sources sides : List SourceFiles) (main : SourceFiles) (parts : source
 -- what a checked plan holds is not refused
 pub checked-passes : (p : Physical) → IsChecked p → IsOk (judged (query_of p))
 checked-passes p c =
-    let q : Query = query_of p in
+    let q : PlanData = query_of p in
     let js : List Fields = side_fields q in
     plan-passes q c.schemas
     (rows-passed js 0 (main_fields q) p.front (stage_steps p.stages) c.leads.0 c.leads.2

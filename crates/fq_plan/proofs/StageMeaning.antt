@@ -18,7 +18,7 @@ use Rattle.fq_ops.proofs.RefusalLemmas.{join-output}
 use Rattle.fq_language.specs.Judged.{judged_step}
 use Rattle.fq_plan.specs.Meaning.{apply_plan_step, apply_plan_steps, fields_after, meaning, meaning_of_sources}
 use Rattle.fq_language.specs.Plan.{PlanStep, row_wise, join, group_by, rolling_sum}
-use Rattle.fq_plan.specs.Stages.{Leads, Turns, IsChecked, operator_steps, query_of, stage_steps}
+use Rattle.fq_plan.specs.Stages.{Leads, LowersTo, IsChecked, operator_steps, query_of, stage_steps}
 use Rattle.fq_plan.proofs.LeadingStepLemmas.{leading-steps}
 use Rattle.fq_run.specs.declared.operators.joining.TheConstants.{MAX_JOINED_ROWS}
 use Rattle.fq_run.specs.Outcome.{columns_after, frame_or_fault}
@@ -42,7 +42,7 @@ use Rattle.std.specs.Prelude.{drop}
 
 -- ---- stages that do the steps of a plan fit together
 
-pub accepts : (sides : List Fields) (n : ℕ) (fields : Fields) (o : Operator) (after : Fields) → Turns sides n fields o after → Accepts sides fields o after
+pub accepts : (sides : List Fields) (n : ℕ) (fields : Fields) (o : Operator) (after : Fields) → LowersTo sides n fields o after → Accepts sides fields o after
 accepts sides n fields (Rows front) after t = (t.0, t.2)
 accepts sides n fields (Join j) after t = t
 accepts sides n fields (GroupBy g) after t = t
@@ -59,7 +59,7 @@ module _ (sides : List Frame) (n : ℕ) (fields after : Fields) (u : Stream Faul
   abbrev pub Is : List PlanStep → Type 0
   Is steps = (s.0 ≡ after) × (s ≡ apply_plan_steps sides n fields steps u)
 
-  pub rows-turn : (front : NumberedSteps) → Turns (map (λ f. f.fields) sides) n fields (Rows front) after →
+  pub rows-turn : (front : NumberedSteps) → LowersTo (map (λ f. f.fields) sides) n fields (Rows front) after →
       s ≡ (fields_after_all fields front.steps, apply_steps Overflow front.first fields front.steps u) → Is (operator_steps (Rows front))
   rows-turn front t e = (
     ap (λ (p : Fields × Stream Fault). p.0) e ∙ fields-after-all fields after front.steps t.2,
@@ -111,12 +111,12 @@ module _ (sides : List Frame) (fields : Fields) (stage : Stage) (rest : List Sta
   columns = map (λ (f : Frame). f.fields) sides
 
   pub stages-lead : (n : ℕ) (after : Fields) → Leads columns n fields (stage ∷ rest) after →
-      ((after : Fields) → Turns columns stage.number fields stage.operator after → (mid.0 ≡ after) × (mid ≡ apply_plan_steps sides stage.number fields (operator_steps stage.operator) u)) →
+      ((after : Fields) → LowersTo columns stage.number fields stage.operator after → (mid.0 ≡ after) × (mid ≡ apply_plan_steps sides stage.number fields (operator_steps stage.operator) u)) →
       ((m : ℕ) (after : Fields) → Leads columns m mid.0 rest after → s ≡ apply_plan_steps sides m mid.0 (stage_steps rest) mid.1) →
       s ≡ apply_plan_steps sides n fields (stage_steps (stage ∷ rest)) u
   stages-lead n after (same, turns, leads) one more =
       let steps = operator_steps stage.operator in
-      let r = one stage.after (subst (λ m. Turns columns m fields stage.operator stage.after) (sym same) turns) in
+      let r = one stage.after (subst (λ m. LowersTo columns m fields stage.operator stage.after) (sym same) turns) in
       let at_n : mid ≡ apply_plan_steps sides n fields steps u = r.1 ∙ ap (λ m. apply_plan_steps sides m fields steps u) same in
       more (n + length steps) after (subst (λ g. Leads columns (n + length steps) g rest after) (sym r.0) leads)
       ∙ ap (λ (p : Fields × Stream Fault). apply_plan_steps sides (n + length steps) p.0 (stage_steps rest) p.1) at_n
@@ -127,7 +127,7 @@ module _ (sides : List Frame) where
   all_columns = map (λ (f : Frame). f.fields) sides
 
   -- the columns after an operator, and what it makes of a stream, are those of its steps
-  pub does : (n : ℕ) (fields after : Fields) (o : Operator) (u : Stream Fault) → Turns all_columns n fields o after →
+  pub does : (n : ℕ) (fields after : Fields) (o : Operator) (u : Stream Fault) → LowersTo all_columns n fields o after →
       (let r : Fields × Stream Fault = ((transform_of sides n fields o).gives, whole (transform_of sides n fields o) u) in r) ≡ apply_plan_steps sides n fields (operator_steps o) u
   does n fields after (Rows front) u t =
       (rows-turn sides n fields after u (fields_after_all front.fields front.steps, whole (transform_of sides n fields (Rows front)) u) front t

@@ -9,7 +9,7 @@ use Rattle.fq_ops.specs.Group.{group_stream}
 use Rattle.fq_ops.specs.Join.{join_stream}
 use Rattle.fq_ops.specs.Roll.{roll_stream}
 use Rattle.fq_language.specs.Judged.{judged_step}
-use Rattle.fq_language.specs.Plan.{PlanStep, row_wise, join, group_by, rolling_sum, Query, item_at, side_files, main_fields}
+use Rattle.fq_language.specs.Plan.{PlanStep, row_wise, join, group_by, rolling_sum, PlanData, item_at, side_files, main_fields}
 use Rattle.fq_run.specs.declared.operators.joining.TheConstants.{MAX_JOINED_ROWS}
 use Rattle.fq_run.specs.Outcome.{frame_or_fault}
 use Rattle.fq_csv.specs.Sources.{but_last}
@@ -41,14 +41,14 @@ outcome sides n fields steps u = let after = apply_plan_steps sides n fields ste
 
 -- the meaning over the streams of the sources before the last, and of the last: the first fault of the former, even if no
 -- step uses that source, or else what the steps make of the latter
-abbrev pub meaning_of_sources : Query → List (Stream Fault) → Stream Fault → Result Frame Fault
+abbrev pub meaning_of_sources : PlanData → List (Stream Fault) → Stream Fault → Result Frame Fault
 meaning_of_sources p sides main = elim (first_fault sides)
     [ Some f ↦ Err f | None ↦ outcome (frames_of (but_last p.sources) sides) 0 (main_fields p) p.steps main ]
 
 -- the meaning over the files' streams, in argument order
-abbrev pub meaning_of_files : Query → List (Stream Fault) → Result Frame Fault
+abbrev pub meaning_of_files : PlanData → List (Stream Fault) → Result Frame Fault
 meaning_of_files p us = meaning_of_sources p (source_streams (but_last p.sources) us) (concat_streams (drop (side_files p) us))
 
 -- the same, for streams that end in faults of the files
-abbrev pub meaning : Query → List (Stream ScanFault) → Result Frame Fault
+abbrev pub meaning : PlanData → List (Stream ScanFault) → Result Frame Fault
 meaning p us = meaning_of_files p (map (rename_fault scan_fault) us)

@@ -4,7 +4,7 @@ use Rattle.fq_column.specs.Frame.{Fields}
 use Rattle.fq_expr.specs.Kinds.{steps_schema}
 use Rattle.fq_ops.specs.AggregateData.{outputs_of}
 use Rattle.fq_language.specs.Judged.{judged_step, source_refusal}
-use Rattle.fq_language.specs.Plan.{PlanStep, row_wise, join, group_by, rolling_sum, Query, IsWithinLimits}
+use Rattle.fq_language.specs.Plan.{PlanStep, row_wise, join, group_by, rolling_sum, PlanData, IsWithinLimits}
 use Rattle.fq_run.specs.Physical.{Physical, side_fields, main_fields}
 use Rattle.fq_csv.specs.declared.sources.SourceFiles.{SourceFiles}
 use Rattle.fq_run.specs.declared.operators.Operator.{Operator}
@@ -25,23 +25,23 @@ abbrev pub stage_steps : List Stage → List PlanStep
 stage_steps stages = flat_map (λ s. operator_steps s.operator) stages
 
 -- the plan that a physical plan does
-abbrev pub query_of : Physical → Query
+abbrev pub query_of : Physical → PlanData
 query_of p = record { sources = p.sources; steps = map row_wise p.front ++ stage_steps p.stages }
 
 -- below, `sides` are the columns of the sources before the last
 module _ (sides : List Fields) where
   -- an operator whose first step is step n takes rows with these columns to rows with those
-  abbrev pub Turns : ℕ → Fields → Operator → Fields → Type 0
-  Turns n fields (Rows front) after = (front.fields ≡ fields) × (front.first ≡ n) × (steps_schema fields front.steps ≡ Ok after)
-  Turns n fields (Join j) after = judged_step sides fields (join (pos j.source) (map string_bytes j.on.items) j.how j.nulls_equal) ≡ Ok after
-  Turns n fields (GroupBy g) after = judged_step sides fields (group_by (map string_bytes g.keys.items) (outputs_of g.aggs.items)) ≡ Ok after
-  Turns n fields (RollingSum r) after = judged_step sides fields (rolling_sum (string_bytes r.column) (pos r.window) (pos r.min_samples) (string_bytes r.name)) ≡ Ok after
+  abbrev pub LowersTo : ℕ → Fields → Operator → Fields → Type 0
+  LowersTo n fields (Rows front) after = (front.fields ≡ fields) × (front.first ≡ n) × (steps_schema fields front.steps ≡ Ok after)
+  LowersTo n fields (Join j) after = judged_step sides fields (join (pos j.source) (map string_bytes j.on.items) j.how j.nulls_equal) ≡ Ok after
+  LowersTo n fields (GroupBy g) after = judged_step sides fields (group_by (map string_bytes g.keys.items) (outputs_of g.aggs.items)) ≡ Ok after
+  LowersTo n fields (RollingSum r) after = judged_step sides fields (rolling_sum (string_bytes r.column) (pos r.window) (pos r.min_samples) (string_bytes r.name)) ≡ Ok after
 
   -- so do stages, one after the other, each with the number of its first step and the columns that it leaves
   abbrev pub Leads : ℕ → Fields → List Stage → Fields → Type 0
   Leads n fields [] after = fields ≡ after
   Leads n fields (s ∷ stages) after =
-      (s.number ≡ n) × Turns n fields s.operator s.after × Leads (n + length (operator_steps s.operator)) s.after stages after
+      (s.number ≡ n) × LowersTo n fields s.operator s.after × Leads (n + length (operator_steps s.operator)) s.after stages after
 
 -- the plan is not refused, and each operator has the number and the columns of its steps
 pub record IsChecked (p : Physical) : Type 0 where

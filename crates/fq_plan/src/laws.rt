@@ -8,7 +8,7 @@ ghost use Rattle.fq_expr.specs.Steps.{apply_steps};
 ghost use Rattle.fq_expr.specs.declared.fronts.RowFault.{RowFault};
 ghost use Rattle.fq_plan.specs.Cuts.{GiveTheSameRows};
 ghost use Rattle.fq_plan.specs.Meaning.{meaning, meaning_of_files};
-ghost use Rattle.fq_language.specs.Plan.{Query, files_wanted};
+ghost use Rattle.fq_language.specs.Plan.{PlanData, files_wanted};
 ghost use Rattle.fq_run.specs.Sources.{row_fault};
 ghost use Rattle.fq_plan.specs.Tail.{all_items, outcome_of_taken};
 ghost use Rattle.fq_run.specs.declared.faults.Fault.{Fault as AnyFault};
@@ -17,14 +17,14 @@ ghost use Rattle.fq_run.specs.declared.faults.Fault.TheVariants.{Overflow as ove
 /// What a run's tail makes of the items of all files, each worked on by itself, is what the plan means over the files' streams,
 /// whatever the size of a batch.
 pub fn meaning_of_items()
-    ensures { (p : Query) (batch_size : ℕ) (us : List (Stream AnyFault)) → 0 < batch_size → length us ≤ files_wanted p →
+    ensures { (p : PlanData) (batch_size : ℕ) (us : List (Stream AnyFault)) → 0 < batch_size → length us ≤ files_wanted p →
         outcome_of_taken p (all_items p batch_size us) ≡ meaning_of_files p us }
 {}
 
 /// How the rows of a source are cut into files is not part of the answer: if the files of two plans with the same steps
 /// over the same columns have no fault and give each source the same rows, the plans mean the same.
 pub fn meaning_of_cut_files()
-    ensures { (p q : Query) (files other : List (List Row)) → 0 < length p.sources → GiveTheSameRows p q files other →
+    ensures { (p q : PlanData) (files other : List (List Row)) → 0 < length p.sources → GiveTheSameRows p q files other →
         meaning p (map done files) ≡ meaning q (map done other) }
 {}
 

@@ -5,7 +5,7 @@ use Rattle.std.specs.Prelude.{◌⊎◌, ◌==◌}
 use Rattle.std.specs.Result.{result_map_both}
 use Rattle.fq_column.specs.Frame.{Frame}
 use Rattle.fq_plan.specs.Meaning.{meaning}
-use Rattle.fq_language.specs.Plan.{Query, files_wanted}
+use Rattle.fq_language.specs.Plan.{PlanData, files_wanted}
 use Rattle.fq_run.specs.Run.{start_refusal, IsStartFault, IsOfMeaning, Tell}
 use Rattle.fq_language.specs.Plan.{file_streams}
 use Rattle.fq_run.specs.declared.faults.Fault.{Fault}
@@ -16,25 +16,25 @@ use Rattle.fq_messages.specs.declared.failures.Failure.TheVariants.{Run}
 use Rattle.fq_messages.proofs.EndingLemmas.{kind-of-fault}
 
 -- why a run does not start
-abbrev pub start_at : ℕ → ℕ → Query → List (List ℕ) → Option Fault
+abbrev pub start_at : ℕ → ℕ → PlanData → List (List ℕ) → Option Fault
 start_at batch_size workers p files = start_refusal (files_wanted p) (length files) batch_size workers
 
 -- a result of a run that is its refusal at the start, if there is one
-abbrev pub StopsAsRefused : {X : Type 0} → ℕ → ℕ → Query → List (List ℕ) → Result X Fault → Type 0
+abbrev pub StopsAsRefused : {X : Type 0} → ℕ → ℕ → PlanData → List (List ℕ) → Result X Fault → Type 0
 StopsAsRefused batch_size workers p files r = (f : Fault) → start_at batch_size workers p files ≡ Some f → r ≡ Err f
 
-stops : (batch_size workers : ℕ) (p : Query) (files : List (List ℕ)) → (length files == files_wanted p) ≡ false →
+stops : (batch_size workers : ℕ) (p : PlanData) (files : List (List ℕ)) → (length files == files_wanted p) ≡ false →
     start_at batch_size workers p files ≡ Some (Inputs (files_wanted p) (length files))
 stops batch_size workers p files e = rw e refl
 
-starts : (batch_size workers : ℕ) (p : Query) (files : List (List ℕ)) → (length files == files_wanted p) ≡ true → AreSettings batch_size workers →
+starts : (batch_size workers : ℕ) (p : PlanData) (files : List (List ℕ)) → (length files == files_wanted p) ≡ true → AreSettings batch_size workers →
     start_at batch_size workers p files ≡ None
 starts batch_size workers p files e fine = rw e fine
 
-refuses : (p : Query) (files : List (List ℕ)) → (length files == files_wanted p) ≡ false → frame_of p files ≡ Err (Run (Inputs (files_wanted p) (length files)))
+refuses : (p : PlanData) (files : List (List ℕ)) → (length files == files_wanted p) ≡ false → frame_of p files ≡ Err (Run (Inputs (files_wanted p) (length files)))
 refuses p files e = rw e refl
 
-runs : (p : Query) (files : List (List ℕ)) → (length files == files_wanted p) ≡ true →
+runs : (p : PlanData) (files : List (List ℕ)) → (length files == files_wanted p) ≡ true →
     frame_of p files ≡ result_map_both (λ frame. frame) Run (meaning p (file_streams p files))
 runs p files e = rw e refl
 
@@ -43,7 +43,7 @@ pub as-many : {R : Type 0} (remaining : R → Option (List ℕ)) (readers : List
 as-many remaining readers files tell = sym (length-map readers remaining) ∙ ap length tell ∙ length-map files Some
 
 -- a run that ends well
-pub run-printed : {X : Type 0} (batch_size workers : ℕ) (p : Query) (files : List (List ℕ)) (x : X) (frame : Frame) →
+pub run-printed : {X : Type 0} (batch_size workers : ℕ) (p : PlanData) (files : List (List ℕ)) (x : X) (frame : Frame) →
     StopsAsRefused batch_size workers p files (Ok x) → meaning p (file_streams p files) ≡ Ok frame → frame_of p files ≡ Ok frame
 run-printed batch_size workers p files x frame refused meant = go (length files == files_wanted p) refl
   where
@@ -52,7 +52,7 @@ run-printed batch_size workers p files x frame refused meant = go (length files 
     go false e = let bad = refused (Inputs (files_wanted p) (length files)) (stops batch_size workers p files e) in absurd (cc)
 
 -- a run that ends in a fault
-pub run-failed : {X : Type 0} (batch_size workers : ℕ) (p : Query) (files : List (List ℕ)) (f : Fault) → AreSettings batch_size workers →
+pub run-failed : {X : Type 0} (batch_size workers : ℕ) (p : PlanData) (files : List (List ℕ)) (f : Fault) → AreSettings batch_size workers →
     (let r : Result X Fault = Err f in StopsAsRefused batch_size workers p files r) → (IsStartFault f → start_at batch_size workers p files ≡ Some f) →
     (IsOfMeaning f → meaning p (file_streams p files) ≡ Err f) → (frame_of p files ≡ Err (Run f)) ⊎ IsOutside (Run f)
 run-failed batch_size workers p files f fine refused started meant = go (length files == files_wanted p) refl

@@ -4,7 +4,7 @@ use Rattle.std.specs.Result.{result_map_both}
 use Rattle.fq_column.specs.Frame.{Frame}
 use Rattle.fq_language.specs.Judged.{checked}
 use Rattle.fq_plan.specs.Meaning.{meaning}
-use Rattle.fq_language.specs.Plan.{Query, files_wanted}
+use Rattle.fq_language.specs.Plan.{PlanData, files_wanted}
 use Rattle.fq_language.specs.Plan.{file_streams}
 use Rattle.fq_language.specs.Spelling.{read_as_plan}
 use Rattle.fq_run.specs.Run.{start_refusal}
@@ -14,11 +14,11 @@ use Rattle.fq_messages.specs.declared.failures.Failure.{Failure}
 use Rattle.fq_messages.specs.declared.failures.Failure.TheVariants.{Plan, Check, Run}
 
 -- the plan that a text spells, if the check does not refuse it
-abbrev pub checked_plan : List ℕ → Result Query Failure
+abbrev pub checked_plan : List ℕ → Result PlanData Failure
 checked_plan text = elim (read_as_plan text) [ Err fault ↦ Err (Plan fault) | Ok plan ↦ result_map_both (λ p. p) Check (checked plan) ]
 
 -- the frame of a plan over the files' bytes: the number of files is judged before any of them
-abbrev pub frame_of : Query → List (List ℕ) → Result Frame Failure
+abbrev pub frame_of : PlanData → List (List ℕ) → Result Frame Failure
 frame_of plan files =
     if not (length files == files_wanted plan) then Err (Run (Inputs (files_wanted plan) (length files)))
     else result_map_both (λ frame. frame) Run (meaning plan (file_streams plan files))

@@ -24,16 +24,16 @@ use Rattle.fq_run.specs.Sources.{concat_streams, scan_fault}
 use Rattle.fq_run.specs.Tail.{Taken, tagged, worked, worked_files}
 use Rattle.fq_run.specs.Working.{work_on, worked_stream}
 use Rattle.fq_run.specs.declared.faults.Fault.{Fault}
-use Rattle.fq_run.specs.declared.file_feeds.Scanned.{Scanned}
-use Rattle.fq_run.specs.declared.file_feeds.Scanned.TheVariants.{Run}
-use Rattle.fq_run.specs.declared.gathering.Gathered.{Gathered}
+use Rattle.fq_run.specs.declared.file_feeds.FileItem.{FileItem}
+use Rattle.fq_run.specs.declared.file_feeds.FileItem.TheVariants.{Run}
+use Rattle.fq_run.specs.declared.gathering.SideSource.{SideSource}
 use Rattle.fq_run.specs.declared.leading_steps.Worked.{Worked}
 use Rattle.fq_run.proofs.EndLemmas.{AllDone}
 use Rattle.fq_run.proofs.GatheringLemmas.{Answer, AllFit, Fits, Head, all_taken, fields_at, streams_of}
 use Rattle.fq_run.proofs.FileItemLemmas.{done-length, file-worked}
 
 -- feeds that tell their items gave those
-pub each-known : (feeds : List Feeding) (items known : List (List Scanned)) → Each MayCome feeds items → map (λ (f : Feeding). f.items) feeds ≡ map Some known → items ≡ known
+pub each-known : (feeds : List Feeding) (items known : List (List FileItem)) → Each MayCome feeds items → map (λ (f : Feeding). f.items) feeds ≡ map Some known → items ≡ known
 each-known [] [] [] h e = refl
 each-known [] [] (k ∷ ks) h e = absurd (cc e)
 each-known [] (x ∷ xs) known h e = absurd h
@@ -48,16 +48,16 @@ each-known (f ∷ fs) (x ∷ xs) (k ∷ ks) h e =
 abbrev pub answers_in : List (ℕ × ℕ × Worked) → List Answer
 answers_in log = map (λ (r : ℕ × ℕ × Worked). (r.0, r.2)) log
 
-pub took-all : (log : List (ℕ × ℕ × Worked)) (a b : List Gathered) → Took Takes a log b →
+pub took-all : (log : List (ℕ × ℕ × Worked)) (a b : List SideSource) → Took Takes a log b →
     b ≡ all_taken (answers_in log) a
 took-all [] a b h = h
 took-all (e ∷ es) a b h = took-all es h.0 b h.2 ∙ ap (all_taken (answers_in es)) h.1
 
 module _ (front : NumberedSteps) (sides : ℕ) where
-  abbrev pub answers_to : List (ℕ × ℕ × Scanned) → List Answer
-  answers_to es = map (λ (e : ℕ × ℕ × Scanned). (e.0, work_on front sides e.0 e.2)) es
+  abbrev pub answers_to : List (ℕ × ℕ × FileItem) → List Answer
+  answers_to es = map (λ (e : ℕ × ℕ × FileItem). (e.0, work_on front sides e.0 e.2)) es
 
-  pub log-answers : (es : List (ℕ × ℕ × Scanned)) (log : List (ℕ × ℕ × Worked)) → Each (IsWorked (λ file item out. out ≡ work_on front sides file item)) es log → answers_in log ≡ answers_to es
+  pub log-answers : (es : List (ℕ × ℕ × FileItem)) (log : List (ℕ × ℕ × Worked)) → Each (IsWorked (λ file item out. out ≡ work_on front sides file item)) es log → answers_in log ≡ answers_to es
   log-answers [] [] h = refl
   log-answers [] (r ∷ rs) h = absurd h
   log-answers (e ∷ es) [] h = absurd h
@@ -65,7 +65,7 @@ module _ (front : NumberedSteps) (sides : ℕ) where
       let one : (r.0, r.2) ≡ (e.0, work_on front sides e.0 e.2) = λ i. (h.0.0 i, h.0.2 i) in
       ap (λ (x : Answer). x ∷ answers_in rs) one ∙ ap (λ xs. (e.0, work_on front sides e.0 e.2) ∷ xs) (log-answers es rs h.1)
 
-  pub log-numbers : (es : List (ℕ × ℕ × Scanned)) (log : List (ℕ × ℕ × Worked)) → Each (IsWorked (λ file item out. out ≡ work_on front sides file item)) es log → numbers log ≡ numbers es
+  pub log-numbers : (es : List (ℕ × ℕ × FileItem)) (log : List (ℕ × ℕ × Worked)) → Each (IsWorked (λ file item out. out ≡ work_on front sides file item)) es log → numbers log ≡ numbers es
   log-numbers [] [] h = refl
   log-numbers [] (r ∷ rs) h = absurd h
   log-numbers (e ∷ es) [] h = absurd h
@@ -73,11 +73,11 @@ module _ (front : NumberedSteps) (sides : ℕ) where
       let one : (r.0, r.1) ≡ (e.0, e.1) = λ i. (h.0.0 i, h.0.1 i) in
       ap (λ (x : ℕ × ℕ). x ∷ numbers rs) one ∙ ap (λ xs. (e.0, e.1) ∷ xs) (log-numbers es rs h.1)
 
-  file-streams : (k s : ℕ) (xs : List Scanned) → streams_of (answers_to (numbered_file k s xs)) ≡ map (λ u. (k, u)) (map (λ x. worked_stream (work_on front sides k x)) xs)
+  file-streams : (k s : ℕ) (xs : List FileItem) → streams_of (answers_to (numbered_file k s xs)) ≡ map (λ u. (k, u)) (map (λ x. worked_stream (work_on front sides k x)) xs)
   file-streams k s [] = refl
   file-streams k s (x ∷ xs) = ap (λ (ts : List Taken). (k, worked_stream (work_on front sides k x)) ∷ ts) (file-streams k (suc s) xs)
 
-  pub streams-append : (es fs : List (ℕ × ℕ × Scanned)) → streams_of (answers_to (es ++ fs)) ≡ streams_of (answers_to es) ++ streams_of (answers_to fs)
+  pub streams-append : (es fs : List (ℕ × ℕ × FileItem)) → streams_of (answers_to (es ++ fs)) ≡ streams_of (answers_to es) ++ streams_of (answers_to fs)
   streams-append [] fs = refl
   streams-append (e ∷ es) fs = ap (λ (ts : List Taken). (e.0, worked_stream (work_on front sides e.0 e.2)) ∷ ts) (streams-append es fs)
 
@@ -92,7 +92,7 @@ module _ (front : NumberedSteps) (sides : ℕ) where
   fits-file hs layout k s n [] (Some f) h = (tt, tt)
   fits-file hs layout k s n (rs ∷ rss) end h = (h (record { file = k; layout = layout; before = n; records = rs }) refl, fits-file hs layout k (suc s) (n + length rs) rss end h)
 
-  fit-append : (hs : List Head) (es fs : List (ℕ × ℕ × Scanned)) → AllFit hs (answers_to es) → AllFit hs (answers_to fs) → AllFit hs (answers_to (es ++ fs))
+  fit-append : (hs : List Head) (es fs : List (ℕ × ℕ × FileItem)) → AllFit hs (answers_to es) → AllFit hs (answers_to fs) → AllFit hs (answers_to (es ++ fs))
   fit-append hs [] fs h k = k
   fit-append hs (e ∷ es) fs h k = (h.0, fit-append hs es fs h.1 k)
 
@@ -110,11 +110,11 @@ module _ (front : NumberedSteps) (sides : ℕ) where
       (subst (λ n. AllFit hs (answers_to (numbered (suc k) (items_of_files b n fss ws)))) (let q : suc k ≡ k + 1 = omega arith in q) (fit-files hs b (suc k) fss ws h.1))
 
   -- the streams of the worked items of files, numbered from this one on
-  abbrev pub worked_streams : ℕ → List (List Scanned) → List (List (Stream Fault))
+  abbrev pub worked_streams : ℕ → List (List FileItem) → List (List (Stream Fault))
   worked_streams k [] = []
   worked_streams k (xs ∷ xss) = map (λ x. worked_stream (work_on front sides k x)) xs ∷ worked_streams (k + 1) xss
 
-  pub answer-streams : (k : ℕ) (xss : List (List Scanned)) → streams_of (answers_to (numbered k xss)) ≡ tagged k (worked_streams k xss)
+  pub answer-streams : (k : ℕ) (xss : List (List FileItem)) → streams_of (answers_to (numbered k xss)) ≡ tagged k (worked_streams k xss)
   answer-streams k [] = refl
   answer-streams k (xs ∷ xss) =
       streams-append (numbered_file k 0 xs) (numbered (suc k) xss)
@@ -140,7 +140,7 @@ module _ (p : Physical) where
 
 -- ---- the trace
 
-file-numbers : (k s : ℕ) (xs : List Scanned) → numbers (numbered_file k s xs) ≡ map (λ serial. (k, serial)) (range_with_len s (length xs))
+file-numbers : (k s : ℕ) (xs : List FileItem) → numbers (numbered_file k s xs) ≡ map (λ serial. (k, serial)) (range_with_len s (length xs))
 file-numbers k s [] = refl
 file-numbers k s (x ∷ xs) =
     ap (λ (ns : List (ℕ × ℕ)). (k, s) ∷ ns) (file-numbers k (suc s) xs ∙ ap (λ n. map (λ serial. (k, serial)) (range_with_len n (length xs))) (let q : suc s ≡ s + 1 = omega arith in q))
@@ -160,8 +160,8 @@ pub files-numbers : (b k : ℕ) (fss : List Layout) (ws : List RecordStream) →
 files-numbers b k [] ws h = refl
 files-numbers b k (layout ∷ fss) [] h = refl
 files-numbers b k (layout ∷ fss) (w ∷ ws) h =
-    let rest : List (ℕ × ℕ × Scanned) = numbered (suc k) (items_of_files b (k + 1) fss ws) in
-    map-append (λ (x : ℕ × ℕ × Scanned). (x.0, x.1)) (numbered_file k 0 (scanned_items k layout b 0 w)) rest
+    let rest : List (ℕ × ℕ × FileItem) = numbered (suc k) (items_of_files b (k + 1) fss ws) in
+    map-append (λ (x : ℕ × ℕ × FileItem). (x.0, x.1)) (numbered_file k 0 (scanned_items k layout b 0 w)) rest
     ∙ ap (λ (ns : List (ℕ × ℕ)). ns ++ numbers rest) (file-numbers k 0 (scanned_items k layout b 0 w) ∙ ap (λ n. map (λ serial. (k, serial)) (range_with_len 0 n)) (done-length b k layout w h.0))
     ∙ ap (λ (ns : List (ℕ × ℕ)). batch_numbers b (k, rows_of_records k layout row_limit 0 w) ++ ns)
     (ap (λ n. numbers (numbered n (items_of_files b (k + 1) fss ws))) (let q : suc k ≡ k + 1 = omega arith in q) ∙ files-numbers b (k + 1) fss ws h.1)

@@ -10,8 +10,8 @@ use Rattle.fq_csv.specs.declared.layouts.Layout.{Layout}
 use Rattle.fq_csv.specs.declared.faults.ScanFault.TheVariants.{Read, Memory}
 use Rattle.fq_csv.proofs.HandedOutLemmas.{pieces-more, pieces-none}
 use Rattle.fq_run.specs.Feeding.{Feeding, MayCome, end_item, feeding_of, runs_from, scanned_items}
-use Rattle.fq_run.specs.declared.file_feeds.Scanned.{Scanned}
-use Rattle.fq_run.specs.declared.file_feeds.Scanned.TheVariants.{Run, Ended}
+use Rattle.fq_run.specs.declared.file_feeds.FileItem.{FileItem}
+use Rattle.fq_run.specs.declared.file_feeds.FileItem.TheVariants.{Run, Ended}
 
 -- a run is the first item, and the rest comes
 scanned_items-next : (file : ℕ) (layout : Layout) (size n : ℕ) (u : RecordStream) (run : FieldRun) → 0 < size → 0 < length u.records
@@ -25,7 +25,7 @@ scanned_items-over : (file : ℕ) (layout : Layout) (size n : ℕ) (fault : Opti
 scanned_items-over file layout size n fault = ap (λ rss. runs_from file layout n rss ++ end_item fault) (pieces-none {X = Record} size)
 
 -- what comes of a scan whose fault was not given, if its records are known
-comes : (s : RecordScanning) (over : Bool) (f : Feeding) (known : List Scanned) → f ≡ feeding_of s over → over ≡ false → f.items ≡ Some known
+comes : (s : RecordScanning) (over : Bool) (f : Feeding) (known : List FileItem) → f ≡ feeding_of s over → over ≡ false → f.items ≡ Some known
     → (u : RecordStream) × (s.upcoming ≡ Some u) × (scanned_items s.file s.layout s.run_size s.taken u ≡ known)
 comes s over f known v n e = go s.upcoming refl
   where
@@ -36,7 +36,7 @@ comes s over f known v n e = go s.upcoming refl
     go None q = absurd (none-some known (sym (ap (option_map (scanned_items s.file s.layout s.run_size s.taken)) q) ∙ items))
     go (Some u) q = (u, q, same_Some _ known (sym (ap (option_map (scanned_items s.file s.layout s.run_size s.taken)) q) ∙ items))
 
-pub next-run : (old new : RecordScanning) (ended : Bool) (f : Feeding) (run : FieldRun) (xs : List Scanned) → f ≡ feeding_of old ended → ended ≡ false
+pub next-run : (old new : RecordScanning) (ended : Bool) (f : Feeding) (run : FieldRun) (xs : List FileItem) → f ≡ feeding_of old ended → ended ≡ false
     → IsNextRun old run new
     → ((u : RecordStream) → old.upcoming ≡ Some u → HandsOutRun old.file old.run_size u (Ok (Some run)) new.upcoming)
     → MayCome (feeding_of new ended) xs → MayCome f (Run run ∷ xs)
@@ -62,7 +62,7 @@ no-run old new ended f v n out known e =
     let o = out told.0 told.1 in
     sym (scanned_items-over old.file old.layout old.run_size old.taken None) ∙ ap (scanned_items old.file old.layout old.run_size old.taken) (sym o.0) ∙ told.2
 
-pub next-fault : (old new : RecordScanning) (ended : Bool) (f : Feeding) (fault : ScanFault) (xs : List Scanned) → f ≡ feeding_of old ended → ended ≡ false
+pub next-fault : (old new : RecordScanning) (ended : Bool) (f : Feeding) (fault : ScanFault) (xs : List FileItem) → f ≡ feeding_of old ended → ended ≡ false
     → ((u : RecordStream) → old.upcoming ≡ Some u → HandsOutRun old.file old.run_size u (Err fault) new.upcoming)
     → ((number : ℕ) → fault ≢ Read number) → fault ≢ Memory → xs ≡ [] → MayCome f (Ended fault ∷ xs)
 next-fault old new ended f fault xs v n out not_read not_memory none known e =

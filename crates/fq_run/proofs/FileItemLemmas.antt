@@ -36,8 +36,8 @@ use Rattle.fq_run.specs.Tail.{worked}
 use Rattle.fq_run.specs.Working.{piece_of, piece_stream, piece_until, rows_of_run, stepped, untouched, work_on, worked_stream}
 use Rattle.fq_run.specs.declared.faults.Fault.{Fault}
 use Rattle.fq_run.specs.declared.faults.Fault.TheVariants.{Overflow}
-use Rattle.fq_run.specs.declared.file_feeds.Scanned.{Scanned}
-use Rattle.fq_run.specs.declared.file_feeds.Scanned.TheVariants.{Run, Ended}
+use Rattle.fq_run.specs.declared.file_feeds.FileItem.{FileItem}
+use Rattle.fq_run.specs.declared.file_feeds.FileItem.TheVariants.{Run, Ended}
 use Rattle.fq_run.proofs.LeadingStepLemmas.{apply_steps-done, rename_fault-apply_steps, worked-joined}
 
 -- ---- the work on one item
@@ -47,7 +47,7 @@ abbrev pub end_of : Option Fault → Stream Fault
 end_of end = record { rows = []; fault = end }
 
 -- the rows of an item
-abbrev pub item_rows : Scanned → Stream Fault
+abbrev pub item_rows : FileItem → Stream Fault
 item_rows (Run run) = rename_fault scan_fault (rows_of_run run)
 item_rows (Ended fault) = faulted (scan_fault fault)
 
@@ -106,7 +106,7 @@ module _ (p : Physical) (file : ℕ) where
       go true = refl
       go false = sym (faulted-steps 0 (main_fields p) p.front (scan_fault fault))
 
-  abbrev pub work_stream : Scanned → Stream Fault
+  abbrev pub work_stream : FileItem → Stream Fault
   work_stream x = worked_stream (work_on (leading_steps p) (side_files p) file x)
 
   items-worked : (layout : Layout) (n : ℕ) (rss : List (List Record)) (end : Option ScanFault) → (nat_lt file (side_files p) ≡ false → layout.schema ≡ main_fields p) →

@@ -16,8 +16,8 @@ use Rattle.fq_run.specs.Run.{Tell}
 use Rattle.fq_run.specs.Stages.{IsRunnable}
 use Rattle.fq_run.specs.Standing.{Waits}
 use Rattle.fq_run.specs.Working.{work_on}
-use Rattle.fq_run.specs.declared.file_feeds.Scanned.{Scanned}
-use Rattle.fq_run.specs.declared.gathering.Gathered.{Gathered}
+use Rattle.fq_run.specs.declared.file_feeds.FileItem.{FileItem}
+use Rattle.fq_run.specs.declared.gathering.SideSource.{SideSource}
 use Rattle.fq_run.specs.TailState.{TailState}
 use Rattle.fq_csv.specs.declared.sources.SourceFiles.{SourceFiles}
 use Rattle.fq_run.specs.declared.stages.Stage.{Stage}
@@ -37,7 +37,7 @@ each-length R (x ∷ xs) [] h = absurd h
 each-length R (x ∷ xs) (y ∷ ys) h = ap suc (each-length R xs ys h.1)
 
 module _ (sources : List SourceFiles) (front : NumberedSteps) (stages : List Stage) (inputs : ℕ) (c : IsRunnable sources front stages inputs) (sides : List SourceFiles) (main : SourceFiles) (parts : sources ≡ sides ++ main ∷ []) where
-  abbrev at_first : List Gathered
+  abbrev at_first : List SideSource
   at_first = before_main sources front stages inputs c sides main parts ++ main_one sources front stages inputs c sides main parts ∷ []
 
   pub has-gathered : {R S : Type 0} (has : S → Fields → List Row → Type 0) (remaining : R → Option (List ℕ)) (readers : List R) (b : ℕ) (feeds : List Feeding) (first last : TailState S) (trace : List (ℕ × ℕ)) →
@@ -48,9 +48,9 @@ module _ (sources : List SourceFiles) (front : NumberedSteps) (stages : List Sta
       Finishes MayCome (λ file item out. out ≡ work_on front (inputs - main.files) file item) (Takes-one has stages c.fits.0) feeds first trace last →
       HasGathered has remaining readers (plan sources front stages inputs c) b last trace
   has-gathered has remaining readers b feeds first last trace some count feeds-are files waits finished =
-      let items : List (List Scanned) = finished.0 in
+      let items : List (List FileItem) = finished.0 in
       let log : List (ℕ × ℕ × Worked) = finished.2.0 in
-      let works : ℕ → Scanned → Worked → Type 0 = λ file item out. out ≡ work_on front (inputs - main.files) file item in
+      let works : ℕ → FileItem → Worked → Type 0 = λ file item out. out ≡ work_on front (inputs - main.files) file item in
       let high : ℕ = side_files (plan sources front stages inputs c) + main.files in
       let file-count = files ∙ side-file-count sources front stages inputs c sides main parts in
       let order : InOrder first.side_files high log =
@@ -63,7 +63,7 @@ module _ (sources : List SourceFiles) (front : NumberedSteps) (stages : List Sta
         wanted-is sources front stages inputs c sides main parts,
         length-opened remaining b 0 (flat_map (λ (s : SourceFiles). replicate s.files s.layout) sources) readers,
       ))) in
-      let taken : List Gathered = all_taken (answers_in log) at_first in
+      let taken : List SideSource = all_taken (answers_in log) at_first in
       let stood : StandsFor has stages c.fits.0 last taken =
       whole-log has stages c.fits.0 high log first last (before_main sources front stages inputs c sides main parts) (main_one sources front stages inputs c sides main parts)
       finished.2.2 order file-count (ap (λ n. n + main.files) (side-file-count sources front stages inputs c sides main parts)) (fit-over sources front stages inputs c sides main parts) waits in

@@ -13,7 +13,7 @@ use Rattle.fq_run.specs.Sources.{concat_streams, frames_of}
 use Rattle.fq_run.specs.Tail.{Taken, items_from, taken_streams}
 use Rattle.fq_run.specs.Working.{worked_stream}
 use Rattle.fq_run.specs.declared.faults.Fault.{Fault}
-use Rattle.fq_run.specs.declared.gathering.Gathered.{Gathered}
+use Rattle.fq_run.specs.declared.gathering.SideSource.{SideSource}
 use Rattle.fq_run.specs.declared.leading_steps.Worked.{Worked}
 use Rattle.fq_run.specs.declared.leading_steps.Worked.TheVariants.{Piece, Cut, Ended}
 
@@ -21,7 +21,7 @@ use Rattle.fq_run.specs.declared.leading_steps.Worked.TheVariants.{Piece, Cut, E
 abbrev pub Head : Type 0
 Head = ℕ × Fields
 
-abbrev pub head_of : Gathered → Head
+abbrev pub head_of : SideSource → Head
 head_of g = (g.files, g.batch.fields)
 
 -- the columns of the source that a file is of
@@ -38,10 +38,10 @@ Fits (Cut p fault) None = Unit {0}
 Fits (Cut p fault) (Some fields) = p.batch.fields ≡ fields
 
 -- below, each item is one of its source's columns, and is joined
-abbrev pub joined : Gathered → Worked → Gathered
+abbrev pub joined : SideSource → Worked → SideSource
 joined g out = with_stream g (then_stream (gathered_stream g) (worked_stream out))
 
-abbrev pub joined_in : ℕ → Worked → List Gathered → List Gathered
+abbrev pub joined_in : ℕ → Worked → List SideSource → List SideSource
 joined_in file out [] = []
 joined_in file out (g ∷ gs) = cond (nat_lt file g.files) (joined g out ∷ gs) (g ∷ joined_in (file - g.files) out gs)
 
@@ -49,11 +49,11 @@ joined_in file out (g ∷ gs) = cond (nat_lt file g.files) (joined g out ∷ gs)
 abbrev pub Answer : Type 0
 Answer = ℕ × Worked
 
-abbrev pub all_taken : List Answer → List Gathered → List Gathered
+abbrev pub all_taken : List Answer → List SideSource → List SideSource
 all_taken [] gs = gs
 all_taken (t ∷ ts) gs = all_taken ts (taken_in t.0 t.1 gs)
 
-abbrev pub all_joined : List Answer → List Gathered → List Gathered
+abbrev pub all_joined : List Answer → List SideSource → List SideSource
 all_joined [] gs = gs
 all_joined (t ∷ ts) gs = all_joined ts (joined_in t.0 t.1 gs)
 
@@ -61,12 +61,12 @@ abbrev pub AllFit : List Head → List Answer → Type 0
 AllFit hs [] = Unit {0}
 AllFit hs (t ∷ ts) = Fits t.1 (fields_at t.0 hs) × AllFit hs ts
 
-gathered-joined : (g : Gathered) (out : Worked) → Fits out (Some g.batch.fields) → gathered g out ≡ joined g out
+gathered-joined : (g : SideSource) (out : Worked) → Fits out (Some g.batch.fields) → gathered g out ≡ joined g out
 gathered-joined g (Ended fault) h = refl
 gathered-joined g (Piece p) h = ap (λ b. with_stream g (then_stream (gathered_stream g) (cond b (worked_stream (Piece p)) (done [])))) ((same_fields_decides p.batch.fields g.batch.fields).1 h)
 gathered-joined g (Cut p fault) h = ap (λ b. with_stream g (then_stream (gathered_stream g) (then_stream (cond b (worked_stream (Piece p)) (done [])) (worked_stream (Ended fault))))) ((same_fields_decides p.batch.fields g.batch.fields).1 h)
 
-taken-joined : (file : ℕ) (out : Worked) (gs : List Gathered) → Fits out (fields_at file (map head_of gs)) → taken_in file out gs ≡ joined_in file out gs
+taken-joined : (file : ℕ) (out : Worked) (gs : List SideSource) → Fits out (fields_at file (map head_of gs)) → taken_in file out gs ≡ joined_in file out gs
 taken-joined file out [] h = refl
 taken-joined file out (g ∷ gs) h = go (taken-joined (file - g.files) out gs) (nat_lt file g.files) h
   where
@@ -75,7 +75,7 @@ taken-joined file out (g ∷ gs) h = go (taken-joined (file - g.files) out gs) (
     go more true h = ap (λ x. x ∷ gs) (gathered-joined g out h)
     go more false h = ap (λ xs. g ∷ xs) (more h)
 
-joined-heads : (file : ℕ) (out : Worked) (gs : List Gathered) → map head_of (joined_in file out gs) ≡ map head_of gs
+joined-heads : (file : ℕ) (out : Worked) (gs : List SideSource) → map head_of (joined_in file out gs) ≡ map head_of gs
 joined-heads file out [] = refl
 joined-heads file out (g ∷ gs) = go (joined-heads (file - g.files) out gs) (nat_lt file g.files)
   where
@@ -83,7 +83,7 @@ joined-heads file out (g ∷ gs) = go (joined-heads (file - g.files) out gs) (na
     go more true = refl
     go more false = ap (λ hs. head_of g ∷ hs) more
 
-pub all_taken-joined : (ts : List Answer) (gs : List Gathered) → AllFit (map head_of gs) ts → all_taken ts gs ≡ all_joined ts gs
+pub all_taken-joined : (ts : List Answer) (gs : List SideSource) → AllFit (map head_of gs) ts → all_taken ts gs ≡ all_joined ts gs
 all_taken-joined [] gs h = refl
 all_taken-joined (t ∷ ts) gs h =
     ap (all_taken ts) (taken-joined t.0 t.1 gs h.0)
@@ -94,7 +94,7 @@ abbrev pub streams_of : List Answer → List Taken
 streams_of ts = map (λ (t : Answer). (t.0, worked_stream t.1)) ts
 
 -- each source's stream, then those of its files' worked items; the files are numbered from this one on
-abbrev pub with_items : ℕ → List Taken → List Gathered → List Gathered
+abbrev pub with_items : ℕ → List Taken → List SideSource → List SideSource
 with_items first ts [] = []
 with_items first ts (g ∷ gs) = with_stream g (then_stream (gathered_stream g) (concat_streams (items_from first g.files ts))) ∷ with_items (first + g.files) ts gs
 
@@ -105,7 +105,7 @@ then-nothing u = go u.rows u.fault
     go rows None = ap done (append-nil rows)
     go rows (Some f) = refl
 
-with-no-items : (first : ℕ) (gs : List Gathered) → with_items first [] gs ≡ gs
+with-no-items : (first : ℕ) (gs : List SideSource) → with_items first [] gs ≡ gs
 with-no-items first [] = refl
 with-no-items first (g ∷ gs) =
     ap (λ u. with_stream g u ∷ with_items (first + g.files) [] gs) (then-nothing (gathered_stream g))
@@ -119,14 +119,14 @@ items_from-cons a n t ts b e =
     go true = refl
     go false = refl
 
-with-earlier : (first : ℕ) (t : Taken) (ts : List Taken) (gs : List Gathered) → t.0 < first → with_items first ts gs ≡ with_items first (t ∷ ts) gs
+with-earlier : (first : ℕ) (t : Taken) (ts : List Taken) (gs : List SideSource) → t.0 < first → with_items first ts gs ≡ with_items first (t ∷ ts) gs
 with-earlier first t ts [] h = refl
 with-earlier first t ts (g ∷ gs) h =
     ap (λ us. with_stream g (then_stream (gathered_stream g) (concat_streams us)) ∷ with_items (first + g.files) ts gs)
     (sym (items_from-cons first g.files t ts false (grind (arith, nat_tests, h))))
     ∙ ap (λ xs. with_stream g (then_stream (gathered_stream g) (concat_streams (items_from first g.files (t ∷ ts)))) ∷ xs) (with-earlier (first + g.files) t ts gs (omega (arith, h)))
 
-with-joined : (first file : ℕ) (out : Worked) (ts : List Taken) (gs : List Gathered) → first ≤ file →
+with-joined : (first file : ℕ) (out : Worked) (ts : List Taken) (gs : List SideSource) → first ≤ file →
     with_items first ts (joined_in (file - first) out gs) ≡ with_items first ((file, worked_stream out) ∷ ts) gs
 with-joined first file out ts [] h = refl
 with-joined first file out ts (g ∷ gs) h = go (with-joined (first + g.files) file out ts gs) (nat_lt (file - first) g.files) refl
@@ -147,7 +147,7 @@ with-joined first file out ts (g ∷ gs) h = go (with-joined (first + g.files) f
         ∙ ap (λ n. with_stream g (then_stream (gathered_stream g) (concat_streams (items_from first g.files (t ∷ ts)))) ∷ with_items (first + g.files) ts (joined_in n out gs)) (let q : file - first - g.files ≡ file - (first + g.files) = omega arith in q)
         ∙ ap (λ xs. with_stream g (then_stream (gathered_stream g) (concat_streams (items_from first g.files (t ∷ ts)))) ∷ xs) (more (grind (arith, nat_tests, e, h)))
 
-pub all_joined-items : (ts : List Answer) (gs : List Gathered) → all_joined ts gs ≡ with_items 0 (streams_of ts) gs
+pub all_joined-items : (ts : List Answer) (gs : List SideSource) → all_joined ts gs ≡ with_items 0 (streams_of ts) gs
 all_joined-items [] gs = sym (with-no-items 0 gs)
 all_joined-items (t ∷ ts) gs =
     all_joined-items ts (joined_in t.0 t.1 gs)
@@ -155,17 +155,17 @@ all_joined-items (t ∷ ts) gs =
     ∙ with-joined 0 t.0 t.1 (streams_of ts) gs (omega arith)
 
 -- sources of which nothing was taken before
-pub with_items-append : (first : ℕ) (ts : List Taken) (xs ys : List Gathered) → with_items first ts (xs ++ ys) ≡ with_items first ts xs ++ with_items (first + sum_by (λ (g : Gathered). g.files) xs) ts ys
+pub with_items-append : (first : ℕ) (ts : List Taken) (xs ys : List SideSource) → with_items first ts (xs ++ ys) ≡ with_items first ts xs ++ with_items (first + sum_by (λ (g : SideSource). g.files) xs) ts ys
 with_items-append first ts [] ys = ap (λ n. with_items n ts ys) (let q : first ≡ first + 0 = omega arith in q)
 with_items-append first ts (x ∷ xs) ys =
     ap (λ zs. with_stream x (then_stream (gathered_stream x) (concat_streams (items_from first x.files ts))) ∷ zs)
     (with_items-append (first + x.files) ts xs ys
-    ∙ ap (λ n. with_items (first + x.files) ts xs ++ with_items n ts ys) (let q : first + x.files + sum_by (λ (g : Gathered). g.files) xs ≡ first + sum_by (λ (g : Gathered). g.files) (x ∷ xs) = omega (arith, sum_by-cons (λ (g : Gathered). g.files) x xs) in q))
+    ∙ ap (λ n. with_items (first + x.files) ts xs ++ with_items n ts ys) (let q : first + x.files + sum_by (λ (g : SideSource). g.files) xs ≡ first + sum_by (λ (g : SideSource). g.files) (x ∷ xs) = omega (arith, sum_by-cons (λ (g : SideSource). g.files) x xs) in q))
 
 pub items-streams : (first : ℕ) (ts : List Taken) (sources : List Source) → map gathered_stream (with_items first ts (map (λ (s : Source). no_rows s.files s.fields) sources)) ≡ taken_streams first sources ts
 items-streams first ts [] = refl
 items-streams first ts (s ∷ sources) = ap (λ us. concat_streams (items_from first s.files ts) ∷ us) (items-streams (first + s.files) ts sources)
 
-pub items-frames : (first : ℕ) (ts : List Taken) (sources : List Source) → map (λ (g : Gathered). g.batch) (with_items first ts (map (λ (s : Source). no_rows s.files s.fields) sources)) ≡ frames_of sources (taken_streams first sources ts)
+pub items-frames : (first : ℕ) (ts : List Taken) (sources : List Source) → map (λ (g : SideSource). g.batch) (with_items first ts (map (λ (s : Source). no_rows s.files s.fields) sources)) ≡ frames_of sources (taken_streams first sources ts)
 items-frames first ts [] = refl
 items-frames first ts (s ∷ sources) = ap (λ fs. record { fields = s.fields; rows = (concat_streams (items_from first s.files ts)).rows } ∷ fs) (items-frames (first + s.files) ts sources)

@@ -27,7 +27,7 @@ use Rattle.fq_run.specs.Transforms.{Transform, whole, whole_all}
 use Rattle.fq_run.specs.Working.{piece_stream}
 use Rattle.fq_run.specs.declared.faults.Fault.{Fault}
 use Rattle.fq_run.specs.declared.faults.Fault.TheVariants as fault
-use Rattle.fq_run.specs.declared.gathering.Gathered.{Gathered}
+use Rattle.fq_run.specs.declared.gathering.SideSource.{SideSource}
 use Rattle.fq_run.specs.declared.leading_steps.Worked.{Worked}
 use Rattle.fq_run.specs.declared.leading_steps.Worked.TheVariants as worked
 use Rattle.fq_run.specs.declared.operators.Operator.{Operator}
@@ -37,7 +37,7 @@ use Rattle.fq_run.proofs.TransformLemmas.{group-whole, join-whole, roll-whole, s
 
 -- ---- files and columns
 
-shape-taken : (file : ℕ) (out : Worked) (gs : List Gathered) → map shape (taken_in file out gs) ≡ map shape gs
+shape-taken : (file : ℕ) (out : Worked) (gs : List SideSource) → map shape (taken_in file out gs) ≡ map shape gs
 shape-taken file out [] = refl
 shape-taken file out (g ∷ gs) = go (nat_lt file g.files) (shape-taken (file - g.files) out gs)
   where
@@ -45,17 +45,17 @@ shape-taken file out (g ∷ gs) = go (nat_lt file g.files) (shape-taken (file - 
     go true rest = refl
     go false rest = ap (λ ss. shape g ∷ ss) rest
 
-pub columns-of-shapes : (gs : List Gathered) → map (λ (g : Gathered). g.batch.fields) gs ≡ map (λ (s : ℕ × Fields). s.1) (map shape gs)
+pub columns-of-shapes : (gs : List SideSource) → map (λ (g : SideSource). g.batch.fields) gs ≡ map (λ (s : ℕ × Fields). s.1) (map shape gs)
 columns-of-shapes [] = refl
 columns-of-shapes (g ∷ gs) = ap (λ fss. g.batch.fields ∷ fss) (columns-of-shapes gs)
 
-pub length-taken : (file : ℕ) (out : Worked) (gs : List Gathered) → length (taken_in file out gs) ≡ length gs
+pub length-taken : (file : ℕ) (out : Worked) (gs : List SideSource) → length (taken_in file out gs) ≡ length gs
 length-taken file out gs = sym (length-map (taken_in file out gs) shape) ∙ ap length (shape-taken file out gs) ∙ length-map gs shape
 
-pub columns-taken : (file : ℕ) (out : Worked) (gs : List Gathered) → map (λ (g : Gathered). g.batch.fields) (taken_in file out gs) ≡ map (λ (g : Gathered). g.batch.fields) gs
+pub columns-taken : (file : ℕ) (out : Worked) (gs : List SideSource) → map (λ (g : SideSource). g.batch.fields) (taken_in file out gs) ≡ map (λ (g : SideSource). g.batch.fields) gs
 columns-taken file out gs = columns-of-shapes (taken_in file out gs) ∙ ap (map (λ (s : ℕ × Fields). s.1)) (shape-taken file out gs) ∙ sym (columns-of-shapes gs)
 
-pub shape-kept : (first : List Gathered) (log : List (ℕ × ℕ × Worked)) (last : List Gathered) → Took Takes first log last → map shape last ≡ map shape first
+pub shape-kept : (first : List SideSource) (log : List (ℕ × ℕ × Worked)) (last : List SideSource) → Took Takes first log last → map shape last ≡ map shape first
 shape-kept first [] last t = ap (map shape) t
 shape-kept first (e ∷ log) last t =
     shape-kept t.0 log last t.2 ∙ ap (map shape) t.1 ∙ shape-taken e.0 e.2 first
@@ -93,10 +93,10 @@ sound-added fields (worked.Piece p) = sound-piece fields p
 sound-added fields (worked.Cut p f) = sound-then (added_piece fields p) (faulted (scan_fault f)) (sound-piece fields p) (sound-scan f)
 sound-added fields (worked.Ended f) = sound-scan f
 
-sound-gathered : (g : Gathered) (out : Worked) → IsSound g.fault → IsSound (gathered g out).fault
+sound-gathered : (g : SideSource) (out : Worked) → IsSound g.fault → IsSound (gathered g out).fault
 sound-gathered g out s = sound-then (gathered_stream g) (added_stream g.batch.fields out) s (sound-added g.batch.fields out)
 
-sound-taken : (file : ℕ) (out : Worked) (gs : List Gathered) → AreSound gs → AreSound (taken_in file out gs)
+sound-taken : (file : ℕ) (out : Worked) (gs : List SideSource) → AreSound gs → AreSound (taken_in file out gs)
 sound-taken file out [] s = tt
 sound-taken file out (g ∷ gs) s = go (nat_lt file g.files) (sound-taken (file - g.files) out gs s.1)
   where
@@ -104,12 +104,12 @@ sound-taken file out (g ∷ gs) s = go (nat_lt file g.files) (sound-taken (file 
     go true rest = (sound-gathered g out s.0, s.1)
     go false rest = (s.0, rest)
 
-pub sound-kept : (first : List Gathered) (log : List (ℕ × ℕ × Worked)) (last : List Gathered) → Took Takes first log last → AreSound first → AreSound last
+pub sound-kept : (first : List SideSource) (log : List (ℕ × ℕ × Worked)) (last : List SideSource) → Took Takes first log last → AreSound first → AreSound last
 sound-kept first [] last t s = subst AreSound (sym t) s
 sound-kept first (e ∷ log) last t s =
     sound-kept t.0 log last t.2 (subst AreSound (sym t.1) (sound-taken e.0 e.2 first s))
 
-pub sound-first : (gs : List Gathered) → AreSound gs → IsSound (first_fault (map gathered_stream gs))
+pub sound-first : (gs : List SideSource) → AreSound gs → IsSound (first_fault (map gathered_stream gs))
 sound-first [] s = tt
 sound-first (g ∷ gs) s = go g.fault s.0 (sound-first gs s.1)
   where

@@ -12,7 +12,7 @@ use Rattle.fq_run.specs.Gathering.{gathered, taken_in}
 use Rattle.fq_run.specs.Kept.{Takes}
 use Rattle.fq_run.specs.Stages.{Fit}
 use Rattle.fq_run.specs.Standing.{FitOver, Stands, TailTakes, Waits}
-use Rattle.fq_run.specs.declared.gathering.Gathered.{Gathered}
+use Rattle.fq_run.specs.declared.gathering.SideSource.{SideSource}
 use Rattle.fq_run.specs.TailState.{TailState}
 use Rattle.fq_run.specs.declared.stages.Stage.{Stage}
 use Rattle.fq_run.specs.declared.leading_steps.Worked.{Worked}
@@ -77,52 +77,52 @@ module _ {X O : Type 0} (low high : ℕ) (works : ℕ → X → O → Type 0) wh
 
 -- ---- an item of the sources before the last, and one of the last
 
-abbrev pub file_count : List Gathered → ℕ
-file_count gs = sum_by (λ (g : Gathered). g.files) gs
+abbrev pub file_count : List SideSource → ℕ
+file_count gs = sum_by (λ (g : SideSource). g.files) gs
 
-taken-before : (file : ℕ) (out : Worked) (sides : List Gathered) (main : Gathered) → file < file_count sides → taken_in file out (sides ++ main ∷ []) ≡ taken_in file out sides ++ main ∷ []
+taken-before : (file : ℕ) (out : Worked) (sides : List SideSource) (main : SideSource) → file < file_count sides → taken_in file out (sides ++ main ∷ []) ≡ taken_in file out sides ++ main ∷ []
 taken-before file out [] main h = absurd (omega (arith, h))
 taken-before file out (g ∷ gs) main h = go (taken-before (file - g.files) out gs main) (nat_lt file g.files) refl
   where
     go : (file - g.files < file_count gs → taken_in (file - g.files) out (gs ++ main ∷ []) ≡ taken_in (file - g.files) out gs ++ main ∷ []) → (b : Bool) → nat_lt file g.files ≡ b → cond b (gathered g out ∷ gs ++ main ∷ []) (g ∷ taken_in (file - g.files) out (gs ++ main ∷ [])) ≡ cond b (gathered g out ∷ gs) (g ∷ taken_in (file - g.files) out gs) ++ main ∷ []
     go more true e = refl
-    go more false e = ap (λ xs. g ∷ xs) (more (grind (arith, nat_tests, e, h, sum_by-cons (λ (g : Gathered). g.files) g gs)))
+    go more false e = ap (λ xs. g ∷ xs) (more (grind (arith, nat_tests, e, h, sum_by-cons (λ (g : SideSource). g.files) g gs)))
 
-taken-last : (file : ℕ) (out : Worked) (sides : List Gathered) (main : Gathered) → file_count sides ≤ file → file < file_count sides + main.files →
+taken-last : (file : ℕ) (out : Worked) (sides : List SideSource) (main : SideSource) → file_count sides ≤ file → file < file_count sides + main.files →
     taken_in file out (sides ++ main ∷ []) ≡ sides ++ gathered main out ∷ []
 taken-last file out [] main l h =
     let e : nat_lt file main.files ≡ true = grind (arith, nat_tests, h) in
     ap (λ b. cond b (gathered main out ∷ []) (main ∷ [])) e
 taken-last file out (g ∷ gs) main l h =
-    let e : nat_lt file g.files ≡ false = grind (arith, nat_tests, l, sum_by-cons (λ (g : Gathered). g.files) g gs) in
+    let e : nat_lt file g.files ≡ false = grind (arith, nat_tests, l, sum_by-cons (λ (g : SideSource). g.files) g gs) in
     ap (λ b. cond b (gathered g out ∷ gs ++ main ∷ []) (g ∷ taken_in (file - g.files) out (gs ++ main ∷ []))) e
-    ∙ ap (λ xs. g ∷ xs) (taken-last (file - g.files) out gs main (omega (arith, l, sum_by-cons (λ (g : Gathered). g.files) g gs)) (omega (arith, l, h, sum_by-cons (λ (g : Gathered). g.files) g gs)))
+    ∙ ap (λ xs. g ∷ xs) (taken-last (file - g.files) out gs main (omega (arith, l, sum_by-cons (λ (g : SideSource). g.files) g gs)) (omega (arith, l, h, sum_by-cons (λ (g : SideSource). g.files) g gs)))
 
-count-taken : (file : ℕ) (out : Worked) (gs : List Gathered) → file_count (taken_in file out gs) ≡ file_count gs
+count-taken : (file : ℕ) (out : Worked) (gs : List SideSource) → file_count (taken_in file out gs) ≡ file_count gs
 count-taken file out [] = refl
 count-taken file out (g ∷ gs) = go (count-taken (file - g.files) out gs) (nat_lt file g.files)
   where
     go : file_count (taken_in (file - g.files) out gs) ≡ file_count gs → (b : Bool) → file_count (cond b (gathered g out ∷ gs) (g ∷ taken_in (file - g.files) out gs)) ≡ file_count (g ∷ gs)
-    go more true = sum_by-cons (λ (g : Gathered). g.files) (gathered g out) gs ∙ sym (sum_by-cons (λ (g : Gathered). g.files) g gs)
-    go more false = sum_by-cons (λ (g : Gathered). g.files) g (taken_in (file - g.files) out gs) ∙ ap (λ n. g.files + n) more ∙ sym (sum_by-cons (λ (g : Gathered). g.files) g gs)
+    go more true = sum_by-cons (λ (g : SideSource). g.files) (gathered g out) gs ∙ sym (sum_by-cons (λ (g : SideSource). g.files) g gs)
+    go more false = sum_by-cons (λ (g : SideSource). g.files) g (taken_in (file - g.files) out gs) ∙ ap (λ n. g.files + n) more ∙ sym (sum_by-cons (λ (g : SideSource). g.files) g gs)
 
 -- ---- the log, item by item
 
-pub took-sources : (log : List (ℕ × ℕ × Worked)) (gs : List Gathered) → Took Takes gs log (all_taken (answers_in log) gs)
+pub took-sources : (log : List (ℕ × ℕ × Worked)) (gs : List SideSource) → Took Takes gs log (all_taken (answers_in log) gs)
 took-sources [] gs = refl
 took-sources (e ∷ es) gs = (taken_in e.0 e.2 gs, refl, took-sources es (taken_in e.0 e.2 gs))
 
 -- below, `has` says which rows a tail's sink has taken
 module _ {S : Type 0} (has : S → Fields → List Row → Type 0) (stages : List Stage) (after : Fields) where
   -- a tail stands for these sources
-  pub record StandsFor (t : TailState S) (gs : List Gathered) : Type 0 where
-    pub sides : List Gathered
-    pub main : Gathered
+  pub record StandsFor (t : TailState S) (gs : List SideSource) : Type 0 where
+    pub sides : List SideSource
+    pub main : SideSource
     pub sources : gs ≡ sides ++ main ∷ []
     pub fits : FitOver stages after sides main
     pub stands : Stands has stages after sides main t
 
-  waits-stands : (sides : List Gathered) (main : Gathered) (t : TailState S) → Waits has stages after sides main t → Stands has stages after sides main t
+  waits-stands : (sides : List SideSource) (main : SideSource) (t : TailState S) → Waits has stages after sides main t → Stands has stages after sides main t
   waits-stands sides main t h = record {
     settled = λ f e. absurd (let z : None ≡ Some f = sym h.going ∙ e in cc);
     waiting = λ _ _. h.is;
@@ -132,7 +132,7 @@ module _ {S : Type 0} (has : S → Fields → List Row → Type 0) (stages : Lis
   abbrev pub Takes-one : TailState S → ℕ → ℕ → Worked → TailState S → Type 0
   Takes-one old file serial out new = TailTakes has old file out new
 
-  main-log : (high : ℕ) (log : List (ℕ × ℕ × Worked)) (t u : TailState S) (sides : List Gathered) (main : Gathered) → Took Takes-one t log u → AllFrom t.side_files high log →
+  main-log : (high : ℕ) (log : List (ℕ × ℕ × Worked)) (t u : TailState S) (sides : List SideSource) (main : SideSource) → Took Takes-one t log u → AllFrom t.side_files high log →
       t.side_files ≡ file_count sides → high ≡ file_count sides + main.files → FitOver stages after sides main → Stands has stages after sides main t →
       StandsFor u (all_taken (answers_in log) (sides ++ main ∷ []))
   main-log high [] t u sides main took all low top leads stands = record {
@@ -145,11 +145,11 @@ module _ {S : Type 0} (has : S → Fields → List Row → Type 0) (stages : Lis
   main-log high (e ∷ es) t u sides main took all low top leads stands =
       let next : TailState S = took.0 in
       let one : Takes-one t e.0 e.1 e.2 next = took.1 in
-      subst (λ (gs : List Gathered). StandsFor u (all_taken (answers_in es) gs)) (sym (taken-last e.0 e.2 sides main (subst (λ k. k ≤ e.0) low all.0) (subst (λ k. e.0 < k) top all.1)))
+      subst (λ (gs : List SideSource). StandsFor u (all_taken (answers_in es) gs)) (sym (taken-last e.0 e.2 sides main (subst (λ k. k ≤ e.0) low all.0) (subst (λ k. e.0 < k) top all.1)))
       (main-log high es next u sides (gathered main e.2) took.2 (subst (λ k. AllFrom k high es) (sym one.same) all.2) (one.same ∙ low) top leads
       (one.on_main all.0 stages after sides main leads stands))
 
-  pub whole-log : (high : ℕ) (log : List (ℕ × ℕ × Worked)) (t u : TailState S) (sides : List Gathered) (main : Gathered) → Took Takes-one t log u → InOrder t.side_files high log →
+  pub whole-log : (high : ℕ) (log : List (ℕ × ℕ × Worked)) (t u : TailState S) (sides : List SideSource) (main : SideSource) → Took Takes-one t log u → InOrder t.side_files high log →
       t.side_files ≡ file_count sides → high ≡ file_count sides + main.files → FitOver stages after sides main → Waits has stages after sides main t →
       StandsFor u (all_taken (answers_in log) (sides ++ main ∷ []))
   whole-log high [] t u sides main took order low top leads waits = main-log high [] t u sides main took tt low top leads (waits-stands sides main t waits)
@@ -158,6 +158,6 @@ module _ {S : Type 0} (has : S → Fields → List Row → Type 0) (stages : Lis
       let next : TailState S = took.0 in
       let one : Takes-one t e.0 e.1 e.2 next = took.1 in
       let count : file_count (taken_in e.0 e.2 sides) ≡ file_count sides = count-taken e.0 e.2 sides in
-      subst (λ (gs : List Gathered). StandsFor u (all_taken (answers_in es) gs)) (sym (taken-before e.0 e.2 sides main (subst (λ k. e.0 < k) low both.0)))
+      subst (λ (gs : List SideSource). StandsFor u (all_taken (answers_in es) gs)) (sym (taken-before e.0 e.2 sides main (subst (λ k. e.0 < k) low both.0)))
       (whole-log high es next u (taken_in e.0 e.2 sides) main took.2 (subst (λ k. InOrder k high es) (sym one.same) both.1) (one.same ∙ low ∙ sym count) (top ∙ ap (λ k. k + main.files) (sym count))
       (subst (λ (fs : List Fields). Fit fs main.batch.fields stages after) (sym (columns-taken e.0 e.2 sides)) leads) (one.before_main both.0 stages after sides main waits))

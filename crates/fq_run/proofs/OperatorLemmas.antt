@@ -27,8 +27,8 @@ use Rattle.fq_ops.proofs.RollLemmas.{rolled-append, rolled-added}
 use Rattle.fq_run.specs.declared.operators.joining.TheConstants.{MAX_JOINED_ROWS}
 use Rattle.fq_run.specs.Transforms.{Transform, join_transform, roll_transform, steps_transform}
 use Rattle.fq_run.specs.RunningOperators.{HasSummed, HasTaken, IsGiving, IsJoining, IsNext, Makes}
-use Rattle.fq_run.specs.declared.operators.Running.{Running}
-use Rattle.fq_run.specs.declared.operators.Running.TheVariants.{Group, Join, Roll, Rows}
+use Rattle.fq_run.specs.declared.operators.RunningOperator.{RunningOperator}
+use Rattle.fq_run.specs.declared.operators.RunningOperator.TheVariants.{Group, Join, Roll, Rows}
 use Rattle.fq_run.specs.Sources.{row_fault}
 use Rattle.fq_run.specs.declared.faults.Fault.{Fault}
 use Rattle.fq_run.specs.declared.faults.Fault.TheVariants.{JoinRows, Overflow, RollRange}
@@ -194,7 +194,7 @@ module _ (j : Joining) (m : Transform) (rows : List Row) (batch : Frame) (given 
       whole-is : m.at_once (rows ++ batch.rows) ≡ stream ((m.at_once rows).rows ++ (given ++ part.rows)) fault
       whole-is = all ∙ ap (λ (o : Option Fault). then_stream (stream (m.at_once rows).rows o) (stream (given ++ part.rows) fault)) g.faultless
 
-pub join-begins : (r : Running) (m : Transform) (rows : List Row) (batch : Frame) (given : List Row) (probe : Probe) → IsGiving r m rows batch given probe →
+pub join-begins : (r : RunningOperator) (m : Transform) (rows : List Row) (batch : Frame) (given : List Row) (probe : Probe) → IsGiving r m rows batch given probe →
     (w : Stream Fault) × (m.at_once (rows ++ batch.rows) ≡ then_stream (m.at_once rows) (then_stream (done given) w))
 join-begins (Rows front) m rows batch given probe g = absurd g
 join-begins (Join j) m rows batch given probe g = joining-begins j m rows batch given probe g

@@ -18,8 +18,8 @@ use Rattle.fq_csv.specs.Sources.{Source, but_last}
 use Rattle.fq_run.specs.Sources.{concat_streams, first_fault, frames_of, scan_fault, source_streams}
 use Rattle.fq_run.specs.Tail.{Taken, items_from, tagged, taken_streams, worked_files}
 use Rattle.fq_run.specs.declared.faults.Fault.{Fault}
-use Rattle.fq_run.specs.declared.file_feeds.Scanned.{Scanned}
-use Rattle.fq_run.specs.declared.gathering.Gathered.{Gathered}
+use Rattle.fq_run.specs.declared.file_feeds.FileItem.{FileItem}
+use Rattle.fq_run.specs.declared.gathering.SideSource.{SideSource}
 use Rattle.fq_run.proofs.EndLemmas.{files-done}
 use Rattle.fq_run.proofs.GatheringLemmas.{Answer, all_joined-items, all_taken, all_taken-joined, items-frames, items-streams, with_items, with_items-append, head_of}
 use Rattle.fq_run.proofs.SourceOfFileLemmas.{HasMain, files-fit, has_main, length-layouts, main-fields, wanted-main}
@@ -31,10 +31,10 @@ length-worked : (p : Physical) (k : ℕ) (us : List (Stream Fault)) → length (
 length-worked p k [] = refl
 length-worked p k (u ∷ us) = ap suc (length-worked p (k + 1) us)
 
-files-sum : (ss : List Source) → sum_by (λ (g : Gathered). g.files) (map (λ (s : Source). no_rows s.files s.fields) ss) ≡ sum_by (λ (s : Source). s.files) ss
+files-sum : (ss : List Source) → sum_by (λ (g : SideSource). g.files) (map (λ (s : Source). no_rows s.files s.fields) ss) ≡ sum_by (λ (s : Source). s.files) ss
 files-sum [] = refl
 files-sum (s ∷ ss) =
-    sum_by-cons (λ (g : Gathered). g.files) (no_rows s.files s.fields) (map (λ (s : Source). no_rows s.files s.fields) ss)
+    sum_by-cons (λ (g : SideSource). g.files) (no_rows s.files s.fields) (map (λ (s : Source). no_rows s.files s.fields) ss)
     ∙ ap (λ n. s.files + n) (files-sum ss) ∙ sym (sum_by-cons (λ (s : Source). s.files) s ss)
 
 module _ (p : Physical) (b : ℕ) (ws : List RecordStream) (main : Source) (has : HasMain p.sources main) (some : 0 < b) (all : length ws ≡ files_wanted p) where
@@ -42,7 +42,7 @@ module _ (p : Physical) (b : ℕ) (ws : List RecordStream) (main : Source) (has 
   abbrev pub us : List (Stream ScanFault)
   us = rows_of_files 0 (file_layouts p) ws
 
-  abbrev pub items : List (List Scanned)
+  abbrev pub items : List (List FileItem)
   items = items_of_files b 0 (file_layouts p) ws
 
   abbrev pub streams : List (List (Stream Fault))
@@ -51,7 +51,7 @@ module _ (p : Physical) (b : ℕ) (ws : List RecordStream) (main : Source) (has 
   abbrev pub taken : List Taken
   taken = tagged 0 (worked_streams (leading_steps p) (side_files p) 0 (items_of_files b 0 (file_layouts p) ws))
 
-  abbrev pub starts : List Gathered
+  abbrev pub starts : List SideSource
   starts = map (λ (s : Source). no_rows s.files s.fields) (but_last p.sources)
 
   columns-count : length (file_layouts p) ≡ length ws
@@ -77,10 +77,10 @@ module _ (p : Physical) (b : ℕ) (ws : List RecordStream) (main : Source) (has 
   stream-count : length streams ≡ files_wanted p
   stream-count = sym (length-map streams concat_streams) ∙ ap length joins-to ∙ length-worked p 0 (map (rename_fault scan_fault) us) ∙ file-count
 
-  main-items : items_from (0 + sum_by (λ (g : Gathered). g.files) starts) (main_files p) taken ≡ items_from (side_files p) (files_wanted p) taken
+  main-items : items_from (0 + sum_by (λ (g : SideSource). g.files) starts) (main_files p) taken ≡ items_from (side_files p) (files_wanted p) taken
   main-items =
       let wanted = wanted-main p.sources main has in
-      ap (λ n. items_from n (main_files p) taken) (let q : 0 + sum_by (λ (g : Gathered). g.files) starts ≡ side_files p = omega (arith, files-sum (but_last p.sources)) in q)
+      ap (λ n. items_from n (main_files p) taken) (let q : 0 + sum_by (λ (g : SideSource). g.files) starts ≡ side_files p = omega (arith, files-sum (but_last p.sources)) in q)
       ∙ items_from-start (side_files p) (main_files p) streams
       ∙ ap flat
       (take_all (main_files p) (drop (side_files p) streams) (omega (arith, length-drop (side_files p) streams, wanted, stream-count))
@@ -94,7 +94,7 @@ module _ (p : Physical) (b : ℕ) (ws : List RecordStream) (main : Source) (has 
       let renamed : List (Stream Fault) = map (rename_fault scan_fault) us in
       ap (λ sides. elim (first_fault sides) [
         | Some f ↦ Err f
-        | None ↦ outcome (map (λ (g : Gathered). g.batch) (with_items 0 taken starts)) (front_fields p) p.stages (concat_streams own)
+        | None ↦ outcome (map (λ (g : SideSource). g.batch) (with_items 0 taken starts)) (front_fields p) p.stages (concat_streams own)
       ]) (items-streams 0 taken (but_last p.sources))
       ∙ ap (λ frames. elim (first_fault (taken_streams 0 (but_last p.sources) taken)) [
         | Some f ↦ Err f
@@ -109,24 +109,24 @@ module _ (p : Physical) (b : ℕ) (ws : List RecordStream) (main : Source) (has 
         | None ↦ outcome (frames_of (but_last p.sources) (source_streams (but_last p.sources) renamed)) (front_fields p) p.stages u
       ]) (ap concat_streams e ∙ main-joined p streams renamed joins-to (omega (arith, file-count)))
 
-  outcome-of : (sources sides : List Gathered) (last : Gathered) → sources ≡ with_items 0 taken (nothing_taken p) → sources ≡ sides ++ last ∷ [] → outcome_of_stages p.stages sides last ≡ outcome_of_run p us
+  outcome-of : (sources sides : List SideSource) (last : SideSource) → sources ≡ with_items 0 taken (nothing_taken p) → sources ≡ sides ++ last ∷ [] → outcome_of_stages p.stages sides last ≡ outcome_of_run p us
   outcome-of sources sides last e f =
-      let first : ℕ = 0 + sum_by (λ (g : Gathered). g.files) starts in
+      let first : ℕ = 0 + sum_by (λ (g : SideSource). g.files) starts in
       let taken_last : List (Stream Fault) = items_from first (main_files p) taken in
-      let own : Gathered = record { files = main_files p; batch = record { fields = front_fields p; rows = (concat_streams taken_last).rows }; fault = (concat_streams taken_last).fault } in
+      let own : SideSource = record { files = main_files p; batch = record { fields = front_fields p; rows = (concat_streams taken_last).rows }; fault = (concat_streams taken_last).fault } in
       let both = same-ends sides (with_items 0 taken starts) last own (sym f ∙ e ∙ with_items-append 0 taken starts (no_rows (main_files p) (front_fields p) ∷ [])) in
       ap (λ gs. outcome_of_stages p.stages gs last) both.0 ∙ ap (outcome_of_stages p.stages (with_items 0 taken starts)) both.1 ∙ gathered-outcome taken_last main-items
 
   trace-of : IsOk (outcome_of_run p us) → numbers (numbered 0 items) ≡ trace_of b us
   trace-of h = files-numbers b 0 (file_layouts p) ws (files-done p us h)
 
-pub ran-gives : (p : Physical) (b : ℕ) (ws : List RecordStream) (front : NumberedSteps) (sides : ℕ) (feeds : List Feeding) (first last : List Gathered) (trace : List (ℕ × ℕ)) →
+pub ran-gives : (p : Physical) (b : ℕ) (ws : List RecordStream) (front : NumberedSteps) (sides : ℕ) (feeds : List Feeding) (first last : List SideSource) (trace : List (ℕ × ℕ)) →
     RanOver p b ws front sides feeds first last trace → Gives p b (rows_of_files 0 (file_layouts p) ws) last trace
 ran-gives p b ws front sides feeds first last trace ran =
     let main = has_main p.sources ran.some_source in
-    let given : List (List Scanned) = ran.finished.0 in
+    let given : List (List FileItem) = ran.finished.0 in
     let log = ran.finished.2.0 in
-    let items : List (List Scanned) = items_of_files b 0 (file_layouts p) ws in
+    let items : List (List FileItem) = items_of_files b 0 (file_layouts p) ws in
     let known : given ≡ items = each-known feeds given items ran.finished.1 ran.told in
     let answers : answers_in log ≡ answers_to (leading_steps p) (side_files p) (numbered 0 items) =
     log-answers front sides (numbered 0 given) log ran.finished.2.1

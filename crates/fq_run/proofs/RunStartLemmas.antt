@@ -16,7 +16,7 @@ use Rattle.fq_run.specs.Run.{Tell}
 use Rattle.fq_csv.specs.Sources.{source_of_files}
 use Rattle.fq_run.specs.Stages.{physical_of, IsRunnable}
 use Rattle.fq_run.specs.Working.{work_on}
-use Rattle.fq_run.specs.declared.gathering.Gathered.{Gathered}
+use Rattle.fq_run.specs.declared.gathering.SideSource.{SideSource}
 use Rattle.fq_csv.specs.declared.sources.SourceFiles.{SourceFiles}
 use Rattle.fq_run.specs.declared.stages.Stage.{Stage}
 use Rattle.fq_run.proofs.SourceOfFileLemmas.{length-layouts}
@@ -57,15 +57,15 @@ rows-of [] = refl
 rows-of (s ∷ sources) = ap (λ gs. no_rows s.files s.layout.schema ∷ gs) (rows-of sources)
 
 columns-of-rows : (sources : List SourceFiles) →
-    map (λ (g : Gathered). g.batch.fields) (map (λ (s : SourceFiles). no_rows s.files s.layout.schema) sources) ≡ map (λ (s : Source). s.fields) (map source_of_files sources)
+    map (λ (g : SideSource). g.batch.fields) (map (λ (s : SourceFiles). no_rows s.files s.layout.schema) sources) ≡ map (λ (s : Source). s.fields) (map source_of_files sources)
 columns-of-rows [] = refl
 columns-of-rows (s ∷ sources) = ap (λ fss. s.layout.schema ∷ fss) (columns-of-rows sources)
 
 count-of-rows : (sources : List SourceFiles) →
-    sum_by (λ (g : Gathered). g.files) (map (λ (s : SourceFiles). no_rows s.files s.layout.schema) sources) ≡ sum_by (λ (s : Source). s.files) (map source_of_files sources)
+    sum_by (λ (g : SideSource). g.files) (map (λ (s : SourceFiles). no_rows s.files s.layout.schema) sources) ≡ sum_by (λ (s : Source). s.files) (map source_of_files sources)
 count-of-rows [] = refl
 count-of-rows (s ∷ sources) =
-    sum_by-cons (λ (g : Gathered). g.files) (no_rows s.files s.layout.schema) (map (λ (s : SourceFiles). no_rows s.files s.layout.schema) sources)
+    sum_by-cons (λ (g : SideSource). g.files) (no_rows s.files s.layout.schema) (map (λ (s : SourceFiles). no_rows s.files s.layout.schema) sources)
     ∙ ap (λ n. s.files + n) (count-of-rows sources) ∙ sym (sum_by-cons (λ (s : Source). s.files) (source_of_files s) (map source_of_files sources))
 
 module _ (sources : List SourceFiles) (front : NumberedSteps) (stages : List Stage) (inputs : ℕ) (c : IsRunnable sources front stages inputs) where
@@ -109,14 +109,14 @@ module _ (sources : List SourceFiles) (front : NumberedSteps) (stages : List Sta
         rows-of sides ∙ ap (map (λ (s : Source). no_rows s.files s.fields)) (sym sides-are) in
         λ i. rows i ++ no_rows (sym main-files i) (fields_after_all (c.on_main i) front.steps) ∷ []
 
-    pub side-columns : map (λ (g : Gathered). g.batch.fields) (map (λ (s : SourceFiles). no_rows s.files s.layout.schema) sides) ≡ side_fields plan
+    pub side-columns : map (λ (g : SideSource). g.batch.fields) (map (λ (s : SourceFiles). no_rows s.files s.layout.schema) sides) ≡ side_fields plan
     side-columns = columns-of-rows sides ∙ ap (map (λ (s : Source). s.fields)) (sym sides-are)
 
-    pub side-file-count : side_files plan ≡ sum_by (λ (g : Gathered). g.files) (map (λ (s : SourceFiles). no_rows s.files s.layout.schema) sides)
+    pub side-file-count : side_files plan ≡ sum_by (λ (g : SideSource). g.files) (map (λ (s : SourceFiles). no_rows s.files s.layout.schema) sides)
     side-file-count = ap (sum_by (λ (s : Source). s.files)) sides-are ∙ sym (count-of-rows sides)
 
     -- the engine over what readers tell
-    pub ran-over : {R : Type 0} (remaining : R → Option (List ℕ)) (b : ℕ) (readers : List R) (files : List (List ℕ)) (feeds : List Feeding) (first last : List Gathered) (trace : List (ℕ × ℕ)) →
+    pub ran-over : {R : Type 0} (remaining : R → Option (List ℕ)) (b : ℕ) (readers : List R) (files : List (List ℕ)) (feeds : List Feeding) (first last : List SideSource) (trace : List (ℕ × ℕ)) →
         0 < b → length readers ≡ files_wanted plan → Tell remaining readers files →
         feeds ≡ opened remaining b 0 (flat_map (λ (s : SourceFiles). replicate s.files s.layout) sources) readers →
         first ≡ map (λ (s : SourceFiles). no_rows s.files s.layout.schema) sides ++ no_rows main.files (fields_after_all front.fields front.steps) ∷ [] →

@@ -16,7 +16,7 @@ use Rattle.fq_run.specs.EngineRun.{leading_steps, main_files, no_rows, nothing_t
 use Rattle.fq_run.specs.Working.{piece_of, piece_until, rows_of_run, stepped, untouched}
 use Rattle.fq_run.specs.declared.leading_steps.Worked.{Worked}
 use Rattle.fq_run.specs.declared.leading_steps.Worked.TheVariants.{Piece}
-use Rattle.fq_run.specs.declared.gathering.Gathered.{Gathered}
+use Rattle.fq_run.specs.declared.gathering.SideSource.{SideSource}
 use Rattle.fq_column.specs.Schema.{same_fields}
 use Rattle.fq_column.specs.SchemaLaws.{same_fields_decides}
 use Rattle.fq_run.proofs.GatheringLemmas.{Fits, Head, fields_at, head_of}
@@ -120,7 +120,7 @@ late (s ∷ ss) hs i h =
     ∙ late ss hs (i - s.files) (omega (arith, sum, h))
     ∙ ap (λ n. fields_at n hs) (let q : i - s.files - sum_by (λ (s : Source). s.files) ss ≡ i - sum_by (λ (s : Source). s.files) (s ∷ ss) = omega (arith, sum) in q)
 
-heads-nothing : (ss : List Source) (gs : List Gathered) → map head_of (map (λ (s : Source). no_rows s.files s.fields) ss ++ gs) ≡ map declared ss ++ map head_of gs
+heads-nothing : (ss : List Source) (gs : List SideSource) → map head_of (map (λ (s : Source). no_rows s.files s.fields) ss ++ gs) ≡ map declared ss ++ map head_of gs
 heads-nothing [] gs = refl
 heads-nothing (s ∷ ss) gs = ap (λ hs. declared s ∷ hs) (heads-nothing ss gs)
 

@@ -19,7 +19,7 @@ use Rattle.fq_run.specs.Standing.{FitOver}
 use Rattle.fq_run.specs.Starting.{transforms_of}
 use Rattle.fq_run.specs.Transforms.{whole_all}
 use Rattle.fq_run.specs.declared.faults.Fault.{Fault}
-use Rattle.fq_run.specs.declared.gathering.Gathered.{Gathered}
+use Rattle.fq_run.specs.declared.gathering.SideSource.{SideSource}
 use Rattle.fq_csv.specs.declared.sources.SourceFiles.{SourceFiles}
 use Rattle.fq_run.specs.declared.stages.Stage.{Stage}
 use Rattle.fq_run.proofs.KeptSourceLemmas.{sound-first, sound-stages}
@@ -27,7 +27,7 @@ use Rattle.fq_run.proofs.RunStartLemmas.{plan, side-columns}
 
 -- ---- faults
 
-sound-ends : (sides : List Gathered) (main : Gathered) → AreSound (sides ++ main ∷ []) → AreSound sides × IsSound main.fault
+sound-ends : (sides : List SideSource) (main : SideSource) → AreSound (sides ++ main ∷ []) → AreSound sides × IsSound main.fault
 sound-ends [] main s = (tt, s.0)
 sound-ends (j ∷ sides) main s = let more = sound-ends sides main s.1 in ((s.0, more.0), more.1)
 
@@ -45,17 +45,17 @@ sound-frame fields u s = go u.fault s
     go None s = tt
     go (Some f) s = s
 
-pub sound-outcome : (stages : List Stage) (sides : List Gathered) (main : Gathered) → AreSound (sides ++ main ∷ []) → IfErr (outcome_of_stages stages sides main) IsRunFault
+pub sound-outcome : (stages : List Stage) (sides : List SideSource) (main : SideSource) → AreSound (sides ++ main ∷ []) → IfErr (outcome_of_stages stages sides main) IsRunFault
 sound-outcome stages sides main s = go (first_fault (map gathered_stream sides)) (sound-first sides both.0)
   where
     both : AreSound sides × IsSound main.fault
     both = sound-ends sides main s
 
     batches : List Frame
-    batches = map (λ (g : Gathered). g.batch) sides
+    batches = map (λ (g : SideSource). g.batch) sides
 
     go : (o : Option Fault) → IsSound o →
-        IfErr (elim o as (λ _. Result Frame Fault) [ Some f ↦ Err f | None ↦ outcome (map (λ (g : Gathered). g.batch) sides) main.batch.fields stages (gathered_stream main) ]) IsRunFault
+        IfErr (elim o as (λ _. Result Frame Fault) [ Some f ↦ Err f | None ↦ outcome (map (λ (g : SideSource). g.batch) sides) main.batch.fields stages (gathered_stream main) ]) IsRunFault
     go None t =
         sound-frame (columns_after main.batch.fields (transforms_of batches main.batch.fields stages)) (whole_all (transforms_of batches main.batch.fields stages) (gathered_stream main))
         (sound-stages batches main.batch.fields stages (gathered_stream main) both.1)
@@ -65,10 +65,10 @@ sound-outcome stages sides main s = go (first_fault (map gathered_stream sides))
 
 -- the sources before the last, of which nothing was taken, and the last one's columns after the leading steps
 module _ (sources : List SourceFiles) (front : NumberedSteps) (stages : List Stage) (inputs : ℕ) (c : IsRunnable sources front stages inputs) (sides : List SourceFiles) (main : SourceFiles) (parts : sources ≡ sides ++ main ∷ []) where
-  abbrev pub before_main : List Gathered
+  abbrev pub before_main : List SideSource
   before_main = map (λ (s : SourceFiles). no_rows s.files s.layout.schema) sides
 
-  abbrev pub main_one : Gathered
+  abbrev pub main_one : SideSource
   main_one = no_rows main.files (fields_after_all front.fields front.steps)
 
   pub fit-over : FitOver stages c.fits.0 before_main main_one

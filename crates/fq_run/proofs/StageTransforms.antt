@@ -26,8 +26,8 @@ use Rattle.fq_run.specs.Outcome.{columns_after}
 use Rattle.fq_run.specs.Transforms.{Chain, Transform, given_all, group_transform, join_transform, roll_transform}
 use Rattle.fq_run.specs.Pipelines.{HasRun}
 use Rattle.fq_run.specs.RunningOperators.{HasGrouped, HasJoined, HasSummed, HasTaken, HaveTaken}
-use Rattle.fq_run.specs.declared.operators.Running.{Running}
-use Rattle.fq_run.specs.declared.operators.Running.TheVariants as running
+use Rattle.fq_run.specs.declared.operators.RunningOperator.{RunningOperator}
+use Rattle.fq_run.specs.declared.operators.RunningOperator.TheVariants as running
 use Rattle.fq_run.specs.declared.operators.grouping.Grouping.{Grouping}
 use Rattle.fq_run.specs.declared.operators.joining.Joining.{Joining}
 use Rattle.fq_run.specs.declared.operators.rolling.Summing.{Summing}
@@ -179,15 +179,15 @@ module _ (sides : List Frame) (n : ℕ) (fields after : Fields) where
 
 -- ---- the same of several, of which the first have been started
 
-pub record StartedSoFar (sides : List Frame) (before : Fields) (stages : List Stage) (after : Fields) (operators : List Running) (fields : Fields) (rest : List Stage) : Type 0 where
+pub record StartedSoFar (sides : List Frame) (before : Fields) (stages : List Stage) (after : Fields) (operators : List RunningOperator) (fields : Fields) (rest : List Stage) : Type 0 where
   pub fits : Fit (map (λ f. f.fields) sides) fields rest after
-  pub closes : (qs : List Running) → HaveTaken qs (transforms_of sides fields rest) [] → HaveTaken (operators ++ qs) (transforms_of sides before stages) []
+  pub closes : (qs : List RunningOperator) → HaveTaken qs (transforms_of sides fields rest) [] → HaveTaken (operators ++ qs) (transforms_of sides before stages) []
 
 module _ (sides : List Frame) (before : Fields) (stages : List Stage) (after : Fields) where
   pub started-start : Fit (map (λ f. f.fields) sides) before stages after → StartedSoFar sides before stages after [] before stages
   started-start fits = record { fits = fits; closes = λ qs h. h }
 
-  pub started-step : (operators : List Running) (fields : Fields) (s : Stage) (rest : List Stage) (r : Running) → StartedSoFar sides before stages after operators fields (s ∷ rest) →
+  pub started-step : (operators : List RunningOperator) (fields : Fields) (s : Stage) (rest : List Stage) (r : RunningOperator) → StartedSoFar sides before stages after operators fields (s ∷ rest) →
       (Accepts (map (λ f. f.fields) sides) fields s.operator s.after → HasTaken r (transform_of sides s.number fields s.operator) []) →
       StartedSoFar sides before stages after (operators ++ r ∷ []) s.after rest
   started-step operators fields s rest r so_far taken =
@@ -195,7 +195,7 @@ module _ (sides : List Frame) (before : Fields) (stages : List Stage) (after : F
       let m = transform_of sides s.number fields s.operator in
       let is = transform-is sides s.number fields s.after s.operator t in record {
         fits = so_far.fits.1;
-        closes = λ qs h. subst (λ (rs : List Running). HaveTaken rs (transforms_of sides before stages) []) (sym (append_assoc operators (r ∷ []) qs))
+        closes = λ qs h. subst (λ (rs : List RunningOperator). HaveTaken rs (transforms_of sides before stages) []) (sym (append_assoc operators (r ∷ []) qs))
             (so_far.closes (r ∷ qs) (
               taken t,
               subst (λ (l : List Row). HaveTaken qs (transforms_of sides m.gives rest) l) (ap (λ (a : Stream Fault). a.rows) (sym is.starts))
@@ -203,12 +203,12 @@ module _ (sides : List Frame) (before : Fields) (stages : List Stage) (after : F
             ));
       }
 
-  pub started-all : Fit (map (λ f. f.fields) sides) before stages after → (operators : List Running) (fields : Fields) → StartedSoFar sides before stages after operators fields [] →
+  pub started-all : Fit (map (λ f. f.fields) sides) before stages after → (operators : List RunningOperator) (fields : Fields) → StartedSoFar sides before stages after operators fields [] →
       (fields ≡ after) × HasRun operators (record { before = before; transforms = transforms_of sides before stages; after = after }) [] []
   started-all fits operators fields so_far = (
     so_far.fits,
     record {
-      taken = subst (λ (rs : List Running). HaveTaken rs (transforms_of sides before stages) []) (append-nil operators) (so_far.closes [] tt);
+      taken = subst (λ (rs : List RunningOperator). HaveTaken rs (transforms_of sides before stages) []) (append-nil operators) (so_far.closes [] tt);
       chain = chain-of sides before after stages fits;
       given = starts-of sides before after stages fits;
     },

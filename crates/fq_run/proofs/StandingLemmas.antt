@@ -12,9 +12,9 @@ use Rattle.fq_run.specs.Stages.{Fit}
 use Rattle.fq_run.specs.Standing.{FitOver, IsSettled, IsStreaming, Stands}
 use Rattle.fq_run.specs.Transforms.{whole_all}
 use Rattle.fq_run.specs.declared.faults.Fault.{Fault}
-use Rattle.fq_run.specs.declared.gathering.Gathered.{Gathered}
+use Rattle.fq_run.specs.declared.gathering.SideSource.{SideSource}
 use Rattle.fq_run.specs.declared.passed.Passed.{Passed}
-use Rattle.fq_run.specs.declared.operators.Running.{Running}
+use Rattle.fq_run.specs.declared.operators.RunningOperator.{RunningOperator}
 use Rattle.fq_run.specs.TailState.{IsReady, TailState}
 use Rattle.fq_run.specs.declared.stages.Stage.{Stage}
 use Rattle.fq_run.specs.declared.leading_steps.Worked.{Worked}
@@ -26,7 +26,7 @@ use Rattle.fq_run.proofs.OutcomeOfPipeline.{fault-is}
 then-faultless : (u v : Stream Fault) → u.fault ≡ None → then_stream u v ≡ record { rows = u.rows ++ v.rows; fault = v.fault }
 then-faultless u v e = ap (λ (o : Option Fault). cond (is_some o) u (record { rows = u.rows ++ v.rows; fault = v.fault })) e
 
-module _ (stages : List Stage) (after : Fields) (sides : List Gathered) (main : Gathered) where
+module _ (stages : List Stage) (after : Fields) (sides : List SideSource) (main : SideSource) where
   abbrev later : Transforming
   later = later_steps stages sides main.batch.fields after
 
@@ -38,7 +38,7 @@ module _ (stages : List Stage) (after : Fields) (sides : List Gathered) (main : 
       ap (λ (u : Stream Fault). outcome_of_stages stages sides (with_stream main u)) (then_stream-assoc (gathered_stream main) (added_stream main.batch.fields out) rest)
       ∙ settled (then_stream (added_stream main.batch.fields out) rest)
 
-  module _ {S : Type 0} (has : S → Fields → List Row → Type 0) (running : List Running) (t : TailState S) (i : IsStreaming has stages after sides main running t) where
+  module _ {S : Type 0} (has : S → Fields → List Row → Type 0) (running : List RunningOperator) (t : TailState S) (i : IsStreaming has stages after sides main running t) where
     -- the outcome of what streams
     pub streaming-outcome : FitOver stages after sides main → outcome_of_stages stages sides main ≡ frame_or_fault after (whole_all later.transforms (done main.batch.rows))
     streaming-outcome leads =
@@ -51,7 +51,7 @@ module _ (stages : List Stage) (after : Fields) (sides : List Gathered) (main : 
       added-is = is ∙ ap (λ (f : Fields). added_stream f out) i.before
 
       -- a piece was taken
-      streams-on : (next : List Running) (u : TailState S) → u.before ≡ t.before →
+      streams-on : (next : List RunningOperator) (u : TailState S) → u.before ≡ t.before →
           (more : List Row) × ((input.fault ≡ None) × (HasRun next later (main.batch.rows ++ rows_in input.batch) (i.out ++ more) × (has t.sink after i.out → has u.sink after (i.out ++ more)))) →
           IsStreaming has stages after sides (gathered main out) next u
       streams-on next u same on = record {
@@ -79,7 +79,7 @@ module _ (stages : List Stage) (after : Fields) (sides : List Gathered) (main : 
 
   -- ---- the tail, after one more item of the main source and at the end
   module _ {S : Type 0} (has : S → Fields → List Row → Type 0) (t : TailState S) (fits : FitOver stages after sides main) (stands : Stands has stages after sides main t) where
-    -- a fault has ended all
+    -- the run has failed
     pub stands-ended : (out : Worked) → t.operators ≡ None → IsSome t.fault → Stands has stages after sides (gathered main out) t
     stands-ended out none some = record {
       settled = λ f e. settled-on out f (stands.settled f e);
@@ -87,7 +87,7 @@ module _ (stages : List Stage) (after : Fields) (sides : List Gathered) (main : 
       streaming = λ running e. absurd (let z : None ≡ Some running = sym none ∙ e in cc);
     }
 
-    module _ (running : List Running) (runs : t.operators ≡ Some running) where
+    module _ (running : List RunningOperator) (runs : t.operators ≡ Some running) where
       streaming-is : IsStreaming has stages after sides main running t
       streaming-is = stands.streaming running runs
 
@@ -96,7 +96,7 @@ module _ (stages : List Stage) (after : Fields) (sides : List Gathered) (main : 
         under-is = subst (λ (f : Fields). IsUnder f input.batch) streaming-is.before under
 
         -- a piece was taken
-        pub stands-on : (next : List Running) → u.operators ≡ Some next → u.fault ≡ None → u.before ≡ t.before →
+        pub stands-on : (next : List RunningOperator) → u.operators ≡ Some next → u.fault ≡ None → u.before ≡ t.before →
             ((w : Transforming) (rows out : List Row) → HasRun running w rows out → IsUnder w.before input.batch →
             (more : List Row) × ((input.fault ≡ None) × (HasRun next w (rows ++ rows_in input.batch) (out ++ more) × (has t.sink w.after out → has u.sink w.after (out ++ more))))) →
             Stands has stages after sides (gathered main out) u
@@ -105,7 +105,7 @@ module _ (stages : List Stage) (after : Fields) (sides : List Gathered) (main : 
             record {
               settled = λ f e. absurd (let z : None ≡ Some f = sym none ∙ e in cc);
               waiting = λ e closed. absurd (let z : None ≡ Some next = sym closed ∙ runs-on in cc);
-              streaming = λ others e. subst (λ (rs : List Running). IsStreaming has stages after sides (gathered main out) rs u) (let z : Some next ≡ Some others = sym runs-on ∙ e in cc) s;
+              streaming = λ others e. subst (λ (rs : List RunningOperator). IsStreaming has stages after sides (gathered main out) rs u) (let z : Some next ≡ Some others = sym runs-on ∙ e in cc) s;
             }
 
         -- a fault of the operators ends all
@@ -135,7 +135,7 @@ module _ (stages : List Stage) (after : Fields) (sides : List Gathered) (main : 
           ∙ fault-is after (whole_all later.transforms (done main.batch.rows)) f (ends later main.batch.rows streaming-is.out streaming-is.run)
 
 -- what runs has taken one more piece
-pub ready-on : {S : Type 0} (has : S → Fields → List Row → Type 0) (t u : TailState S) (running next : List Running) (input : Passed) → IsReady t → t.operators ≡ Some running → u.operators ≡ Some next → u.fault ≡ t.fault → u.before ≡ t.before → IsUnder t.before input.batch →
+pub ready-on : {S : Type 0} (has : S → Fields → List Row → Type 0) (t u : TailState S) (running next : List RunningOperator) (input : Passed) → IsReady t → t.operators ≡ Some running → u.operators ≡ Some next → u.fault ≡ t.fault → u.before ≡ t.before → IsUnder t.before input.batch →
     ((w : Transforming) (rows out : List Row) → HasRun running w rows out → IsUnder w.before input.batch →
     (more : List Row) × ((input.fault ≡ None) × (HasRun next w (rows ++ rows_in input.batch) (out ++ more) × (has t.sink w.after out → has u.sink w.after (out ++ more))))) → IsReady u
 ready-on has t u running next input ready runs runs-on same same-before under on =
@@ -152,7 +152,7 @@ ready-on has t u running next input ready runs runs-on same same-before under on
             (
               r.1.1.1.0 ++ more.0,
               (
-                subst (λ (rs : List Running). HasRun rs r.1.0 (r.1.1.0 ++ rows_in input.batch) (r.1.1.1.0 ++ more.0)) (let z : Some next ≡ Some others = sym runs-on ∙ e in cc) more.1.1.0,
+                subst (λ (rs : List RunningOperator). HasRun rs r.1.0 (r.1.1.0 ++ rows_in input.batch) (r.1.1.1.0 ++ more.0)) (let z : Some next ≡ Some others = sym runs-on ∙ e in cc) more.1.1.0,
                 r.1.1.1.1.1 ∙ sym same-before,
               ),
             ),
@@ -166,10 +166,10 @@ pub ready-taken : {S : Type 0} (t u : TailState S) (file : ℕ) (item : Worked) 
 ready-taken t u file item ready operators fault before stages sides = record {
   fits = λ closed none.
       let r = ready.fits (sym operators ∙ closed) (sym fault ∙ none) in
-      let columns = ap (map (λ (g : Gathered). g.batch.fields)) sides ∙ columns-taken file item t.sides in (
+      let columns = ap (map (λ (g : SideSource). g.batch.fields)) sides ∙ columns-taken file item t.sides in (
         r.0,
-        subst (λ (ss : List Stage). Fit (map (λ (g : Gathered). g.batch.fields) u.sides) u.before ss r.0) (sym stages)
-            (subst (λ (f : Fields). Fit (map (λ (g : Gathered). g.batch.fields) u.sides) f t.stages r.0) (sym before)
+        subst (λ (ss : List Stage). Fit (map (λ (g : SideSource). g.batch.fields) u.sides) u.before ss r.0) (sym stages)
+            (subst (λ (f : Fields). Fit (map (λ (g : SideSource). g.batch.fields) u.sides) f t.stages r.0) (sym before)
             (subst (λ (fs : List Fields). Fit fs t.before t.stages r.0) (sym columns) r.1)),
       );
   runs = λ running e. let r = ready.runs running (sym operators ∙ e) in (fault ∙ r.0, (r.1.0, (r.1.1.0, (r.1.1.1.0, (r.1.1.1.1.0, r.1.1.1.1.1 ∙ sym before)))));

@@ -14,8 +14,8 @@ use Rattle.fq_run.specs.Physical.{Physical, file_layouts, files_wanted, front_fi
 use Rattle.fq_run.specs.Run.{trace_of}
 use Rattle.fq_csv.specs.Sources.{but_last, last_or, row_limit}
 use Rattle.fq_run.specs.Working.{work_on}
-use Rattle.fq_run.specs.declared.file_feeds.Scanned.{Scanned}
-use Rattle.fq_run.specs.declared.gathering.Gathered.{Gathered}
+use Rattle.fq_run.specs.declared.file_feeds.FileItem.{FileItem}
+use Rattle.fq_run.specs.declared.gathering.SideSource.{SideSource}
 
 -- the number of the main source's files
 abbrev pub main_files : Physical → ℕ
@@ -26,15 +26,15 @@ abbrev pub leading_steps : Physical → NumberedSteps
 leading_steps p = record { steps = p.front; fields = main_fields p; first = 0 }
 
 -- a source of which nothing was taken
-abbrev pub no_rows : ℕ → Fields → Gathered
+abbrev pub no_rows : ℕ → Fields → SideSource
 no_rows files fields = record { files = files; batch = record { fields = fields; rows = [] }; fault = None }
 
 -- so all sources of a plan; the main one has its columns after the leading steps
-abbrev pub nothing_taken : Physical → List Gathered
+abbrev pub nothing_taken : Physical → List SideSource
 nothing_taken p = map (λ s. no_rows s.files s.fields) (but_last p.sources) ++ no_rows (main_files p) (front_fields p) ∷ []
 
 -- the items of each file's records; the files are numbered from this one on and have these layouts
-abbrev pub items_of_files : ℕ → ℕ → List Layout → List RecordStream → List (List Scanned)
+abbrev pub items_of_files : ℕ → ℕ → List Layout → List RecordStream → List (List FileItem)
 items_of_files run_size file [] ws = []
 items_of_files run_size file (layout ∷ layouts) [] = []
 items_of_files run_size file (layout ∷ layouts) (w ∷ ws) = scanned_items file layout run_size 0 w ∷ items_of_files run_size (file + 1) layouts ws
@@ -60,7 +60,7 @@ opened remaining run_size file (layout ∷ layouts) (reader ∷ readers) =
     ∷ opened remaining run_size (file + 1) layouts readers
 
 -- a run of the engine over feeds that tell the items of these records, from nothing taken on
-pub record RanOver (p : Physical) (batch_size : ℕ) (ws : List RecordStream) (front : NumberedSteps) (sides : ℕ) (feeds : List Feeding) (first last : List Gathered) (trace : List (ℕ × ℕ)) : Type 0 where
+pub record RanOver (p : Physical) (batch_size : ℕ) (ws : List RecordStream) (front : NumberedSteps) (sides : ℕ) (feeds : List Feeding) (first last : List SideSource) (trace : List (ℕ × ℕ)) : Type 0 where
   pub some_rows : 0 < batch_size
   pub some_source : 0 < length p.sources
   pub all_files : length ws ≡ files_wanted p
@@ -71,6 +71,6 @@ pub record RanOver (p : Physical) (batch_size : ℕ) (ws : List RecordStream) (f
   pub finished : Finishes MayCome (λ file item out. out ≡ work_on front sides file item) Takes feeds first trace last
 
 -- then what was gathered has the plan's outcome, and the trace lists each file's batches if that is a frame
-pub record Gives (p : Physical) (batch_size : ℕ) (us : List (Stream ScanFault)) (last : List Gathered) (numbers : List (ℕ × ℕ)) : Type 0 where
-  pub outcome : (sides : List Gathered) (main : Gathered) → last ≡ sides ++ main ∷ [] → outcome_of_stages p.stages sides main ≡ outcome_of_run p us
+pub record Gives (p : Physical) (batch_size : ℕ) (us : List (Stream ScanFault)) (last : List SideSource) (numbers : List (ℕ × ℕ)) : Type 0 where
+  pub outcome : (sides : List SideSource) (main : SideSource) → last ≡ sides ++ main ∷ [] → outcome_of_stages p.stages sides main ≡ outcome_of_run p us
   pub trace : IsOk (outcome_of_run p us) → numbers ≡ trace_of batch_size us

@@ -6,7 +6,7 @@ use Rattle.fq_run.specs.Outcome.{outcome_of_stages}
 use Rattle.fq_run.specs.Physical.{Physical, file_streams, outcome_of_run}
 use Rattle.fq_run.specs.Run.{Tell, trace_of}
 use Rattle.fq_run.specs.Standing.{FitOver, Stands}
-use Rattle.fq_run.specs.declared.gathering.Gathered.{Gathered}
+use Rattle.fq_run.specs.declared.gathering.SideSource.{SideSource}
 use Rattle.fq_run.specs.TailState.{TailState}
 use Rattle.fq_run.specs.declared.stages.Stage.{Stage}
 
@@ -14,8 +14,8 @@ use Rattle.fq_run.specs.declared.stages.Stage.{Stage}
 pub record HasGathered {R S : Type 0} (has : S → Fields → List Row → Type 0) (remaining : R → Option (List ℕ)) (readers : List R) (p : Physical) (batch_size : ℕ) (tail : TailState S) (numbers : List (ℕ × ℕ)) : Type 0 where
   pub stages : List Stage
   pub after : Fields
-  pub sides : List Gathered
-  pub main : Gathered
+  pub sides : List SideSource
+  pub main : SideSource
   pub fits : FitOver stages after sides main
   pub stands : Stands has stages after sides main tail
   pub sound : AreSound (sides ++ main ∷ [])

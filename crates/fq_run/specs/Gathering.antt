@@ -8,15 +8,15 @@ use Rattle.fq_column.specs.declared.pieces.Piece.{Piece}
 use Rattle.fq_run.specs.Sources.{scan_fault}
 use Rattle.fq_run.specs.Working.{piece_stream}
 use Rattle.fq_run.specs.declared.faults.Fault.{Fault}
-use Rattle.fq_run.specs.declared.gathering.Gathered.{Gathered}
+use Rattle.fq_run.specs.declared.gathering.SideSource.{SideSource}
 use Rattle.fq_run.specs.declared.leading_steps.Worked.{Worked}
 use Rattle.fq_run.specs.declared.leading_steps.Worked.TheVariants as worked
 
 -- the stream so far, and a source with another one
-abbrev pub gathered_stream : Gathered → Stream Fault
+abbrev pub gathered_stream : SideSource → Stream Fault
 gathered_stream g = record { rows = g.batch.rows; fault = g.fault }
 
-abbrev pub with_stream : Gathered → Stream Fault → Gathered
+abbrev pub with_stream : SideSource → Stream Fault → SideSource
 with_stream g u = record { files = g.files; batch = record { fields = g.batch.fields; rows = u.rows }; fault = u.fault }
 
 -- what a piece adds to a source with these columns; one of others is dropped
@@ -30,10 +30,10 @@ added_stream fields (worked.Cut p fault) = then_stream (added_piece fields p) (f
 added_stream fields (worked.Ended fault) = faulted (scan_fault fault)
 
 -- a source after one of its worked items
-abbrev pub gathered : Gathered → Worked → Gathered
+abbrev pub gathered : SideSource → Worked → SideSource
 gathered g out = with_stream g (then_stream (gathered_stream g) (added_stream g.batch.fields out))
 
 -- the sources after a worked item of a file, which is counted from the first of them on
-abbrev pub taken_in : ℕ → Worked → List Gathered → List Gathered
+abbrev pub taken_in : ℕ → Worked → List SideSource → List SideSource
 taken_in file out [] = []
 taken_in file out (g ∷ gs) = if nat_lt file g.files then gathered g out ∷ gs else g ∷ taken_in (file - g.files) out gs

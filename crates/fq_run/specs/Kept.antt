@@ -4,15 +4,15 @@ use Rattle.fq_column.specs.Frame.{Fields}
 use Rattle.fq_run.specs.Gathering.{taken_in}
 use Rattle.fq_run.specs.Run.{IsRunFault}
 use Rattle.fq_run.specs.declared.faults.Fault.{Fault}
-use Rattle.fq_run.specs.declared.gathering.Gathered.{Gathered}
+use Rattle.fq_run.specs.declared.gathering.SideSource.{SideSource}
 use Rattle.fq_run.specs.declared.leading_steps.Worked.{Worked}
 
 -- a source's files and columns
-abbrev pub shape : Gathered → ℕ × Fields
+abbrev pub shape : SideSource → ℕ × Fields
 shape g = (g.files, g.batch.fields)
 
 -- sources take a worked item
-abbrev pub Takes : List Gathered → ℕ → ℕ → Worked → List Gathered → Type 0
+abbrev pub Takes : List SideSource → ℕ → ℕ → Worked → List SideSource → Type 0
 Takes old file serial out new = new ≡ taken_in file out old
 
 -- no fault, or one of a run that has started, up to its writing
@@ -20,6 +20,6 @@ abbrev pub IsSound : Option Fault → Type 0
 IsSound None = Unit {0}
 IsSound (Some f) = IsRunFault f
 
-abbrev pub AreSound : List Gathered → Type 0
+abbrev pub AreSound : List SideSource → Type 0
 AreSound [] = Unit {0}
 AreSound (g ∷ gs) = IsSound g.fault × AreSound gs

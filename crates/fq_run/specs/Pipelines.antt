@@ -5,7 +5,7 @@ use Rattle.fq_column.specs.Stream.{Stream, done, then_stream}
 use Rattle.fq_run.specs.Transforms.{Chain, Transform, given_all, whole_all}
 use Rattle.fq_run.specs.RunningOperators.{HaveTaken}
 use Rattle.fq_run.specs.declared.faults.Fault.{Fault}
-use Rattle.fq_run.specs.declared.operators.Running.{Running}
+use Rattle.fq_run.specs.declared.operators.RunningOperator.{RunningOperator}
 
 -- transforms in a row, on rows with these columns, which they take to those
 pub record Transforming : Type 0 where
@@ -14,13 +14,13 @@ pub record Transforming : Type 0 where
   pub after : Fields
 
 -- operators that run as these have taken these rows, and handed on those
-pub record HasRun (operators : List Running) (w : Transforming) (rows out : List Row) : Type 0 where
+pub record HasRun (operators : List RunningOperator) (w : Transforming) (rows out : List Row) : Type 0 where
   pub taken : HaveTaken operators w.transforms rows
   pub chain : Chain w.before w.transforms w.after
   pub given : given_all w.transforms (done rows) ≡ done out
 
 -- operators that had taken rows have taken some more, and handed on what they make of these at once
-pub record HandsOn {S : Type 0} (has : S → Fields → List Row → Type 0) (operators : List Running) (ms : List Transform) (rows : List Row) (after : Fields) (taken : List Row) (old new : S) : Type 0 where
+pub record HandsOn {S : Type 0} (has : S → Fields → List Row → Type 0) (operators : List RunningOperator) (ms : List Transform) (rows : List Row) (after : Fields) (taken : List Row) (old new : S) : Type 0 where
   pub more : List Row
   pub have : HaveTaken operators ms (rows ++ taken)
   pub given : given_all ms (done (rows ++ taken)) ≡ then_stream (given_all ms (done rows)) (done more)

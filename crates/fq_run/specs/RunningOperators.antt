@@ -3,7 +3,7 @@ use Rattle.std.specs.Prelude.{◌≡◌, ◌+◌, ◌-◌, length, map, IsOk, Li
 use Rattle.fq_column.specs.Frame.{Fields, Frame, Name, Row, names_of, position_of, value_named}
 use Rattle.fq_column.specs.Stream.{Stream, done, then_stream}
 use Rattle.fq_ops.specs.Aggregate.{Output}
-use Rattle.fq_ops.specs.Gathered.{Gathered, HasTakenRows}
+use Rattle.fq_ops.specs.Grouped.{Grouped, HasTakenRows}
 use Rattle.fq_ops.specs.Join.{join_rows, join_schema}
 use Rattle.fq_ops.specs.Probing.{IsProbeOf, rows_left}
 use Rattle.fq_ops.specs.declared.probes.Probe.{Probe}
@@ -13,8 +13,8 @@ use Rattle.fq_run.specs.declared.operators.joining.TheConstants.{MAX_JOINED_ROWS
 use Rattle.fq_run.specs.Transforms.{Transform, IsCausal, steps_transform, join_transform, roll_transform, group_transform}
 use Rattle.fq_run.specs.declared.faults.Fault.{Fault}
 use Rattle.fq_run.specs.declared.operators.Made.{Made}
-use Rattle.fq_run.specs.declared.operators.Running.{Running}
-use Rattle.fq_run.specs.declared.operators.Running.TheVariants.{Rows, Join, Roll, Group}
+use Rattle.fq_run.specs.declared.operators.RunningOperator.{RunningOperator}
+use Rattle.fq_run.specs.declared.operators.RunningOperator.TheVariants.{Rows, Join, Roll, Group}
 use Rattle.fq_run.specs.declared.operators.joining.Joining.{Joining}
 use Rattle.fq_run.specs.declared.operators.rolling.Summing.{Summing}
 use Rattle.fq_run.specs.declared.operators.grouping.Grouping.{Grouping}
@@ -54,20 +54,20 @@ pub record HasSummed (s : Summing) (m : Transform) (rows : List Row) : Type 0 wh
 pub record HasGrouped (g : Grouping) (m : Transform) (rows : List Row) : Type 0 where
   pub keys : List Name
   pub outputs : List Output
-  pub grouper : Gathered
+  pub grouper : Grouped
   pub is : g.grouper ≡ Some grouper
   pub fields : grouper.fields ≡ m.takes
   pub transform : m ≡ group_transform g.number m.takes keys outputs
   pub rows_taken : HasTakenRows grouper keys outputs rows
 
-abbrev pub Keeps : Running → Transform → List Row → Type 0
+abbrev pub Keeps : RunningOperator → Transform → List Row → Type 0
 Keeps (Rows front) m rows = m ≡ steps_transform front.now
 Keeps (Join j) m rows = HasJoined j m rows
 Keeps (Roll s) m rows = HasSummed s m rows
 Keeps (Group g) m rows = HasGrouped g m rows
 
 -- an operator that runs as this transform has taken these rows, and none of them was a fault
-pub record HasTaken (r : Running) (m : Transform) (rows : List Row) : Type 0 where
+pub record HasTaken (r : RunningOperator) (m : Transform) (rows : List Row) : Type 0 where
   pub causal : IsCausal m
   pub faultless : (m.at_once rows).fault ≡ None
   pub keeps : Keeps r m rows
@@ -95,19 +95,19 @@ pub record IsJoining (joining : Joining) (m : Transform) (rows : List Row) (batc
       ≡ then_stream (done given) (rows_left joining.table probe)
 
 -- only a join goes on by a probe
-abbrev pub IsGiving : Running → Transform → List Row → Frame → List Row → Probe → Type 0
+abbrev pub IsGiving : RunningOperator → Transform → List Row → Frame → List Row → Probe → Type 0
 IsGiving (Rows front) m rows batch given probe = ⊥
 IsGiving (Join j) m rows batch given probe = IsJoining j m rows batch given probe
 IsGiving (Roll s) m rows batch given probe = ⊥
 IsGiving (Group g) m rows batch given probe = ⊥
 
 -- the last of what an operator makes of one more batch, after these rows: it has taken the batch, unless a fault ends all
-abbrev pub IsLast : Running → Transform → List Row → Frame → List Row → Passed → Type 0
+abbrev pub IsLast : RunningOperator → Transform → List Row → Frame → List Row → Passed → Type 0
 IsLast r m rows batch given p = (then_stream (m.at_once rows) (then_stream (done given) (passed_stream p)) ≡ m.at_once (rows ++ batch.rows))
     × (p.fault ≡ None → HasTaken r m (rows ++ batch.rows))
 
 -- a part of what an operator makes of one more batch, after these rows
-pub record Makes (r : Running) (m : Transform) (rows : List Row) (batch : Frame) (given : List Row) (p : Made) : Type 0 where
+pub record Makes (r : RunningOperator) (m : Transform) (rows : List Row) (batch : Frame) (given : List Row) (p : Made) : Type 0 where
   pub columns : IsUnder m.gives p.passed.batch
   pub last : p.rest ≡ None → IsLast r m rows batch given p.passed
   pub goes_on : (probe : Probe) → p.rest ≡ Some probe → (p.passed.fault ≡ None) × IsGiving r m rows batch (given ++ rows_in p.passed.batch) probe
@@ -119,7 +119,7 @@ pub record HasEnded (m : Transform) (rows : List Row) (p : Passed) : Type 0 wher
 
 -- ---- operators in a row
 
-abbrev pub HaveTaken : List Running → List Transform → List Row → Type 0
+abbrev pub HaveTaken : List RunningOperator → List Transform → List Row → Type 0
 HaveTaken [] [] rows = Unit {0}
 HaveTaken [] (m ∷ ms) rows = ⊥
 HaveTaken (r ∷ rs) [] rows = ⊥

@@ -14,8 +14,8 @@ use Rattle.fq_column.specs.declared.pieces.Piece.{Piece}
 use Rattle.fq_csv.specs.Sources.{row_limit}
 use Rattle.fq_run.specs.Sources.{row_fault, scan_fault}
 use Rattle.fq_run.specs.declared.faults.Fault.{Fault}
-use Rattle.fq_run.specs.declared.file_feeds.Scanned.{Scanned}
-use Rattle.fq_run.specs.declared.file_feeds.Scanned.TheVariants as scanned
+use Rattle.fq_run.specs.declared.file_feeds.FileItem.{FileItem}
+use Rattle.fq_run.specs.declared.file_feeds.FileItem.TheVariants as scanned
 use Rattle.fq_run.specs.declared.leading_steps.Worked.{Worked}
 use Rattle.fq_run.specs.declared.leading_steps.Worked.TheVariants as worked
 
@@ -42,7 +42,7 @@ piece_until None p = worked.Piece p
 piece_until (Some fault) p = worked.Cut p fault
 
 -- the work on an item: a run's rows, and the leading steps on them
-abbrev pub work_on : NumberedSteps → ℕ → ℕ → Scanned → Worked
+abbrev pub work_on : NumberedSteps → ℕ → ℕ → FileItem → Worked
 work_on front side_files file (scanned.Ended fault) = worked.Ended fault
 work_on front side_files file (scanned.Run run) = piece_until (rows_of_run run).fault (piece_of front side_files file (framed run.layout.schema (rows_of_run run).rows))
 

@@ -13,7 +13,7 @@ use std::marker::Model;
 
 /// An item of a file.
 #[derive(Drop)]
-pub(crate) enum Scanned {
+pub(crate) enum FileItem {
     /// The next records.
     Run(RecordRun),
     /// Why the records ended before the file did; the last item.
@@ -63,7 +63,7 @@ impl<R: Read> FileFeed<R> {
 }
 
 impl<R: Read> Feed for FileFeed<R> {
-    type Item = Scanned;
+    type Item = FileItem;
 
     ghost gives = { MayCome };
 
@@ -73,19 +73,19 @@ impl<R: Read> Feed for FileFeed<R> {
 
     ghost may_fail = { λ _. Unit {0} };
 
-    fn next(&mut self) -> Result<Option<Scanned>, FeedFault> {
+    fn next(&mut self) -> Result<Option<FileItem>, FeedFault> {
         if self.ended {
             return Ok(None);
         }
         match self.records.next_run() {
-            Ok(Some(run)) => Ok(Some(Scanned::Run(run))),
+            Ok(Some(run)) => Ok(Some(FileItem::Run(run))),
             Ok(None) => Ok(None),
             Err(fault) => match fault {
                 ScanFault::Read { .. } => Err(FeedFault::Read),
                 ScanFault::Memory => Err(FeedFault::Memory),
                 fault => {
                     self.ended = true;
-                    Ok(Some(Scanned::Ended(fault)))
+                    Ok(Some(FileItem::Ended(fault)))
                 }
             },
         }

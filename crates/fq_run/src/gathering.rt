@@ -13,19 +13,19 @@ use std::alloc::Global;
 
 /// A source's rows so far, and the fault that ends them; after a fault nothing is added.
 #[derive(Drop)]
-pub(crate) struct Gathered {
+pub(crate) struct SideSource {
     /// How many files the source has.
     pub(crate) files: u16,
     pub(crate) batch: Batch,
     pub(crate) fault: Option<Fault>,
 }
 
-impl Gathered {
+impl SideSource {
     /// A source of so many files, with no row yet. `Memory` if an allocation fails.
-    pub(crate) fn new(alloc: Global, files: u16, schema: Schema) -> Result<Gathered, Memory>
+    pub(crate) fn new(alloc: Global, files: u16, schema: Schema) -> Result<SideSource, Memory>
         ensures { IfOk result (λ g. g ≡ record { files = files; batch = record { fields = schema; rows = [] }; fault = None }) }
     {
-        Ok(Gathered {
+        Ok(SideSource {
             files,
             batch: Batch::empty(alloc, schema)?,
             fault: None,
@@ -79,7 +79,7 @@ impl Gathered {
 }
 
 /// Adds a worked item to the source that its file is of, counted from the first of these.
-pub(crate) fn take_in(sources: &mut [Gathered], file: u16, out: Worked) -> Result<(), Memory>
+pub(crate) fn take_in(sources: &mut [SideSource], file: u16, out: Worked) -> Result<(), Memory>
     ensures { OnOk result (sources.new ≡ taken_in file out sources.old) }
 {
     let Some((source, others)) = sources.split_first_mut() else {
@@ -93,7 +93,7 @@ pub(crate) fn take_in(sources: &mut [Gathered], file: u16, out: Worked) -> Resul
 }
 
 /// The batches of sources, or the fault that ends the first that has one.
-pub(crate) fn whole_batches(alloc: Global, sources: Vec<Gathered>) -> Result<Vec<Batch>, Fault>
+pub(crate) fn whole_batches(alloc: Global, sources: Vec<SideSource>) -> Result<Vec<Batch>, Fault>
     ensures none { IfOk result (λ batches. first_fault (map gathered_stream sources.items) ≡ None) }
     ensures batches { IfOk result (λ batches. batches.items ≡ map (λ g. g.batch) sources.items) }
     ensures fault { IfErr result (λ f. (first_fault (map gathered_stream sources.items) ≡ Some f) ⊎ (f ≡ fault.Memory)) }

@@ -2,7 +2,7 @@
 ghost use Rattle.std.specs.Prelude.{◌≡◌, IfOk};
 ghost use Rattle.fq_run.specs.Working.{piece_of, work_on};
 
-use crate::file_feeds::Scanned;
+use crate::file_feeds::FileItem;
 use fq_column::Batch;
 use fq_csv::{RecordRun, ScanFault};
 use fq_expr::{Front, Piece};
@@ -31,16 +31,16 @@ pub(crate) struct LeadingSteps {
 }
 
 impl Work for LeadingSteps {
-    type Item = Scanned;
+    type Item = FileItem;
 
     type Out = Worked;
 
     ghost gives = { λ s file item out. out ≡ work_on s.front s.side_files file item };
 
-    fn work(&self, file: u16, item: Scanned) -> Result<Worked, Memory> {
+    fn work(&self, file: u16, item: FileItem) -> Result<Worked, Memory> {
         match item {
-            Scanned::Ended(fault) => Ok(Worked::Ended(fault)),
-            Scanned::Run(run) => self.work_on(file, run),
+            FileItem::Ended(fault) => Ok(Worked::Ended(fault)),
+            FileItem::Run(run) => self.work_on(file, run),
         }
     }
 }
@@ -48,7 +48,7 @@ impl Work for LeadingSteps {
 impl LeadingSteps {
     // The rows of a run after the steps, and the fault of the file that ends them.
     fn work_on(&self, file: u16, run: RecordRun) -> Result<Worked, Memory>
-        ensures { IfOk result (λ out. out ≡ work_on self.now.front self.now.side_files file (Scanned.Run run)) }
+        ensures { IfOk result (λ out. out ≡ work_on self.now.front self.now.side_files file (FileItem.Run run)) }
     {
         let Ok(rows) = run.into_batch(self.alloc) else {
             return Err(Memory);

@@ -3,7 +3,7 @@ ghost use Rattle.std.specs.Prelude.{◌≡◌, ◌≤◌, ◌++◌, ◌∷◌, [
 ghost use Rattle.fq_run.specs.EngineRun.{no_rows, opened};
 
 use crate::file_feeds::FileFeed;
-use crate::gathering::Gathered;
+use crate::gathering::SideSource;
 use fq_column::Memory;
 use fq_csv::{Layout, MAX_BATCH_SIZE, MAX_FILES, SourceFiles};
 use std::alloc::Global;
@@ -65,13 +65,13 @@ pub(crate) fn open_feeds<R: Read + Drop>(
 }
 
 /// The sources before the main one, with no rows.
-pub(crate) fn empty_sources(alloc: Global, sides: &[SourceFiles]) -> Result<Vec<Gathered>, Memory>
+pub(crate) fn empty_sources(alloc: Global, sides: &[SourceFiles]) -> Result<Vec<SideSource>, Memory>
     ensures { IfOk result (λ sources. sources.items ≡ map (λ s. no_rows s.files s.layout.schema) sides.now) }
 {
     let mut sources = Vec::with_capacity(alloc, sides.len())?;
     for source in sides {
         let schema = source.layout.schema.copy(alloc)?;
-        sources.push(Gathered::new(alloc, source.files, schema)?)?;
+        sources.push(SideSource::new(alloc, source.files, schema)?)?;
     }
     Ok(sources)
 }

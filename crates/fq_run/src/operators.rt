@@ -77,7 +77,7 @@ pub(crate) struct Made {
 
 /// An operator, with what it keeps of the rows that it has taken.
 #[derive(Drop)]
-pub(crate) enum Running<'a> {
+pub(crate) enum RunningOperator<'a> {
     /// Row-wise steps.
     Rows(&'a Front),
     /// A join with rows that are there.
@@ -88,32 +88,32 @@ pub(crate) enum Running<'a> {
     Group(Grouping),
 }
 
-impl<'a> Running<'a> {
+impl<'a> RunningOperator<'a> {
     /// The operator of a stage that has taken no row, on rows of a schema; with its right rows, if it is a join.
     pub(crate) fn start(
         alloc: Global,
         right: Option<Batch>,
         schema: &Schema,
         stage: &'a Stage,
-    ) -> Result<Running<'a>, Memory>
+    ) -> Result<RunningOperator<'a>, Memory>
         requires { (sides : List Frame) × (after : Fields) × Accepts (map (λ f. f.fields) sides) schema.now stage.now.operator after × (right ≡ right_of sides stage.now.operator) }
         ensures { IfOk result (λ r. (sides : List Frame) (after : Fields) → Accepts (map (λ f. f.fields) sides) schema.now stage.entry.now.operator after →
             right ≡ right_of sides stage.entry.now.operator → HasTaken r (transform_of sides stage.entry.now.number schema.now stage.entry.now.operator) []) }
     {
         let number = stage.number;
         match &stage.operator {
-            Operator::Rows(front) => Ok(Running::Rows(front)),
+            Operator::Rows(front) => Ok(RunningOperator::Rows(front)),
             Operator::Join(join) => {
                 let Some(right) = right else { unreachable!() };
-                Ok(Running::Join(Joining::new(alloc, number, right, join)?))
+                Ok(RunningOperator::Join(Joining::new(alloc, number, right, join)?))
             }
             Operator::GroupBy(group_by) => {
                 let grouping = Grouping::new(alloc, number, schema, group_by)?;
-                Ok(Running::Group(grouping))
+                Ok(RunningOperator::Group(grouping))
             }
             Operator::RollingSum(rolling_sum) => {
                 let summing = Summing::new(alloc, number, schema, rolling_sum)?;
-                Ok(Running::Roll(summing))
+                Ok(RunningOperator::Roll(summing))
             }
         }
     }
@@ -124,10 +124,10 @@ impl<'a> Running<'a> {
         ensures { IfOk result (λ p. (m : Transform) (rows : List Row) → HasTaken self.old m rows → m.takes ≡ batch.fields → Makes self.new m rows batch [] p) }
     {
         match self {
-            Running::Rows(front) => Ok(Made::all(step(alloc, front, batch)?)),
-            Running::Join(joining) => joining.take(alloc, batch),
-            Running::Roll(summing) => Ok(Made::all(summing.take(alloc, batch)?)),
-            Running::Group(grouping) => Ok(Made::all(grouping.take(alloc, batch)?)),
+            RunningOperator::Rows(front) => Ok(Made::all(step(alloc, front, batch)?)),
+            RunningOperator::Join(joining) => joining.take(alloc, batch),
+            RunningOperator::Roll(summing) => Ok(Made::all(summing.take(alloc, batch)?)),
+            RunningOperator::Group(grouping) => Ok(Made::all(grouping.take(alloc, batch)?)),
         }
     }
 
@@ -137,8 +137,9 @@ impl<'a> Running<'a> {
         ensures { IfOk result (λ p. (m : Transform) (rows : List Row) (batch : Frame) (given : List Row) → IsGiving self.old m rows batch given probe → Makes self.new m rows batch given p) }
     {
         match self {
-            Running::Join(joining) => joining.go_on(alloc, probe),
-            Running::Rows(_) | Running::Roll(_) | Running::Group(_) => unreachable!(),
+            RunningOperator::Join(joining) => joining.go_on(alloc, probe),
+            RunningOperator::Rows(_) | RunningOperator::Roll(_) | RunningOperator::Group(_) =>
+                unreachable!(),
         }
     }
 
@@ -148,11 +149,13 @@ impl<'a> Running<'a> {
         ensures { IfOk result (λ p. (m : Transform) (rows : List Row) → HasTaken self.old m rows → HasEnded m rows p) }
     {
         match self {
-            Running::Group(grouping) => grouping.finish(alloc),
-            Running::Rows(_) | Running::Join(_) | Running::Roll(_) => Ok(Passed {
-                batch: None,
-                fault: None,
-            }),
+            RunningOperator::Group(grouping) => grouping.finish(alloc),
+            RunningOperator::Rows(_) | RunningOperator::Join(_) | RunningOperator::Roll(_) => Ok(
+                Passed {
+                    batch: None,
+                    fault: None,
+                },
+            ),
         }
     }
 }

@@ -11,7 +11,7 @@ ghost use Rattle.fq_run.specs.Transforms.{Chain, Transform, whole_all};
 ghost use Rattle.fq_run.specs.declared.faults.Fault.TheVariants as fault;
 
 use crate::faults::Fault;
-use crate::operators::{Made, Operator, Running};
+use crate::operators::{Made, Operator, RunningOperator};
 use crate::passed::Passed;
 use crate::row_sinks::RowSink;
 use crate::stages::Stage;
@@ -22,7 +22,7 @@ use std::mem;
 /// Running operators, each of which takes what the one before it passes on.
 #[derive(Drop)]
 pub(crate) struct Pipeline<'a> {
-    pub(crate) operators: Vec<Running<'a>>,
+    pub(crate) operators: Vec<RunningOperator<'a>>,
 }
 
 impl<'a> Pipeline<'a> {
@@ -44,7 +44,7 @@ impl<'a> Pipeline<'a> {
             let stage = &stages[number];
             let later = &stages[number + 1..];
             let right = take_right(alloc, &mut sides, &stage.operator, later)?;
-            operators.push(Running::start(alloc, right, at, stage)?)?;
+            operators.push(RunningOperator::start(alloc, right, at, stage)?)?;
             at = &stage.after;
         }
         Ok(Pipeline { operators })

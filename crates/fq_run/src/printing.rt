@@ -53,14 +53,14 @@ impl Part {
 
 /// What batches are printed by.
 #[derive(Drop)]
-pub(crate) struct Press<'r, T> {
+pub(crate) struct PrintSettings<'r, T> {
     pub(crate) rt: &'r T,
     pub(crate) alloc: Global,
     /// The most threads that print at once. If it is one, none is started, and the caller's prints.
     pub(crate) threads: usize,
 }
 
-impl<'r, T: Threads> Press<'r, T> {
+impl<'r, T: Threads> PrintSettings<'r, T> {
     // How many rows are gathered before they are printed.
     fn rows_at_once(&self) -> usize {
         if self.threads > 1 { ROWS_AT_ONCE } else { 0 }
@@ -91,7 +91,7 @@ impl<'r, T: Threads> Press<'r, T> {
 /// The printed frame, as it grows.
 #[derive(Drop)]
 pub(crate) struct Printing<'r, T> {
-    press: Press<'r, T>,
+    press: PrintSettings<'r, T>,
     text: PrintedText,
     /// What follows the text, in order.
     parts: VecDeque<Part>,
@@ -120,7 +120,10 @@ impl<'r, T: Threads> RowSink for Printing<'r, T> {
 
 impl<'r, T: Threads> Printing<'r, T> {
     /// The names of columns, and no rows.
-    pub(crate) fn new(press: Press<'r, T>, schema: &Schema) -> Result<Printing<'r, T>, Memory>
+    pub(crate) fn new(
+        press: PrintSettings<'r, T>,
+        schema: &Schema,
+    ) -> Result<Printing<'r, T>, Memory>
         ensures { IfOk result (λ p. whole_text p ≡ printed_names schema.now) }
     {
         let alloc = press.alloc;

@@ -9,7 +9,7 @@ ghost use Rattle.fq_run.specs.Stages.{Fit};
 ghost use Rattle.fq_run.specs.declared.faults.Fault.TheVariants as fault;
 
 use crate::faults::Fault;
-use crate::gathering::{Gathered, take_in, whole_batches};
+use crate::gathering::{SideSource, take_in, whole_batches};
 use crate::leading_steps::Worked;
 use crate::passed::Passed;
 use crate::pipeline::Pipeline;
@@ -28,14 +28,14 @@ pub(crate) struct RunTail<'a, S> {
     /// How many files are of the sources before the main one.
     pub(crate) side_files: u16,
     /// These sources, as far as their items came.
-    sides: Vec<Gathered>,
+    sides: Vec<SideSource>,
     /// The columns of the main source's rows.
     before: Schema,
     stages: &'a [Stage],
     /// The stages on their way over the main source's rows, from the first of these on.
     pipeline: Option<Pipeline<'a>>,
     sink: S,
-    /// What has ended all.
+    /// Why the run has failed.
     fault: Option<Fault>,
 }
 
@@ -85,14 +85,14 @@ impl<'a, S: RowSink> RunTail<'a, S> {
     ghost use Rattle.fq_run.specs.Gathering.{gathered, taken_in};
     ghost use Rattle.fq_run.specs.Outcome.{outcome_of_stages};
     ghost use Rattle.fq_run.specs.Standing.{Ends, FitOver, Stands, Waits};
-    ghost use Rattle.fq_run.specs.declared.gathering.Gathered.{Gathered as Source};
+    ghost use Rattle.fq_run.specs.declared.gathering.SideSource.{SideSource as Source};
     ghost use Rattle.fq_run.specs.declared.stages.Stage.{Stage as AnyStage};
 
     /// A tail that has taken nothing, over sources of which so many files are of those before the main one.
     pub(crate) fn new(
         alloc: Global,
         side_files: u16,
-        sides: Vec<Gathered>,
+        sides: Vec<SideSource>,
         before: Schema,
         stages: &'a [Stage],
         sink: S,
@@ -170,7 +170,7 @@ impl<'a, S: RowSink> RunTail<'a, S> {
         }
     }
 
-    /// The sink, which has taken the rows that all comes to; or the fault in which it ends.
+    /// The sink, which has taken the rows that all comes to; or its fault.
     pub(crate) fn finish(self) -> Result<S, Fault>
         ensures { (stages : List AnyStage) (after : Fields) (sides : List Source) (main : Source) → FitOver stages after sides main → Stands S.has stages after sides main self.entry →
             Ends S.has (outcome_of_stages stages sides main) result }
@@ -225,7 +225,7 @@ fn unless_refused(outcome: Result<(), Fault>) -> Result<(), Memory>
 // The stages over the main source's rows, of which none has come, where the sources before it are whole; or the first fault of these.
 fn start<'a>(
     alloc: Global,
-    sides: Vec<Gathered>,
+    sides: Vec<SideSource>,
     before: &Schema,
     stages: &'a [Stage],
 ) -> Result<Pipeline<'a>, Fault>

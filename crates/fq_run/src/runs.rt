@@ -12,7 +12,7 @@ use crate::leading_steps::Worked;
 use crate::openings::{empty_sources, file_layouts, open_feeds};
 use crate::physical_plans::PhysicalPlan;
 use crate::printed_text::PrintedText;
-use crate::printing::{Press, Printing};
+use crate::printing::{PrintSettings, Printing};
 use crate::row_sinks::RowSink;
 use crate::run_tail::RunTail;
 use fq_column::Schema;
@@ -86,7 +86,7 @@ impl PhysicalPlan {
             (λ f. IsOfMeaning f → outcome_of_run self.now (file_streams self.now files) ≡ Err f) }
         ensures kind { IfErr result IsRunFault }
     {
-        let press = Press {
+        let press = PrintSettings {
             rt,
             alloc,
             threads: self.printing_threads(workers),

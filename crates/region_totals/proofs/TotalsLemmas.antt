@@ -10,7 +10,7 @@ use Rattle.fq_expr.specs.declared.fronts.RowFault.{RowFault}
 use Rattle.fq_expr.specs.Expression.{Step}
 use Rattle.fq_expr.specs.Front.{NumberedSteps, fault_at}
 use Rattle.fq_expr.specs.Steps.{apply_steps, fields_after}
-use Rattle.fq_ops.specs.Gathered.{Gathered, HasTakenRows}
+use Rattle.fq_ops.specs.Grouped.{Grouped, HasTakenRows}
 use Rattle.region_totals.specs.Report.{group_keys, group_outputs, orders, order_steps}
 use Rattle.region_totals.specs.Totals.{AreTotals, HasTotals, stepped}
 
@@ -24,7 +24,7 @@ stepped-none n fields [] = refl
 stepped-none n fields (s ∷ steps) = stepped-none (n + 1) (fields_after fields s) steps
 
 -- before the first batch
-pub totals-none : (front : NumberedSteps) (grouper : Gathered) → HasTakenRows grouper group_keys group_outputs [] → HasTotals front grouper []
+pub totals-none : (front : NumberedSteps) (grouper : Grouped) → HasTakenRows grouper group_keys group_outputs [] → HasTotals front grouper []
 totals-none front grouper taken =
     let none = stepped-none front.first front.fields front.steps in
     let P : Stream RowFault → Type 0 = λ u. HasTakenRows grouper group_keys group_outputs u.rows in
@@ -34,7 +34,7 @@ totals-none front grouper taken =
     }
 
 -- after one more batch, of whose rows the steps made these
-pub totals-more : (front : NumberedSteps) (old new : Gathered) (rows more made : List Row) →
+pub totals-more : (front : NumberedSteps) (old new : Grouped) (rows more made : List Row) →
     stepped front (rows ++ more) ≡ then_stream (stepped front rows) (stepped front more) →
     made ≡ (stepped front more).rows → (stepped front more).fault ≡ None →
     (HasTakenRows old group_keys group_outputs (stepped front rows).rows → HasTakenRows new group_keys group_outputs ((stepped front rows).rows ++ made)) →

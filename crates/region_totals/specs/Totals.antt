@@ -6,7 +6,7 @@ use Rattle.fq_csv.specs.declared.faults.ScanFault.{ScanFault}
 use Rattle.fq_expr.specs.declared.fronts.RowFault.{RowFault}
 use Rattle.fq_expr.specs.Front.{NumberedSteps, fault_at}
 use Rattle.fq_expr.specs.Steps.{apply_steps, fields_after_all}
-use Rattle.fq_ops.specs.Gathered.{Gathered, HasTakenRows}
+use Rattle.fq_ops.specs.Grouped.{Grouped, HasTakenRows}
 use Rattle.fq_ops.specs.Group.{grouped, grouped_fields}
 use Rattle.region_totals.specs.Report.{group_keys, group_outputs}
 
@@ -15,7 +15,7 @@ abbrev pub stepped : NumberedSteps → List Row → Stream RowFault
 stepped front rows = apply_steps fault_at front.first front.fields front.steps (done rows)
 
 -- no row faults, and the grouper has taken what the steps make of the rows
-pub record HasTotals (front : NumberedSteps) (grouper : Gathered) (rows : List Row) : Type 0 where
+pub record HasTotals (front : NumberedSteps) (grouper : Grouped) (rows : List Row) : Type 0 where
   pub no_fault : (stepped front rows).fault ≡ None
   pub taken : HasTakenRows grouper group_keys group_outputs (stepped front rows).rows
 

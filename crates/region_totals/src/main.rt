@@ -14,7 +14,7 @@ ghost use Rattle.fq_csv.specs.declared.faults.ScanFault.{ScanFault};
 ghost use Rattle.fq_expr.specs.ExpressionData.{expression_of};
 ghost use Rattle.fq_expr.specs.Expression.{column as column_of, binary};
 ghost use Rattle.fq_expr.specs.Steps.{fields_after_all};
-ghost use Rattle.fq_ops.specs.Gathered.{HasTakenRows};
+ghost use Rattle.fq_ops.specs.Grouped.{HasTakenRows};
 ghost use Rattle.fq_ops.specs.AggregateData.{outputs_of};
 ghost use Rattle.region_totals.specs.Report.{group_keys, group_outputs, order_steps, orders};
 ghost use Rattle.region_totals.specs.Totals.{AreTotals, HasTotals};

@@ -8,7 +8,7 @@ ghost use Rattle.fq_ops.specs.AggregateData.{outputs_of};
 ghost use Rattle.fq_ops.specs.Roll.{roll_schema as roll_schema_of};
 ghost use Rattle.fq_language.specs.Judged.{judged_step, judged_steps, refused_at, IsPlaceOf};
 ghost use Rattle.fq_language.specs.Plan.{PlanStep, front_of, group_by, item_at, join, rest_of, rolling_sum, row_wise};
-ghost use Rattle.fq_plan.specs.Stages.{columns_of, operator_steps, stage_steps, Leads, Turns};
+ghost use Rattle.fq_plan.specs.Stages.{columns_of, operator_steps, stage_steps, Leads, LowersTo};
 ghost use Rattle.fq_language.specs.View.{plan_step_of};
 
 use fq_column::{Memory, Schema, StepFault};
@@ -103,7 +103,7 @@ fn check_step(
 ) -> Result<(Operator, Schema), StepFault>
     requires { number + 1 ≤ MAX_STEPS }
     ensures step { IfOk result (λ r. operator_steps r.0 ≡ plan_step_of step ∷ []) }
-    ensures turns { IfOk result (λ r. Turns (columns_of sides.now) number schema r.0 r.1) }
+    ensures turns { IfOk result (λ r. LowersTo (columns_of sides.now) number schema r.0 r.1) }
     ensures refused { IfErr result (λ code. (judged_step (columns_of sides.now) schema (plan_step_of step) ≡ Err code) ⊎ (code ≡ StepFault.Memory)) }
 {
     match step {
@@ -133,7 +133,7 @@ fn check_rows(
 ) -> Result<(Operator, Schema), StepFault>
     requires { number + 1 ≤ MAX_STEPS }
     ensures step { IfOk result (λ r. operator_steps r.0 ≡ row_wise (step_of step) ∷ []) }
-    ensures turns { IfOk result (λ r. (sides : List Fields) → Turns sides number schema r.0 r.1) }
+    ensures turns { IfOk result (λ r. (sides : List Fields) → LowersTo sides number schema r.0 r.1) }
     ensures refused { IfErr result (λ code. (step_schema schema (step_of step) ≡ Err code) ⊎ (code ≡ StepFault.Memory)) }
 {
     let after = step.schema(alloc, &schema)?;
@@ -154,7 +154,7 @@ fn check_join(
     nulls_equal: bool,
 ) -> Result<(Operator, Schema), StepFault>
     ensures step { IfOk result (λ r. operator_steps r.0 ≡ join source (map string_bytes on.items) how nulls_equal ∷ []) }
-    ensures turns { IfOk result (λ r. (number : ℕ) → Turns (columns_of sides.now) number schema.now r.0 r.1) }
+    ensures turns { IfOk result (λ r. (number : ℕ) → LowersTo (columns_of sides.now) number schema.now r.0 r.1) }
     ensures refused { IfErr result (λ code. (judged_step (columns_of sides.now) schema.now (join source (map string_bytes on.items) how nulls_equal) ≡ Err code) ⊎ (code ≡ StepFault.Memory)) }
 {
     let Some((source, right)) = source_at(sides, source) else {
@@ -178,7 +178,7 @@ fn check_grouping(
     aggs: Vec<Agg>,
 ) -> Result<(Operator, Schema), StepFault>
     ensures step { IfOk result (λ r. operator_steps r.0 ≡ group_by (map string_bytes keys.items) (outputs_of aggs.items) ∷ []) }
-    ensures turns { IfOk result (λ r. (sides : List Fields) (number : ℕ) → Turns sides number schema.now r.0 r.1) }
+    ensures turns { IfOk result (λ r. (sides : List Fields) (number : ℕ) → LowersTo sides number schema.now r.0 r.1) }
     ensures refused { IfErr result (λ code. (group_schema_of schema.now (map string_bytes keys.items) (outputs_of aggs.items) ≡ Err code) ⊎ (code ≡ StepFault.Memory)) }
 {
     let after = group_schema(alloc, schema, keys.as_slice(), aggs.as_slice())?;
@@ -195,7 +195,7 @@ fn check_rolling(
     name: String,
 ) -> Result<(Operator, Schema), StepFault>
     ensures step { IfOk result (λ r. operator_steps r.0 ≡ rolling_sum (string_bytes column) window min_samples (string_bytes name) ∷ []) }
-    ensures turns { IfOk result (λ r. (sides : List Fields) (number : ℕ) → Turns sides number schema.now r.0 r.1) }
+    ensures turns { IfOk result (λ r. (sides : List Fields) (number : ℕ) → LowersTo sides number schema.now r.0 r.1) }
     ensures refused { IfErr result (λ code. (roll_schema_of schema.now (string_bytes column) window min_samples (string_bytes name) ≡ Err code) ⊎ (code ≡ StepFault.Memory)) }
 {
     let after = roll_schema(

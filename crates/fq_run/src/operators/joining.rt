@@ -5,7 +5,7 @@ ghost use Rattle.fq_run.specs.Transforms.{Transform, join_transform};
 ghost use Rattle.fq_ops.specs.Join.{join_schema};
 ghost use Rattle.fq_run.specs.RunningOperators.{HasJoined, HasTaken, IsGiving, Makes};
 ghost use Rattle.fq_run.specs.declared.faults.Fault.TheVariants as fault;
-ghost use Rattle.fq_run.specs.declared.operators.Running.TheVariants as running;
+ghost use Rattle.fq_run.specs.declared.operators.RunningOperator.TheVariants as running;
 
 use crate::faults::Fault;
 use crate::operators::Made;

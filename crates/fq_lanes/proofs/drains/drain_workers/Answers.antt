@@ -28,7 +28,7 @@ loop-worker-preserved g c =
       size = length-set ds c.loop-worker.worker c.drain.new.self ∙ c.loop-worker.invariant.size;
       names = map-set_same worker_name ds c.loop-worker.worker c.drain.new.self d (c.drain.ensures.name ∙ ap worker_name c.index_mut.ensures.value) ∙ c.loop-worker.invariant.names;
       grows = workers_then _ _ _ c.loop-worker.invariant.grows (worker_grows ds c.loop-worker.worker d c.drain.new.self at c.drain.ensures.grows);
-      blames = λ tolds b. elim c.if-drain.branch [ then-drain w ↦ subst (λ e. BlamesTold tolds e) (sym w.first-is) tt | else-drain w ↦ subst (λ e. BlamesTold tolds e) (sym w.first-is) (c.loop-worker.invariant.blames tolds b) ];
+      blames = λ messages b. elim c.if-drain.branch [ then-drain w ↦ subst (λ e. BlamesTold messages e) (sym w.first-is) tt | else-drain w ↦ subst (λ e. BlamesTold messages e) (sym w.first-is) (c.loop-worker.invariant.blames messages b) ];
       rest = λ j h. get_set_other ds c.loop-worker.worker j c.drain.new.self (λ e. omega (arith, h, e)) ∙ c.loop-worker.invariant.rest j (omega (arith, h));
       idle = λ j e h there. set_cases ds c.loop-worker.worker j c.drain.new.self e (e.outstanding.items ≡ []) there
           (λ same is. sym (ap (λ x. x.outstanding.items) is) ∙ c.drain.ensures.idle)

@@ -14,7 +14,7 @@ invariant-loop-worker g l = record {
   size : length l.workers.items ≡ length l.initial.workers.items;
   names : worker_names l.workers.items ≡ worker_names l.initial.workers.items;
   grows : Grows WorkerGrows (worker_views l.initial.workers.items) (worker_views l.workers.items);
-  blames : (tolds : List (List (FromFeed g.row.X.Denot))) → BlamesTold tolds l.initial.first → BlamesTold tolds l.first;
+  blames : (messages : List (List (FromFeed g.row.X.Denot))) → BlamesTold messages l.initial.first → BlamesTold messages l.first;
   rest : (j : ℕ) → l.worker ≤ j → slice_get l.workers.items j ≡ slice_get l.initial.workers.items j;
   idle : (j : ℕ) (d : WorkerLanes g.row.X.Denot g.row.O.Denot) → j < l.worker → slice_get l.workers.items j ≡ Some d → d.outstanding.items ≡ [];
   fault : l.first ≡ (if any_refused (worker_views l.initial.workers.items) (worker_views l.workers.items) then run_fault.Memory else l.initial.first);

@@ -3,7 +3,7 @@ use Rattle.fq_lanes.specs.FeedLane.{AreNewFeeds, feed_name, feed_names, tolds_of
 use Rattle.std.proofs.lemmas.List.Elements.{All-tail}
 use Rattle.std.specs.Vec.Iter.{into_iter_items}
 use Rattle.fq_lanes.specs.Lane.{put_items}
-use Rattle.fq_lanes.specs.FeedThread.{Scanned, Began}
+use Rattle.fq_lanes.specs.FeedThread.{ToldAll, Began}
 use Rattle.fq_lanes.specs.Beside.{Each}
 use Rattle.std.proofs.lemmas.List.{append-nil, map-append, nil_from_length}
 use Rattle.fq_lanes.proofs.ThreadLemmas.{list_moves, new_feeds_push}
@@ -44,7 +44,7 @@ returns-clause-done g t c =
     let last = c.close_feed.ensures.last in
     let sent = put_items c.join.result in
     let taken = told_of last.0 in
-    let began : Began g.F.Feed.gives g.F.Feed.may_fail c.in-Some.feed taken = (sent, subst (λ f. Scanned g.F.Feed.gives g.F.Feed.may_fail f sent) c.in-Ok.ensures.started.3 c.join.ensures.1, last.2) in
+    let began : Began g.F.Feed.gives g.F.Feed.may_fail c.in-Some.feed taken = (sent, subst (λ f. ToldAll g.F.Feed.gives g.F.Feed.may_fail f sent) c.in-Ok.ensures.started.3 c.join.ensures.1, last.2) in
     on_ok_weaker c.start_feeds-outcome.result
     (λ i. (
       taken ∷ i.0,

@@ -1,6 +1,6 @@
 use Rattle.std.proofs.Common.{◌≡◌, ◌<◌, length, map, take}
 use Rattle.std.specs.Prelude.{All}
-use Rattle.fq_ops.specs.Gathered.{fresh}
+use Rattle.fq_ops.specs.Grouped.{fresh}
 use Rattle.fq_ops.specs.AggregateData.{outputs_of}
 use Rattle.fq_ops.proofs.groups.accumulators_of.Given as goal
 

@@ -9,7 +9,7 @@ use Rattle.fq_expr.specs.ExpressionData.{step_of}
 use Rattle.fq_expr.specs.declared.steps.RowStep.{RowStep}
 use Rattle.fq_expr.specs.Steps.{fields_after_all}
 use Rattle.fq_language.specs.Judged.{IsPlaceOf, checked, judged_steps, source_refusal}
-use Rattle.fq_language.specs.Plan.{PlanStep, Query, IsWithinLimits, row_wise}
+use Rattle.fq_language.specs.Plan.{PlanStep, PlanData, IsWithinLimits, row_wise}
 use Rattle.fq_csv.specs.Sources.{Source}
 use Rattle.fq_plan.specs.Stages.{columns_of, query_of, stage_steps, IsChecked, Leads}
 use Rattle.fq_run.specs.Physical.{Physical, side_files}
@@ -29,8 +29,8 @@ use Rattle.fq_plan.proofs.checks.check_plan.Goals as goal
 use Rattle.fq_plan.proofs.checks.check_plan.Goals.{In_ok-sides, In_ok-leading, In_ok-schema, In_ok-stages}
 
 -- the plan by its parts
-plan-is : (p : Query) (sources : List PlannedSource) (steps : List PlannedStep) → map source_data sources ≡ p.sources → map plan_step_of steps ≡ p.steps →
-    (let q : Query = record { sources = map source_data sources; steps = map plan_step_of steps } in q) ≡ p
+plan-is : (p : PlanData) (sources : List PlannedSource) (steps : List PlannedStep) → map source_data sources ≡ p.sources → map plan_step_of steps ≡ p.steps →
+    (let q : PlanData = record { sources = map source_data sources; steps = map plan_step_of steps } in q) ≡ p
 plan-is p sources steps e f = λ i. record { sources = e i; steps = f i }
 
 pub check_leading-requires : goal.check_leading-requires
@@ -67,7 +67,7 @@ returns-in_err-schema-clause-refused c =
     let sources = c.in_ok-sides.sides.items in
     let steps = map plan_step_of c.into_parts-sources.result.1.items in
     let parts = c.pop.ensures.items ∙ ap (λ (o : Option SourceFiles). c.pop.new.self.items ++ option_to_list o) c.in-Some.is in
-    let of_sources : List Source → Query = λ ss. record { sources = ss; steps = steps } in
+    let of_sources : List Source → PlanData = λ ss. record { sources = ss; steps = steps } in
     let passed = ap (source_refusal 0) c.in_ok-sides.ensures.sources ∙ c.in_ok-sides.ensures.passed in
     rw (exit.1, exit.2) (elim c.in_err-schema.ensures.refused [
       | inl e ↦ inl (
@@ -85,7 +85,7 @@ returns-in_err-stages-clause-refused c =
     let leading = map step_of c.in_ok-leading.leading.items in
     let rest = map plan_step_of c.in_ok-leading.rest.items in
     let parts = c.pop.ensures.items ∙ ap (λ (o : Option SourceFiles). c.pop.new.self.items ++ option_to_list o) c.in-Some.is in
-    let of_sources : List Source → Query = λ ss. record { sources = ss; steps = steps } in
+    let of_sources : List Source → PlanData = λ ss. record { sources = ss; steps = steps } in
     let passed = ap (source_refusal 0) c.in_ok-sides.ensures.sources ∙ c.in_ok-sides.ensures.passed in
     let to_mid = ap (λ (ss : List RowStep). steps_schema c.in-Some.main.layout.schema (map step_of ss)) (sym c.as_slice.ensures.value) ∙ c.in_ok-schema.ensures.ok in
     let count : length leading ≡ c.len.result = omega (arith, length-map c.in_ok-leading.leading.items step_of, c.in_ok-leading.leading.ok.0, c.len.ensures) in
@@ -124,9 +124,9 @@ leads-of c =
 to-mid : (c : In_ok-stages) → steps_schema c.in-Some.main.layout.schema (map step_of c.in_ok-leading.leading.items) ≡ Ok c.in_ok-schema.schema
 to-mid c = ap (λ (ss : List RowStep). steps_schema c.in-Some.main.layout.schema (map step_of ss)) (sym c.as_slice.ensures.value) ∙ c.in_ok-schema.ensures.ok
 
-within : (c : In_ok-stages) → (let q : Query = record { sources = map source_of_files c.in_ok-sides.sides.items; steps = map plan_step_of c.into_parts-sources.result.1.items } in IsWithinLimits q)
+within : (c : In_ok-stages) → (let q : PlanData = record { sources = map source_of_files c.in_ok-sides.sides.items; steps = map plan_step_of c.into_parts-sources.result.1.items } in IsWithinLimits q)
 within c =
-    let of_sources : List Source → Query = λ ss. record { sources = ss; steps = map plan_step_of c.into_parts-sources.result.1.items } in
+    let of_sources : List Source → PlanData = λ ss. record { sources = ss; steps = map plan_step_of c.into_parts-sources.result.1.items } in
     subst IsWithinLimits (sym (plan-is c.args.plan c.into_parts-sources.result.0.items c.into_parts-sources.result.1.items c.into_parts-sources.ensures.sources c.into_parts-sources.ensures.steps) ∙ ap of_sources (sym c.in_ok-sides.ensures.sources)) c.into_parts-sources.ensures.within_limits
 
 is-prepared : (c : In_ok-stages) → IsChecked (physical_of c.in_ok-sides.sides.items (front_of c) c.in_ok-stages.stages.items)
@@ -179,10 +179,10 @@ invariant_of-result c =
     subst IsChecked (physical-is d c.in_ok-front.front c.new-physical.result (front-is d c.in_ok-front.front c.in_ok-front.ensures.front) c.new-physical.ensures) (is-prepared d)
 
 -- the steps are those of the parts
-steps-checked : (d : In_ok-stages) → (let q : Query = record { sources = map source_of_files d.in_ok-sides.sides.items; steps = map plan_step_of d.into_parts-sources.result.1.items } in q) ≡ query_of (physical_of d.in_ok-sides.sides.items (front_of d) d.in_ok-stages.stages.items)
+steps-checked : (d : In_ok-stages) → (let q : PlanData = record { sources = map source_of_files d.in_ok-sides.sides.items; steps = map plan_step_of d.into_parts-sources.result.1.items } in q) ≡ query_of (physical_of d.in_ok-sides.sides.items (front_of d) d.in_ok-stages.stages.items)
 unfolding front_of
 steps-checked d =
-    let of_steps : List PlanStep → Query = λ ss. record { sources = map source_of_files d.in_ok-sides.sides.items; steps = ss } in
+    let of_steps : List PlanStep → PlanData = λ ss. record { sources = map source_of_files d.in_ok-sides.sides.items; steps = ss } in
     ap of_steps (sym (steps-are (map plan_step_of d.into_parts-sources.result.1.items) (map step_of d.in_ok-leading.leading.items) d.in_ok-leading.ensures.leading (stage_steps d.in_ok-stages.stages.items) (d.in_ok-stages.ensures.steps ∙ d.in_ok-leading.ensures.rest)))
 
 pub returns-clause-ok : goal.returns-clause-ok
@@ -191,7 +191,7 @@ returns-clause-ok c =
     let sources = c.in_ok-sides.sides.items in
     let stages = c.in_ok-stages.stages.items in
     let steps = map plan_step_of c.into_parts-sources.result.1.items in
-    let of_sources : List Source → Query = λ ss. record { sources = ss; steps = steps } in
+    let of_sources : List Source → PlanData = λ ss. record { sources = ss; steps = steps } in
     ap checked (sym (plan-is c.args.plan c.into_parts-sources.result.0.items c.into_parts-sources.result.1.items c.into_parts-sources.ensures.sources c.into_parts-sources.ensures.steps) ∙ ap of_sources (sym c.in_ok-sides.ensures.sources))
     ∙ ap checked (steps-checked d)
     ∙ checked-is (physical_of sources (front_of d) stages) (is-prepared d)

@@ -3,7 +3,7 @@ use Rattle.fq_column.specs.Batch.{frame_of, kind_of_cells}
 use Rattle.fq_column.specs.Frame.{Frame, kinds_of}
 use Rattle.fq_column.specs.Lists.{numbers}
 use Rattle.fq_ops.specs.Accumulated.{first_found, group_picks, out_of_range_in}
-use Rattle.fq_ops.specs.Gathered.{Gathered, HasTakenRows}
+use Rattle.fq_ops.specs.Grouped.{Grouped, HasTakenRows}
 use Rattle.fq_ops.specs.Group.{grouped}
 use Rattle.fq_ops.specs.Picks.{columns_of}
 use Rattle.fq_ops.proofs.GroupedLemmas.{picks-count, picks-kinds, taken-fits, taken-not}
@@ -12,11 +12,11 @@ use Rattle.fq_ops.proofs.groups.Grouper.groups.Goals as goal
 
 pub returns-in-Some-clause-fault : goal.returns-in-Some-clause-fault
 returns-in-Some-clause-fault c = λ names outputs rows h.
-    let own = subst (λ (g : Gathered). HasTakenRows g names outputs rows) (sym c.self.view_is) h in
+    let own = subst (λ (g : Grouped). HasTakenRows g names outputs rows) (sym c.self.view_is) h in
     let inside = c.self.inside in
     let found : first_found (out_of_range_in inside.accumulators.items) (numbers (length inside.seen.keys)) ≡ Some c.in-Some.item =
     (λ i. first_found (out_of_range_in (sym c.as_slice.ensures.value i)) (numbers (sym c.len.ensures i))) ∙ sym c.in-Some.ensures.found in
-    ap (λ (g : Gathered). grouped g.fields names outputs rows) (sym c.self.view_is) ∙ taken-not _ names outputs rows own c.in-Some.item found
+    ap (λ (g : Grouped). grouped g.fields names outputs rows) (sym c.self.view_is) ∙ taken-not _ names outputs rows own c.in-Some.item found
 
 pub new-requires-clause-kinds : goal.new-requires-clause-kinds
 new-requires-clause-kinds c =
@@ -40,7 +40,7 @@ new-requires-clause-lengths c =
 
 pub returns-clause-rows : goal.returns-clause-rows
 returns-clause-rows c = λ names outputs rows h.
-    let own = subst (λ (g : Gathered). HasTakenRows g names outputs rows) (sym c.self.view_is) h in
+    let own = subst (λ (g : Grouped). HasTakenRows g names outputs rows) (sym c.self.view_is) h in
     let inside = c.self.inside in
     let output = inside.output in
     let accumulators = inside.accumulators.items in
@@ -52,7 +52,7 @@ returns-clause-rows c = λ names outputs rows h.
     (λ i. first_found (out_of_range_in (sym c.as_slice.ensures.value i)) (numbers (sym c.len.ensures i))) ∙ sym c.in_default.ensures.found in
     let columns : c.in_ok-columns.columns.items ≡ columns_of picks (numbers (length seen)) =
     c.in_ok-columns.ensures ∙ (λ i. columns_of (group_picks (length output - length (c.as_slice-2.ensures.value i)) seen (c.as_slice-2.ensures.value i) (kinds_of output) (length output)) (numbers (length seen))) in
-    ap (λ (g : Gathered). grouped g.fields names outputs rows) (sym c.self.view_is)
+    ap (λ (g : Grouped). grouped g.fields names outputs rows) (sym c.self.view_is)
     ∙ taken-fits _ names outputs rows own none
     ∙ ap Ok (sym (ap (λ (f : Frame). f.rows) c.new.ensures
     ∙ (λ i. (frame_of (c.in_ok-output.ensures i) (columns i)).rows)

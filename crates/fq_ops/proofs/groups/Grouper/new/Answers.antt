@@ -5,7 +5,7 @@ use Rattle.fq_column.specs.declared.faults.StepFault.{StepFault}
 use Rattle.fq_column.specs.Frame.{Fields}
 use Rattle.fq_column.specs.Refusal.{IsJudgement}
 use Rattle.fq_ops.specs.Accumulated.{Accumulated, IsAccumulator}
-use Rattle.fq_ops.specs.Gathered.{fresh}
+use Rattle.fq_ops.specs.Grouped.{fresh}
 use Rattle.fq_ops.specs.Group.{group_schema, grouped_fields}
 use Rattle.fq_ops.specs.AggregateData.{outputs_of}
 use Rattle.fq_ops.proofs.AcceptedLemmas.{aggregate-kinds, group-known, group-output, group-some, length-grouped, some-column}

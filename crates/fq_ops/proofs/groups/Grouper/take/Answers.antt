@@ -6,7 +6,7 @@ use Rattle.std.proofs.lemmas.List.Elements.{All-append}
 use Rattle.indexmap.specs.IndexSet.{insert_all}
 use Rattle.fq_column.specs.Frame.{Fields, row_fits}
 use Rattle.fq_ops.specs.Accumulated.{IsAccumulator, accumulated, numbers_along}
-use Rattle.fq_ops.specs.Gathered.{Gathered, HasTakenRows}
+use Rattle.fq_ops.specs.Grouped.{Grouped, HasTakenRows}
 use Rattle.fq_ops.specs.Group.{key_of, keys_of_rows, same_key}
 use Rattle.fq_ops.specs.Grouping.{key_at}
 use Rattle.fq_ops.proofs.GatherLemmas.{all-gathered, keys-more_rows}
@@ -29,14 +29,14 @@ pub invariant_of-self-2 : goal.invariant_of-self-2
 invariant_of-self-2 c =
     let ready = c.self.invariant in
     let taken = c.self.inside.rows_taken in
-    let fields = c.requires.fields ∙ ap (λ (g : Gathered). g.fields) (sym c.self.view_is) in
+    let fields = c.requires.fields ∙ ap (λ (g : Grouped). g.fields) (sym c.self.view_is) in
     let count : taken + length c.as_slice-2.result.now ≡ taken + c.len.result = omega (arith, ap length c.as_slice-2.ensures.value, c.len.ensures) in
     let all = c.in_ok-accumulate.ensures.ready taken (λ k d low. (ready.accumulators c.if-self.false k d low).bounded) in
     record {
       some = ready.some;
       places = ready.places;
       whole = λ e. ready.whole (sym c.number_rows.ensures.whole ∙ e);
-      few = omega (arith, c.requires.room, ap (λ (g : Gathered). g.taken) c.self.view_is, c.len.ensures, c.in_ok-numbers.ensures.beside);
+      few = omega (arith, c.requires.room, ap (λ (g : Grouped). g.taken) c.self.view_is, c.len.ensures, c.in_ok-numbers.ensures.beside);
       width = omega (arith, ready.width, c.in_ok-accumulate.ensures.size);
       accumulators = λ e. subst (λ n. All (IsAccumulator (length c.self.inside.schema) (length c.number_rows.new.seen.keys) n) c.accumulate.new.accumulators.items) count
           (subst (λ n. All (IsAccumulator (length c.self.inside.schema) n (taken + length c.as_slice-2.result.now)) c.accumulate.new.accumulators.items) c.len-groups.ensures
@@ -45,7 +45,7 @@ invariant_of-self-2 c =
 
 pub returns-clause-taken : goal.returns-clause-taken
 returns-clause-taken c = λ names outputs rows h.
-    let old = subst (λ (g : Gathered). HasTakenRows g names outputs rows) (sym c.self.view_is) h in
+    let old = subst (λ (g : Grouped). HasTakenRows g names outputs rows) (sym c.self.view_is) h in
     let inside = c.self.inside in
     let fields = inside.schema in
     let more = c.args.batch.now.rows in
@@ -62,7 +62,7 @@ returns-clause-taken c = λ names outputs rows h.
       output = old.output;
       taken = omega (arith, old.taken, c.len.ensures, c.in_ok-numbers.ensures.beside, length-append rows more);
       fit = All-append (λ row. row_fits fields row ≡ true) rows more old.fit
-          (subst (λ (fs : Fields). AllPass (row_fits fs) more) (c.requires.fields ∙ ap (λ (g : Gathered). g.fields) (sym c.self.view_is)) c.in_ok-numbers.ensures.frame.1);
+          (subst (λ (fs : Fields). AllPass (row_fits fs) more) (c.requires.fields ∙ ap (λ (g : Grouped). g.fields) (sym c.self.view_is)) c.in_ok-numbers.ensures.frame.1);
       places = old.places;
       seen = seen;
       accumulators = c.in_ok-accumulate.ensures.taken ∙ ap (map (accumulated c.len-groups.result c.as_slice-2.result.now more)) old.accumulators

@@ -18,7 +18,7 @@ use Rattle.fq_run.specs.Run.{IsEngineFault, engine_fault}
 use Rattle.fq_run.specs.Stages.{physical_of, Fit}
 use Rattle.fq_run.specs.Standing.{TailTakes, Waits}
 use Rattle.fq_run.specs.Working.{work_on}
-use Rattle.fq_run.specs.declared.gathering.Gathered.{Gathered}
+use Rattle.fq_run.specs.declared.gathering.SideSource.{SideSource}
 use Rattle.fq_csv.specs.declared.sources.SourceFiles.{SourceFiles}
 use Rattle.fq_run.specs.declared.stages.Stage.{Stage}
 use Rattle.fq_run.proofs.GatheredLemmas.{has-gathered}
@@ -70,7 +70,7 @@ new-tail-requires g c =
     let runnable = c.self.invariant.0 in
     let sources = c.in_ok-sources.ensures ∙ ap (map (λ (s : SourceFiles). no_rows s.files s.layout.schema)) c.as_slice-sides.ensures.value in (
       runnable.fits.0,
-      subst (λ (t : List Gathered × Fields × List Stage). Fit (map (λ (g : Gathered). g.batch.fields) t.0) t.1 t.2 runnable.fits.0)
+      subst (λ (t : List SideSource × Fields × List Stage). Fit (map (λ (g : SideSource). g.batch.fields) t.0) t.1 t.2 runnable.fits.0)
           (λ i. (sym sources i, sym (c.in_ok-before.ensures ∙ c.self.invariant.2) i, sym c.as_slice-stages.ensures.value i))
           (fit-over (s.sides.items ++ s.main ∷ []) s.leading.front s.stages.items s.inputs runnable s.sides.items s.main refl),
     )
@@ -90,7 +90,7 @@ returns-in-Ok-clause-gathered g c fresh =
     (omega (arith, c.requires.batch_size.0)) count
     (c.in_ok-feeds.ensures ∙ ap (λ fss. opened (g.R.Read.remaining) c.args.batch_size 0 fss c.args.inputs.items) (c.in_ok-layouts.ensures ∙ ap (λ (js : List SourceFiles). flat_map (λ (s : SourceFiles). replicate s.files s.layout) (js ++ c.self.inside.main ∷ [])) c.as_slice-sides.ensures.value))
     (c.new-tail.ensures.files ∙ c.self.invariant.1)
-    (subst (λ (t : List Gathered × List Stage). Waits {S = g.row.S.Denot} g.S.RowSink.has t.1 runnable.fits.0 t.0 (no_rows s.main.files (fields_after_all s.leading.front.fields s.leading.front.steps)) c.new-tail.result)
+    (subst (λ (t : List SideSource × List Stage). Waits {S = g.row.S.Denot} g.S.RowSink.has t.1 runnable.fits.0 t.0 (no_rows s.main.files (fields_after_all s.leading.front.fields s.leading.front.steps)) c.new-tail.result)
     (λ i. (sources i, c.as_slice-stages.ensures.value i))
     (c.new-tail.ensures.waits runnable.fits.0 (no_rows s.main.files (fields_after_all s.leading.front.fields s.leading.front.steps)) (subst (λ (f : Fields). g.S.RowSink.has c.args.sink f []) columns fresh)
     (c.in_ok-before.ensures ∙ c.self.invariant.2) refl))

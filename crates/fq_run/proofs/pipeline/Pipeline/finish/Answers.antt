@@ -1,7 +1,7 @@
 use Rattle.std.proofs.Common.{◌∙◌, List, arith, inl, inr, refl, subst}
 use Rattle.std.proofs.lemmas.List.{drop_all, length-set}
 use Rattle.std.proofs.lemmas.Result.{err_from_is_err_and}
-use Rattle.fq_run.specs.declared.operators.Running.{Running}
+use Rattle.fq_run.specs.declared.operators.RunningOperator.{RunningOperator}
 use Rattle.fq_run.proofs.PipelineLemmas.{IsEnding, ending-begins, ending-can, ending-ends, ending-faults, ending-on, ending-part}
 use Rattle.fq_run.proofs.pipeline.Pipeline.finish.Goals as goal
 
@@ -44,6 +44,6 @@ loop-place-preserved g c = (
 pub returns-clause-all : goal.returns-clause-all
 returns-clause-all g c w rows out run h =
     ending-ends {S = g.row.S.Denot} g.S.RowSink.has w rows out c.args.sink.now c.loop-place.sink
-    (subst (λ (rs : List Running). IsEnding {S = g.row.S.Denot} g.S.RowSink.has w rows out c.args.sink.now c.loop-place.sink rs)
+    (subst (λ (rs : List RunningOperator). IsEnding {S = g.row.S.Denot} g.S.RowSink.has w rows out c.args.sink.now c.loop-place.sink rs)
     (drop_all c.loop-place.place c.loop-place.self.operators.items (omega (arith, c.loop-place.invariant.0, c.loop-place-test.false, c.len-place-end.ensures, c.args.self.now.operators.ok.0)))
     (c.loop-place.invariant.1 w rows out run)) h

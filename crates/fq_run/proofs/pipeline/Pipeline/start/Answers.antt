@@ -1,7 +1,7 @@
 use Rattle.std.proofs.Common.{◌≡◌, ◌∷◌, ◌+◌, ◌-◌, List, arith, ap, drop, length, length-drop, refl, sym, take, ◌∙◌, subst}
 use Rattle.std.proofs.lemmas.List.{drop_all, take_all}
 use Rattle.fq_run.specs.Starting.{rights_of}
-use Rattle.fq_run.specs.declared.operators.Running.{Running}
+use Rattle.fq_run.specs.declared.operators.RunningOperator.{RunningOperator}
 use Rattle.fq_run.specs.declared.stages.Stage.{Stage}
 use Rattle.fq_run.proofs.RightLemmas.{rights-next}
 use Rattle.fq_run.proofs.StageTransforms.{StartedSoFar, stage-next, started-all, started-start, started-step}
@@ -11,7 +11,7 @@ pub loop-number-init : goal.loop-number-init
 loop-number-init c =
     let sides = c.args.sides.items in let before = c.args.schema.now in let stages = c.args.stages.now in record {
       rights = refl;
-      started = λ after fits. subst (λ (ops : List Running). StartedSoFar sides before stages after ops before stages) (sym c.in_ok-operators.ensures.items) (started-start sides before stages after fits);
+      started = λ after fits. subst (λ (ops : List RunningOperator). StartedSoFar sides before stages after ops before stages) (sym c.in_ok-operators.ensures.items) (started-start sides before stages after fits);
     }
 
 pub start-requires : goal.start-requires
@@ -33,7 +33,7 @@ loop-number-preserved c =
     let rights = rights-next l.sides.items sides stages i s next l.invariant.rights in
     let later : take (length stages - (i + 1)) (drop (i + 1) stages) ≡ drop (i + 1) stages = take_all (length stages - (i + 1)) (drop (i + 1) stages) (omega (arith, length-drop (i + 1) stages)) in record {
       rights = ap (rights_of c.take_right.new.sides.items) (sym later) ∙ c.in_ok-right.ensures.left ∙ ap (rights_of l.sides.items) later ∙ rights.1;
-      started = λ after fits. subst (λ (ops : List Running). StartedSoFar sides before stages after ops s.after (drop (i + 1) stages)) (sym c.in_ok-push.ensures.items)
+      started = λ after fits. subst (λ (ops : List RunningOperator). StartedSoFar sides before stages after ops s.after (drop (i + 1) stages)) (sym c.in_ok-push.ensures.items)
           (started-step sides before stages after l.operators.items l.at.now s (drop (i + 1) stages) c.in_ok-start.field-0
           (subst (λ (ss : List Stage). StartedSoFar sides before stages after l.operators.items l.at.now ss) next (l.invariant.started after fits))
           (λ accepts. c.in_ok-start.ensures sides s.after accepts (c.in_ok-right.ensures.right ∙ rights.0)));

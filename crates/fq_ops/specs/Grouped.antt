@@ -13,11 +13,11 @@ use Rattle.fq_ops.specs.Aggregate.{Aggregate, Output, len, over}
 use Rattle.fq_ops.specs.Fields.{AreAt}
 use Rattle.fq_ops.specs.Group.{group_of, group_schema, grouped_fields, keys_of_rows}
 use Rattle.fq_ops.specs.KeySets.{IsWholeAt}
-use Rattle.fq_ops.specs.Running.{Running, start_of, stepped}
+use Rattle.fq_ops.specs.Running.{AggregateState, start_of, stepped}
 
 -- what contracts see of a grouper: the columns that it takes and those that it gives, how many rows it has taken, whether
 -- it has failed, and beside these what it keeps
-pub record Gathered : Type 0 where
+pub record Grouped : Type 0 where
   pub fields : Fields
   pub output : Fields
   pub taken : ℕ
@@ -46,7 +46,7 @@ abbrev pub fresh : Fields → Output → Accumulated
 fresh fields o = record { function = function_of o.1; column = place_of fields o.1; states = [] }
 
 -- the running value of an aggregate over rows
-abbrev pub running_of : Fields → Aggregate → List Row → Running
+abbrev pub running_of : Fields → Aggregate → List Row → AggregateState
 running_of fields a rows = fold stepped (start_of (function_of a)) (column_at (place_of fields a) rows)
 
 -- an aggregate of rows in groups: its running value over the rows of each key
@@ -58,7 +58,7 @@ gathered fields keys rows o = record {
 }
 
 -- the grouper, which was made for these keys and aggregates, has taken these rows
-pub record HasTakenRows (g : Gathered) (keys : List Name) (outputs : List Output) (rows : List Row) : Type 0 where
+pub record HasTakenRows (g : Grouped) (keys : List Name) (outputs : List Output) (rows : List Row) : Type 0 where
   pub accepted : IsOk (group_schema g.fields keys outputs)
   pub output : g.output ≡ grouped_fields g.fields keys outputs
   pub taken : g.taken ≡ length rows
@@ -68,7 +68,7 @@ pub record HasTakenRows (g : Gathered) (keys : List Name) (outputs : List Output
   pub accumulators : g.accumulators ≡ map (gathered g.fields keys rows) outputs
 
 -- a grouper can take a batch, unless it has failed
-pub record IsReady (g : Gathered) : Type 0 where
+pub record IsReady (g : Grouped) : Type 0 where
   pub some : 1 ≤ length g.places
   pub places : All (λ p. p < length g.fields) g.places
   pub whole : g.is_whole ≡ true → IsWholeAt g.fields g.places

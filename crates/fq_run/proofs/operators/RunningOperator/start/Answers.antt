@@ -12,7 +12,7 @@ use Rattle.fq_run.specs.declared.operators.joining.Join.{Join as JoinForm}
 use Rattle.fq_run.proofs.TransformLemmas.{steps-causal}
 use Rattle.fq_run.proofs.StageLemmas.{apply_steps-none}
 use Rattle.fq_run.proofs.StageTransforms.{group-started, join-can, join-started, roll-started}
-use Rattle.fq_run.proofs.operators.Running.start.Goals as goal
+use Rattle.fq_run.proofs.operators.RunningOperator.start.Goals as goal
 
 -- the right rows of a join are those of its source
 its-source : (sides : List Frame) (j : JoinForm) (operator : Operator) (given : Option Frame) (right : Frame) → operator ≡ Join j → given ≡ right_of sides operator → given ≡ Some right → right ≡ get_or sides j.source right
