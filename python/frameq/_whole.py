@@ -46,6 +46,6 @@ def _file_beside(place: str) -> Tuple[BinaryIO, str]:
     """A new file in the folder of a place, and its path."""
     numbers = itertools.count()
     while True:
-        new = os.path.join(os.path.dirname(place), f".frameq-{next(numbers)}")
+        new = os.path.join(os.path.dirname(place), f".frameq-python-{next(numbers)}")
         with contextlib.suppress(FileExistsError):
             return open(new, "xb"), new

@@ -1,8 +1,10 @@
 """The built program when the operating system refuses something."""
+import contextlib
 import os
 import pty
 import select
 import shutil
+import signal
 import subprocess
 import tempfile
 import threading
@@ -140,6 +142,10 @@ def folders(count, program, room):
     os.close(folder)
     check(count, "unreadable input", "closed", program.run([], under=closing(0)),
           lambda it: it == fault(5, "read failed: file 0"))
+    # (a file that is opened takes the lowest number that is free, which a closed input leaves)
+    for turn in range(20):
+        check(count, "unreadable input", f"closed beside a file, run {turn}", program.run(["--plan", text, data, "-"], under=closing(0)),
+              lambda it: it == fault(5, "read failed: file 1"))
 
 
 def outputs(count, program, room):
@@ -178,16 +184,59 @@ def outputs(count, program, room):
     into("a folder that is not there", f"{room}/none/new.csv", data, failed, None)
     into("a folder", room, data, failed, None)
     into("a full device", "/dev/full", data, failed, None)
-    os.mkfifo(f"{room}/pipe")
-    pipe = os.open(f"{room}/pipe", os.O_RDWR)  # (does not wait for a reader)
-    ran = subprocess.Popen([program.path, "--plan", steps, "-o", f"{room}/other.csv", f"{room}/pipe"], stderr=subprocess.DEVNULL)
-    os.write(pipe, b"v\n1\n")
-    time.sleep(0.2)
-    ran.kill()
-    ran.wait()
-    os.close(pipe)
-    with open(f"{room}/other.csv", encoding="utf-8") as opened:
-        check(count, "output file", "killed midway", Answer(ran.returncode, opened.read(), ""), lambda it: it == Answer(-9, other, ""))
+    interrupted_outputs(count, program, room, steps, into)
+
+
+@contextlib.contextmanager
+def waiting_run(program, room, steps, path):
+    """A run into a file that waits for the rows of a pipe, and the end of that pipe."""
+    pipe = f"{room}/pipe"
+    os.mkfifo(pipe)
+    rows = os.open(pipe, os.O_RDWR)  # (does not wait for a reader)
+    ran = subprocess.Popen([program.path, "--plan", steps, "-o", path, pipe], stderr=subprocess.DEVNULL)
+    os.write(rows, b"v\n1\n")
+    new = f"{room}/.frameq-0"
+    for _ in range(LONGEST_RUN * 100):
+        if os.path.exists(new):
+            break
+        time.sleep(0.01)
+    time.sleep(0.05)
+    try:
+        yield ran, rows, new
+    finally:
+        ran.kill()
+        ran.wait()
+        with contextlib.suppress(OSError):
+            os.close(rows)
+        os.unlink(pipe)
+
+
+def interrupted_outputs(count, program, room, steps, into):
+    """A file that takes the frame of a run that is ended by a signal, and of one beside another."""
+    other, data, done = f"{room}/other.csv", f"{room}/v.csv", Answer(0, "", "")
+    for ends in (signal.SIGHUP, signal.SIGINT, signal.SIGQUIT, signal.SIGTERM, signal.SIGKILL):
+        write(other, "other\n")
+        os.chmod(other, 0o640)
+        with waiting_run(program, room, steps, other) as (ran, _, new):
+            mode = os.stat(new).st_mode & 0o777
+            ran.send_signal(ends)
+            ran.wait()
+            with open(other, encoding="utf-8") as opened:
+                check(count, "output file", f"ended by {ends.name}, the new file with mode {mode:o}", Answer(ran.returncode, opened.read(), ""),
+                      lambda it, ends=ends, mode=mode: it == Answer(-ends, "other\n", "") and mode == 0o600)
+        into(f"what a run left that was ended by {ends.name}", other, data, done, "v\n1\n2\n")
+    write(other, "other\n")
+    with waiting_run(program, room, steps, other) as (ran, rows, new):
+        answer = program.run(["--plan", steps, "-o", f"{room}/beside.csv", data])
+        check(count, "output file", "beside another run", answer._replace(out=str(os.path.exists(new))), lambda it: it == Answer(0, "True", ""))
+        os.close(rows)
+        ran.wait()
+        with open(other, encoding="utf-8") as opened:
+            check(count, "output file", "the other run", Answer(ran.returncode, opened.read(), ""), lambda it: it == Answer(0, "v\n1\n", ""))
+    for number in range(1000):
+        write(f"{room}/.frameq-{number}", "left\n")
+    answer = program.run(["--plan", steps, "-o", other, data])
+    check(count, "output file", "a thousand files left", answer, lambda it: it == done)
 
 
 def read_terminal(controller):

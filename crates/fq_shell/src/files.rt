@@ -101,12 +101,9 @@ impl<F: Files, I: Read, L: Write> SystemFiles<'_, F, I, L> {
     }
 }
 
-impl<'a, F: Files, I: Read + Drop + Send, L: Write + Copy + Drop + Send> Opener
-    for SystemFiles<'a, F, I, L>
-where
-    F::File: Send,
-{
-    type Reader = Watched<SystemReader<F::File, I>, L>;
+impl<'a, F: Files<File = File>, I: Read + Drop + Send, L: Write + Copy + Drop + Send> Opener
+    for SystemFiles<'a, F, I, L> {
+    type Reader = Watched<SystemReader<File, I>, L>;
 
     type Output = SystemOutput<'a, F>;
 

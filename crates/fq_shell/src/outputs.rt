@@ -2,9 +2,10 @@
 ghost use Rattle.std.specs.Prelude.{◌≡◌, None, Some, IfErr, OnOk};
 
 use std::alloc::Global;
-use std::fs::{File, Files, OpenFile, Permissions};
+use std::fs::{File, Files, Metadata, OpenOptions, TryLockError};
 use std::io;
 use std::io::{ErrorKind, Write};
+use std::os::unix::fs::{MetadataExt, OpenOptionsExt};
 use std::path::{Path, PathBuf};
 
 /// How many names are tried for a new file.
@@ -66,25 +67,28 @@ pub trait Output: Write + Drop {
 
 /// A new file of a system beside the one whose place it is to take. A place that is not a regular file, such as a pipe or a
 /// device, is written as it is.
+///
+/// Until it takes the place, nobody else may read a new file that is to replace one, and it is locked: so what a run has left that was
+/// killed is told from what another run still writes, and is removed by the next one.
 #[derive(Drop)]
-pub struct SystemOutput<'a, F: Files> {
+pub struct SystemOutput<'a, F: Files<File = File>> {
     files: &'a F,
     place: PathBuf,
-    /// Those of the file that is there.
-    permissions: Option<Permissions>,
-    file: F::File,
+    /// What is known of the file that is there.
+    there: Option<Metadata>,
+    file: File,
     /// The name of the new file, if the place is not written as it is.
     new: Option<PathBuf>,
 }
 
-impl<'a, F: Files> SystemOutput<'a, F> {
+impl<'a, F: Files<File = File>> SystemOutput<'a, F> {
     /// What takes the place of the file of this name, which need not be there. A link is followed; one to nothing is refused, since what
     /// it leads to could not stay as it was.
     pub fn create(alloc: Global, files: &'a F, name: &str) -> io::Result<SystemOutput<'a, F>> {
         match files.metadata(name) {
             Ok(there) if there.is_file() => {
                 let place = files.canonicalize(alloc, name)?;
-                SystemOutput::beside(alloc, files, place, Some(there.permissions()))
+                SystemOutput::beside(alloc, files, place, Some(there))
             }
             Ok(_) => SystemOutput::as_it_is(files, PathBuf::from_str(alloc, name)?),
             Err(error)
@@ -101,7 +105,7 @@ impl<'a, F: Files> SystemOutput<'a, F> {
         Ok(SystemOutput {
             files,
             place,
-            permissions: None,
+            there: None,
             file,
             new: None,
         })
@@ -112,30 +116,79 @@ impl<'a, F: Files> SystemOutput<'a, F> {
         alloc: Global,
         files: &'a F,
         place: PathBuf,
-        permissions: Option<Permissions>,
+        there: Option<Metadata>,
     ) -> io::Result<SystemOutput<'a, F>> {
         for number in 0..MAX_TRIES {
             let name = format!(in alloc; ".frameq-{number}")?;
             let new = place.with_file_name(alloc, name.as_str())?;
-            match File::create_new(files, new.as_path()) {
-                Ok(file) => {
-                    return Ok(SystemOutput {
-                        files,
-                        place,
-                        permissions,
-                        file,
-                        new: Some(new),
-                    });
-                }
-                Err(error) if error.kind() == ErrorKind::AlreadyExists => {}
-                Err(error) => return Err(error),
+            if let Some(file) = new_file(files, new.as_path(), there.is_some())? {
+                return Ok(SystemOutput {
+                    files,
+                    place,
+                    there,
+                    file,
+                    new: Some(new),
+                });
             }
         }
         Err(io::Error::from(ErrorKind::AlreadyExists))
     }
 }
 
-impl<F: Files> Write for SystemOutput<'_, F> {
+// A new file of this name, or none if another run has it. What an ended run has left under the name is removed first.
+fn new_file<F: Files<File = File>>(
+    files: &F,
+    name: Path<'_>,
+    is_private: bool,
+) -> io::Result<Option<File>> {
+    remove_left(files, name);
+    let mut options = OpenOptions::new();
+    options.write(true);
+    options.create_new(true);
+    if is_private {
+        options.mode(0o600);
+    }
+    match options.open(files, name) {
+        Ok(file) => Ok(is_own(files, &file, name).then_some(file)),
+        Err(error) if error.kind() == ErrorKind::AlreadyExists => Ok(None),
+        Err(error) => Err(error),
+    }
+}
+
+// Removes the file of this name if no run has it locked.
+fn remove_left<F: Files<File = File>>(files: &F, name: Path<'_>) {
+    let Ok(there) = files.symlink_metadata(name.as_str()) else {
+        return;
+    };
+    if !there.is_file() {
+        return;
+    }
+    let Ok(file) = File::open(files, name) else {
+        return;
+    };
+    if file.try_lock().is_ok() && is_at(files, &file, name) {
+        let _ = files.remove_file(name.as_str());
+    }
+}
+
+// Whether a new file is this run's, and locks it. Where files cannot be locked, it is.
+fn is_own<F: Files<File = File>>(files: &F, file: &File, name: Path<'_>) -> bool {
+    match file.try_lock() {
+        Ok(()) => is_at(files, file, name),
+        Err(TryLockError::WouldBlock) => false,
+        Err(TryLockError::Error(_)) => true,
+    }
+}
+
+// Whether a file still has this name.
+fn is_at<F: Files<File = File>>(files: &F, file: &File, name: Path<'_>) -> bool {
+    match (file.metadata(), files.symlink_metadata(name.as_str())) {
+        (Ok(own), Ok(there)) => own.dev() == there.dev() && own.ino() == there.ino(),
+        _ => false,
+    }
+}
+
+impl<F: Files<File = File>> Write for SystemOutput<'_, F> {
     fn write(&mut self, buffer: &[u8]) -> io::Result<usize> {
         self.file.write(buffer)
     }
@@ -145,19 +198,19 @@ impl<F: Files> Write for SystemOutput<'_, F> {
     }
 }
 
-impl<F: Files> Output for SystemOutput<'_, F> {
+impl<F: Files<File = File>> Output for SystemOutput<'_, F> {
     fn keep(self) -> io::Result<()> {
         let SystemOutput {
             files,
             place,
-            permissions,
+            there,
             file,
             new,
         } = self;
         let Some(new) = new else {
             return Ok(());
         };
-        let kept = put(files, file, permissions, new.as_path(), place.as_path());
+        let kept = put(files, file, there, new.as_path(), place.as_path());
         if kept.is_err() {
             let _ = files.remove_file(new.as_str());
         }
@@ -168,7 +221,7 @@ impl<F: Files> Output for SystemOutput<'_, F> {
         let SystemOutput {
             files,
             place: _,
-            permissions: _,
+            there: _,
             file: _,
             new,
         } = self;
@@ -178,16 +231,21 @@ impl<F: Files> Output for SystemOutput<'_, F> {
     }
 }
 
-// Puts a new file in the place of another, with these permissions, once the system has stored its bytes.
-fn put<F: Files>(
+// Puts a new file in the place of another, with the permissions that this has, and its owner and group where that is allowed, once the
+// system has stored its bytes.
+fn put<F: Files<File = File>>(
     files: &F,
-    file: F::File,
-    permissions: Option<Permissions>,
+    file: File,
+    there: Option<Metadata>,
     new: Path<'_>,
     place: Path<'_>,
 ) -> io::Result<()> {
-    if let Some(permissions) = permissions {
-        file.set_permissions(permissions)?;
+    if let Some(there) = there {
+        let own = file.metadata()?;
+        if own.uid() != there.uid() || own.gid() != there.gid() {
+            let _ = files.chown(new.as_str(), Some(there.uid()), Some(there.gid()));
+        }
+        file.set_permissions(there.permissions())?;
     }
     file.sync_all()?;
     files.rename(new.as_str(), place.as_str())
