@@ -20,11 +20,13 @@ CSV_SIGNS = [b",", b",", b'"', b'"', *LINE_ENDS, b'""', b'","', b'"\n"', b"\n\n"
 NUMBERS = """0 -0 1.5 1e5 1E+5 1e-5 -1e-400 0e400 0.0e9999999999 1e-9999999999 1.0 1e0 4.9e-324 1.7976931348623157e308
     9223372036854775807 9223372036854775808 -9223372036854775808 -9223372036854775809 18446744073709551615 18446744073709551616""".split()
 NOT_NUMBERS = "00 01 -01 +1 1. .5 -.5 1e 1e+ - 0x10 1_000 NaN Infinity 12x 1e400 -1e400 1e9999999999 1.7976931348623159e308".split()
-ESCAPES = [
+RIGHT_ESCAPES = [
     rb'\"', rb"\\", rb"\/", rb"\b", rb"\f", rb"\n", rb"\r", rb"\t", rb"\u0041", rb"\u00e9", rb"\u0000", rb"\uD83D\uDE00", rb"\ud83d\ude00",
-    rb"\ud83d", rb"\ude00", rb"\ude00\ud83d", rb"\ud83d\u0041", rb"\ud83d\n", rb"\u12", rb"\u12g4", rb"\u+123", rb"\x41", rb"\a", rb"\'", rb"\N", b"\\",
 ]
-RIGHT_ESCAPES = 13  # the first so many
+ESCAPES = [
+    *RIGHT_ESCAPES, rb"\ud83d", rb"\ude00", rb"\ude00\ud83d", rb"\ud83d\u0041", rb"\ud83d\n", rb"\u12", rb"\u12g4", rb"\u+123", rb"\x41",
+    rb"\a", rb"\'", rb"\N", b"\\",
+]
 WORDS = [b"true", b"false", b"null", b"True", b"nul", b"nulll", b"tru", b"undefined", b"//", b"/* */", b"#"]
 SPACES = [b" ", b"\t", b"\n", b"\r", b"\x0b", b"\x0c", b"\xa0", "\u00a0".encode(), "\u2003".encode(), MARK, b"\0"]
 JSON_SIGNS = [b"{", b"}", b"[", b"]", b":", b",", b'"', b"'"]
@@ -187,5 +189,5 @@ def number_text(draw):
 
 def string(draw):
     """A string, most often a right one."""
-    inside = [*PLAIN[:8], *ESCAPES] if draw.random() < 0.3 else [*PLAIN[:8], *ESCAPES[:RIGHT_ESCAPES]]
+    inside = [*PLAIN[:8], *(ESCAPES if draw.random() < 0.3 else RIGHT_ESCAPES)]
     return b'"' + b"".join(draw.choice(inside) for _ in range(draw.choice([0, 1, 1, 2, 5]))) + b'"'
