@@ -3,12 +3,15 @@ import os
 import re
 import shutil
 import subprocess
-import time
+import sys
 
 from counts import LONGEST_RUN, together
 
 HERE = os.path.dirname(os.path.abspath(__file__))
 ROOT = os.path.dirname(os.path.dirname(HERE))
+sys.path.insert(0, f"{ROOT}/tools")
+from trying import keep_program  # pylint: disable=wrong-import-position
+
 KIT = os.path.dirname(os.path.dirname(os.path.realpath(shutil.which("rt") or "/bin/rt")))
 LONGEST_BUILD = 900  # seconds
 
@@ -19,31 +22,14 @@ LAST_UNMET = 20  # a row that starts threads has some allocations more or fewer;
 def build_calls(room):
     """Builds the tests by `rt try`, which runs each of them once. Gives their program, their names, and what was said.
 
-    `rt try` builds anew for each number, and removes the program at its end. So one number is built in, and the program gets a
-    second name while the tests run.
+    `rt try` builds anew for each number. So one number is built in, and the program is kept.
     """
     os.mkdir(room)
     subprocess.run([f"{ROOT}/tests/calls/stage", f"{room}/staged"], check=True)
-    program, said = f"{room}/calls", f"{room}/said"
-    command = ["rt", "try", "--test", "--fail-alloc", str(FAILED_ALLOCATION), "--", "refusals::"]
-    with open(said, "wb") as out:
-        tried = subprocess.Popen(command, cwd=f"{room}/staged/crates/fq_calls", stdin=subprocess.DEVNULL, stdout=out, stderr=out,
-                                 env={**os.environ, "TMPDIR": room})
-        began = time.monotonic()
-        while tried.poll() is None and time.monotonic() - began < LONGEST_BUILD:
-            time.sleep(0.02)
-            built = [f"{folder}/program" for folder, _, files in os.walk(room) if "program" in files]
-            if built and not os.path.exists(program):
-                try:
-                    os.link(built[0], program)
-                except FileNotFoundError:
-                    pass
-        tried.terminate()
-        status = tried.wait()
-    with open(said, encoding="utf-8", errors="replace") as file:
-        text = file.read()
-    names = re.findall(r"^test (\S+) \.\.\. ok$", text, re.MULTILINE)
-    return program if status == 0 and names and os.path.exists(program) else None, names, text
+    program, words = f"{room}/calls", ["--test", "--fail-alloc", str(FAILED_ALLOCATION), "--", "refusals::"]
+    status, said = keep_program(words, f"{room}/staged/crates/fq_calls", room, program, LONGEST_BUILD)
+    names = re.findall(r"^test (\S+) \.\.\. ok$", said, re.MULTILINE)
+    return program if status == 0 and names and os.path.exists(program) else None, names, said
 
 
 def run_calls(program, name, before):

@@ -1,0 +1,307 @@
+"""Wrong edits of a crate, and whether the prover refuses them: for tools/edits and tools/plants.
+
+A check of an edit works on a copy of the crate, over what `rt check` kept of it, if it did, and over the libraries that it or `rt ci` built.
+"""
+import contextlib
+import os
+import re
+import shutil
+import subprocess
+import sys
+import threading
+
+ROOT = os.path.dirname(os.path.dirname(os.path.abspath(__file__)))
+KIT = os.path.dirname(os.path.dirname(os.path.realpath(shutil.which("rt") or sys.exit("rt is not in PATH"))))
+CORES = len(os.sched_getaffinity(0))
+
+
+def read(path):
+    with open(path, encoding="utf-8") as file:
+        return file.read()
+
+
+def write(path, text):
+    with open(path, "w", encoding="utf-8") as file:
+        file.write(text)
+
+
+def run(words, folder):
+    """Runs a command, and gives what it says and how it ends."""
+    return subprocess.run(words, cwd=folder, stdin=subprocess.DEVNULL, stdout=subprocess.PIPE, stderr=subprocess.STDOUT, text=True,
+                          errors="replace")
+
+
+def memory():
+    """How many bytes of memory are left."""
+    with open("/proc/meminfo", encoding="ascii") as file:
+        return next(int(line.split()[1]) * 1024 for line in file if line.startswith("MemAvailable:"))
+
+
+class Processes:
+    """The processes of checks: as many as there are cores, in equal parts for the crates that are left. Beside `rt ci`, which takes memory
+    too, one for each check, as long as there are 4 GB for it."""
+
+    def __init__(self, crates, beside):
+        self.used, self.crates, self.beside, self.changed = 0, crates, beside, threading.Condition()
+
+    def is_beside(self):
+        """Whether `rt ci` runs."""
+        return self.beside is not None and not os.path.exists(f"{self.beside}/.all")
+
+    def share(self):
+        """How many processes a check gets. By one it takes the least of the processor, by more the least time."""
+        return 1 if self.is_beside() else max(1, CORES // max(1, self.crates))
+
+    def free(self):
+        """How many processes are not in use."""
+        if self.is_beside() and self.used and memory() < 4_000_000_000:
+            return 0
+        return CORES - self.used
+
+    @contextlib.contextmanager
+    def some(self):
+        """Waits for the processes of a check."""
+        with self.changed:
+            while self.free() < self.share():
+                self.changed.wait(1)
+            jobs = self.share()
+            self.used += jobs
+        try:
+            yield jobs
+        finally:
+            with self.changed:
+                self.used -= jobs
+                self.changed.notify_all()
+
+    def end_crate(self):
+        """A crate is left no more."""
+        with self.changed:
+            self.crates -= 1
+            self.changed.notify_all()
+
+
+def link(path, to):
+    """Gives a file a second name, or copies it to another disk; a check replaces such files and changes none."""
+    try:
+        os.link(path, to)
+    except OSError:
+        shutil.copy2(path, to)
+
+
+def link_tree(folder, to):
+    """Links each file of a folder."""
+    shutil.copytree(folder, to, copy_function=link)
+
+
+# ---- crates
+
+
+def read_crates():
+    """The crates of crates.txt, each with the libraries that it names."""
+    lines = (line.split("#")[0].partition(":") for line in read(f"{ROOT}/crates.txt").split("\n"))
+    return {head.split()[0]: tail.split() for head, _, tail in lines if head.split()}
+
+
+CRATES = read_crates()
+
+
+def below(crate):
+    """The libraries of the repository below a crate."""
+    direct = [it for it in CRATES[crate] if it in CRATES]
+    return set(direct).union(*map(below, direct))
+
+
+class Copy:
+    """A copy of a crate, with the libraries below it and what checks of it keep."""
+
+    def __init__(self, crate, room, processes):
+        self.crate, self.room, self.processes = crate, f"{room}/crates/{crate}", processes
+        subprocess.run([f"{ROOT}/tools/stage", "--alone", room, crate], check=True)
+        for name in below(crate):
+            built = f"{ROOT}/crates/{name}/out/rlib/{name}.rlib"
+            if not os.path.isdir(built):
+                sys.exit(f"{name} is not built; rt ci, or rt check in crates/{crate}, builds it")
+            link_tree(built, f"{self.room}/libraries/{name}.rlib")
+        kept = f"{ROOT}/crates/{crate}/out/incremental"
+        if os.path.isdir(kept):
+            link_tree(kept, f"{self.room}/kept")
+
+    def words(self, jobs):
+        """The words of a check by so many processes."""
+        root = "src/main.rt" if os.path.exists(f"{self.room}/src/main.rt") else "src/lib.rt"
+        words = [f"{KIT}/bin/rattle", "check", "--crate-name", self.crate, root]
+        for name in ("std", *CRATES[self.crate]):
+            words += ["--extern", f"{name}={self.room}/libraries/{name}.rlib" if name in CRATES else f"{name}={KIT}/rlibs/{name}.rlib"]
+        words += ["-L", f"dependency={self.room}/libraries", "-L", f"dependency={KIT}/rlibs"]
+        words += ["--antt-project", f"{KIT}/rattle/logic/antt-project.json", "--logic-built", f"{KIT}/logic_built"]
+        return [*words, "--incremental", f"{self.room}/kept", "--jobs", str(jobs)]
+
+    def check(self, functions, texts):
+        """What a check of some functions says, with these texts in place of the crate's own."""
+        before = {path: read(f"{self.room}/{path}") for path in texts}
+        for path, text in texts.items():
+            write(f"{self.room}/{path}", text)
+        chosen = [word for it in sorted(functions) for word in ("--only", it)]
+        with self.processes.some() as jobs:
+            words = [*self.words(jobs), *chosen]
+            ran = run(words, self.room)
+            if ran.returncode < 0:
+                # (the system stopped it, for want of memory, say)
+                ran = run(words, self.room)
+        for path, text in before.items():
+            write(f"{self.room}/{path}", text)
+        return ran.stdout
+
+
+# ---- edits
+
+
+class Edit:
+    """A wrong edit of a crate: the texts that it replaces, each with its file, and the functions that show it: those that are named, or
+    those in which the texts stand."""
+
+    def __init__(self, name, crate, pairs, shown_by=()):
+        self.name, self.pairs, self.functions, self.is_alone = name, pairs, set(shown_by), bool(shown_by)
+        if not self.is_alone:
+            self.functions = {it for path, old, _ in pairs for it in [function_at(crate, path, old)] if it}
+
+    def is_shown_by(self, name):
+        """Whether a function of this name, or a closure in it, shows the edit."""
+        return any(f"::{it}::" in f"::{name}::" for it in self.functions)
+
+    def goes_with(self, other):
+        """Whether both can be made at once: they change different functions, and neither writes what the other replaces."""
+        if self.is_alone or other.is_alone or self.functions & other.functions:
+            return False
+        written = [(old, new) for one, two in ((self, other), (other, self)) for _, old, _ in one.pairs for _, _, new in two.pairs]
+        return not any(old in new for old, new in written)
+
+    def applied(self, texts, folder):
+        """The texts of files, with this edit; none where a text that it replaces doesn't stand in its file once."""
+        texts = dict(texts)
+        for path, old, new in self.pairs:
+            text = texts.get(path) or read(f"{folder}/{path}")
+            if text.count(old) != 1:
+                return None
+            texts[path] = text.replace(old, new)
+        return texts
+
+
+def function_at(crate, path, text):
+    """The function in which a text stands: the end of the name that a check prints, its module or its type and its own."""
+    source = read(f"{ROOT}/crates/{crate}/{path}")
+    lines, at, owner = source.split("\n"), source[: source.find(text)].count("\n"), ""
+    for number, line in enumerate(lines[: at + 1]):
+        owner = "" if line.startswith("}") else owner_at(line) or owner
+        function = re.match(r"( *)(?:pub(?:\(\w+\))? )?(?:const )?fn (\w+)", line)
+        if function and at <= number + length(lines[number:], function[1]):
+            module = os.path.basename(path)[: -len(".rt")]
+            return function[2] if not owner and module in ("lib", "main") else f"{owner or module}::{function[2]}"
+    return None
+
+
+def length(lines, indent):
+    """How many lines a function has, below its first; none that a trait only declares."""
+    has_body = False
+    for number, line in enumerate(lines):
+        has_body = has_body or line.endswith("{")
+        if line in (indent + "}", indent + "{}") or line.endswith(";") and not has_body:
+            return number if has_body or line.endswith("}") else -1
+    return -1
+
+
+def owner_at(line):
+    """The type or the trait whose functions follow a line: of a type's impl of a trait both, and the types that the trait is given."""
+    impl = re.match(r"impl(?:<(.*?)>)? (?:(\w+)(?:<(.*)>)? for )?(\w+)", line)
+    if not impl:
+        trait = re.match(r"(?:pub(?:\(\w+\))? )?trait (\w+)", line)
+        return trait and trait[1]
+    given = [it for it in re.findall(r"\w+", impl[3] or "") if it not in re.findall(r"\w+", impl[1] or "")]
+    return impl[4] + (impl[2] or "") + "".join(it[0].upper() + it[1:] for it in given)
+
+
+# ---- what a check says
+
+# An answer that names a goal or a value which is no more says nothing of the contract, nor does what rests on it.
+STALE = re.compile(r"that can be named from here|is not in scope|has no field|has no `|was not admitted|(was|were) not checked")
+
+
+def goals_left(said, crate):
+    """The goals of each function that stay open, by the function's name."""
+    left, goals, errors = {}, [], {}
+    for line in said.split("\n"):
+        error = re.match(r"\./proofs/(.*)/\w+\.antt:\d+:\d+: error: (?:`([^`]*)`)?", line)
+        note = re.match(r"note: src/\S+:\d+:\d+: it is not proved .*\(`([^`]*)`\)", line)
+        function = re.match(rf"fn {crate}::(\S+): (.*)", line)
+        if error and not STALE.search(line):
+            errors.setdefault(error[1].replace("/", "::").replace("+", ""), []).append(error[2] or "an answer")
+        elif note:
+            goals.append(note[1])
+        elif function:
+            more = re.search(r"did not prove (.*?)(?:; it calls|$)", function[2])
+            left[function[1]] = goals + (re.findall(r"`([^`]+)`", more[1]) if more else [])
+            goals = []
+    return {name: list(dict.fromkeys(goals + errors.get(name, []))) for name, goals in left.items()}
+
+
+def untried(said, crate):
+    """The functions whose goals were not tried, since one that they call is not proved."""
+    return re.findall(rf"^note: `search` has not tried the goals of `{crate}::(\S+)`", said, re.M)
+
+
+NOT_MADE = "a text that it replaces stands in no function, or not once in its file"
+
+
+def first_lines(said):
+    """The start of what a check says."""
+    return "\n".join(said.split("\n")[:8])
+
+
+def made(copy, batch):
+    """The edits of a batch that can be made, and the texts of files with them."""
+    texts, edits = {}, []
+    for edit in batch:
+        applied = edit.applied(texts, copy.room) if edit.functions else None
+        if applied is not None:
+            texts = applied
+            edits.append(edit)
+    return edits, texts
+
+
+def halves(edits):
+    """Two halves of some edits, to be tried each by itself: one that does not compile hides the others."""
+    return edits[: len(edits) // 2], edits[len(edits) // 2 :]
+
+
+def attempt(copy, batch):
+    """Gives for each edit of a batch whether it is refused, and why."""
+    tried, texts = made(copy, batch)
+    for edit in batch:
+        if edit not in tried:
+            yield edit, False, NOT_MADE
+    said = copy.check(set().union(*(it.functions for it in tried)), texts) if tried else ""
+    left = goals_left(said, copy.crate)
+    if not left and len(tried) > 1:
+        for half in halves(tried):
+            yield from attempt(copy, half)
+        return
+    strangers = [name for name, goals in left.items() if goals and not any(it.is_shown_by(name) for it in tried)]
+    waiting = untried(said, copy.crate)
+    later = []
+    for edit in tried:
+        goals = [goal for name, them in left.items() if edit.is_shown_by(name) for goal in them]
+        if not goals and len(tried) > 1 and any(map(edit.is_shown_by, waiting)):
+            later.append(edit)
+        elif not left:
+            yield edit, False, f"it could not be tried:\n{first_lines(said)}"
+        elif strangers:
+            yield edit, False, f"{strangers[0]} is not proved, and no edit of the batch changes it"
+        elif goals:
+            yield edit, True, ", ".join(goals[:3])
+        else:
+            yield edit, False, "its function is still proved, or only answers are stale"
+    if len(later) == len(tried):
+        for edit in later:
+            yield from attempt(copy, [edit])
+    elif later:
+        yield from attempt(copy, later)
