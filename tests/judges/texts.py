@@ -100,9 +100,9 @@ def field(draw, pieces):
 
 def padding(draw, width, before, after):
     """A long record, so that the border of two reads is somewhere in the bytes after it."""
-    others = b"," * (width - 1) + b"\n"
+    others, piece = b"," * (width - 1) + b"\n", draw.choice([b"x", b"\n", b",", b'""'])
     size = CHUNK * draw.choice([1, 2]) - before - len(others) - 2 - draw.randint(0, after)
-    return b'"' + draw.choice([b"x", b"\n", b",", b'""']) * size + b'"' + others
+    return b'"' + piece * (size // len(piece)) + b'"' + others
 
 
 # ---- JSON
