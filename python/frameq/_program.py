@@ -4,9 +4,10 @@ import json
 import os
 import shutil
 import subprocess
+import sys
 import tempfile
 import warnings
-from typing import IO, Iterator, List, Mapping, NamedTuple, Optional, Sequence, Tuple, Union
+from typing import IO, Iterator, List, Mapping, NamedTuple, NoReturn, Optional, Sequence, Tuple, Union
 
 from ._faults import ProgramNotFoundError, fault
 from ._kinds import AnyKind, Schema, schema_of
@@ -15,7 +16,10 @@ from ._results import DataFrame, read_frame
 
 Path = Union[str, "os.PathLike[str]"]
 
-_REPOSITORY = os.path.dirname(os.path.dirname(os.path.dirname(os.path.abspath(__file__))))
+_PACKAGE = os.path.dirname(os.path.abspath(__file__))
+_REPOSITORY = os.path.dirname(os.path.dirname(_PACKAGE))
+# The program of a wheel, which is inside the package.
+_INSIDE = os.path.join(_PACKAGE, "bin", "frameq")
 
 
 class Settings(NamedTuple):
@@ -33,17 +37,23 @@ class Settings(NamedTuple):
 
 
 def find_program(program: Optional[Path] = None) -> str:
-    """The program: the one given, or that of the variable FRAMEQ, or `frameq` on the path, or that of the repository of this package."""
+    """The program: the one given, or that of the variable FRAMEQ, or that inside this package, or `frameq` on the path, or that of the
+    repository of this package."""
     given = program or os.environ.get("FRAMEQ")
     if given:
         if not os.access(given, os.X_OK) or os.path.isdir(given):
             raise ProgramNotFoundError(f"there is no program {os.fspath(given)!r}")
         return os.path.abspath(given)
-    places = [shutil.which("frameq"), os.path.join(_REPOSITORY, "crates", "frameq", "out", "frameq"), os.path.join(_REPOSITORY, "frameq")]
-    for place in places:
+    built = os.path.join(_REPOSITORY, "crates", "frameq", "out", "frameq")
+    for place in (_INSIDE, shutil.which("frameq"), built, os.path.join(_REPOSITORY, "frameq")):
         if place and os.access(place, os.X_OK) and os.path.isfile(place):
             return place
-    raise ProgramNotFoundError("there is no program frameq: run ./install in its repository, or set FRAMEQ to where it is")
+    raise ProgramNotFoundError("there is no program frameq: install a package that has it, or set FRAMEQ to where it is")
+
+
+def run_inside() -> NoReturn:
+    """The command `frameq` of a wheel: the program inside the package takes the place of this process."""
+    os.execv(_INSIDE, ["frameq", *sys.argv[1:]])
 
 
 @contextlib.contextmanager
