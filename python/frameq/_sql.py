@@ -1,8 +1,7 @@
-"""Plans as SQL: one query that gives the rows that frameq gives, for SQLite, DuckDB or Spark."""
-import re
-from typing import Any, Callable, Dict, List, NamedTuple, Optional, Sequence, Tuple
+"""Plans as SQL: one query that gives the rows that frameq gives, for SQLite, PostgreSQL, DuckDB or Spark."""
+from typing import Any, Dict, List, NamedTuple, Optional, Sequence, Set, Tuple
 
-_LEAST, _GREATEST = -(2**63), 2**63 - 1
+from ._dialects import GREATEST, LEAST, Dialect, Table, dialect_named, names_of_table
 
 # How deep operators stand one in another in a piece of SQL. SQLite's parser has little room, so deeper ones become columns.
 _MOST_NESTED = 8
@@ -14,163 +13,62 @@ _LOGIC = {"and": "AND", "or": "OR"}
 _NULL_TESTS = {"is_null": "IS NULL", "is_not_null": "IS NOT NULL"}
 _KINDS = ("int", "text", "bool")
 
+# The operators whose values may not fit 64 bits.
+_MAY_OVERFLOW = ("neg", *_ARITHMETIC, *_DIVISIONS)
 
-def sql(plan: Dict[str, Any], dialect: str = "sqlite", tables: Optional[Sequence[str]] = None) -> str:
+# For each kind a value of it.
+_ANY_VALUES = {"int": 0, "text": "", "bool": False}
+
+
+def sql(plan: Dict[str, Any], dialect: str = "sqlite", tables: Optional[Sequence[Table]] = None) -> str:
     """The query whose rows, in order, are those that frameq gives for a plan.
 
-    `plan` is a plan that frameq accepts, of version 1 or 2, as `json.load` reads it. `dialect` is "sqlite", "duckdb" or "spark".
-    `tables` has the name of one table, or view, for each source; by default these are source0, source1 and so on. A name is one
-    identifier: the query quotes it, so a dot in it is part of it.
+    `plan` is a plan that frameq accepts, of version 1 or 2, as `json.load` reads it. `dialect` is "sqlite", "postgres", "duckdb" or
+    "spark". `tables` has the name of one table, or view, for each source; by default these are source0, source1 and so on. A name is
+    one identifier: the query quotes it, so a dot in it is part of it. A table in a schema is a tuple of both names.
 
-    A table has the columns of its source under their names: int as BIGINT (SQLite: INTEGER), text as TEXT (Spark: STRING), bool
-    as BOOLEAN (in SQLite 0 and 1), with NULL wherever frameq reads null. One more column numbers the rows of a source 1, 2 and
-    so on, in the order of its files and of the rows in them. It is named `row`; while a column of any source has that name, in
+    A table has the columns of its source under their names, and may have more: int as BIGINT (SQLite: INTEGER), text as TEXT (Spark:
+    STRING), bool as BOOLEAN (in SQLite 0 and 1), with NULL wherever frameq reads null. One more column numbers the rows of a source 1, 2
+    and so on, in the order of its files and of the rows in them. It is named `row`; while a column of any source has that name, in
     whatever letter case, an underscore is added at its end. The name is the same in all tables of a plan.
 
     The query says what frameq says only where no value leaves 64 bits. Where one does, frameq ends with a fault, and the query
-    gives an error or wrong rows, as the engine has it: SQLite goes on with floats. DuckDB and Spark may also compute a value on
-    rows that an earlier step drops, and then give an error where frameq has none. Engines are taken as they are by default:
-    SQLite 3.35 or later with a database in UTF-8; DuckDB 0.9 or later, and Spark 3 or later, with the default collation.
-    Columns of SQLite may have any collation. Queries are compared with frameq on SQLite; no test runs DuckDB or Spark.
+    gives an error or wrong rows, as the engine has it. SQLite goes on with floats. PostgreSQL gives an error, unless no row of the answer
+    needs the value. DuckDB and Spark may also compute a value on rows that an earlier step drops, and then give an error where frameq
+    has none.
+
+    Engines are taken as they are by default: SQLite 3.35 or later with a database in UTF-8; PostgreSQL 15 or later with one in UTF-8;
+    DuckDB 0.9 or later, and Spark 3 or later, with the default collation. Columns of SQLite and PostgreSQL may have any collation.
+    Queries are compared with frameq on SQLite and PostgreSQL; no test runs DuckDB or Spark.
 
     ValueError says that a dialect is not one of these, that a plan is not one that frameq accepts, or that the dialect has no way
     to say something in it. A plan is not checked in all ways: frameq does that.
     """
-    if dialect not in _DIALECTS:
-        raise ValueError(f"no such dialect: {dialect!r}; there are {', '.join(_DIALECTS)}")
-    sources = plan["sources"]
-    if not sources or plan.get("version") not in (1, 2):
-        raise ValueError("a plan has a version, 1 or 2, and at least one source")
-    names = [f"source{number}" for number in range(len(sources))] if tables is None else list(tables)
-    if len(names) != len(sources):
-        raise ValueError(f"the plan has {len(sources)} sources, and there are names for {len(names)} tables")
-    writer = _Writer(_DIALECTS[dialect], names, sources)
+    writer = _Writer(dialect_named(dialect), *sources_of(plan, tables))
     frame = writer.start()
     for number, step in enumerate(plan["steps"]):
         frame = writer.step(frame, f"step{number}", step)
     return writer.query(frame)
 
 
-# ---- dialects
-
-class _Dialect(NamedTuple):
-    """What the engines spell differently."""
-
-    name: str
-    quote: str  # around an identifier, and twice for one inside it
-    types: Dict[str, str]
-    truths: Tuple[str, str]  # false and true
-    same: str  # the operator that is true of two nulls, and false of a null and a value
-    quotient: str  # the operator that divides whole numbers
-    by_bytes: str  # stands after a text that is to be compared by its bytes
-    kept: str  # stands before a subquery whose columns are to be computed once
-    text: Callable[[str], str]  # a literal
-    whole: Callable[[int], str]  # a literal
-    total: Callable[[str, str], str]  # the sum of a column over a window or a group, judged as a whole
-    no_name: str  # a pattern of the names that it cannot have
-    fold: Callable[[str], str]  # two identifiers are the same if this makes them so
-
-    def identifier(self, name: str) -> str:
-        """A name as an identifier."""
-        if re.search(self.no_name, name):
-            raise ValueError(
-                f"{self.name} has no column or table named {name!r}: give it another name in the plan, and one of a source also in"
-                " its files"
-            )
-        _utf8(name)
-        return self.quote + name.replace(self.quote, self.quote * 2) + self.quote
+def sources_of(plan: Dict[str, Any], tables: Optional[Sequence[Table]]) -> Tuple[List[Dict[str, Any]], List[Table]]:
+    """The sources of a plan, and their tables: those named, or source0 and so on."""
+    sources = plan["sources"]
+    if not sources or plan.get("version") not in (1, 2):
+        raise ValueError("a plan has a version, 1 or 2, and at least one source")
+    names = [f"source{number}" for number in range(len(sources))] if tables is None else list(tables)
+    if len(names) != len(sources):
+        raise ValueError(f"the plan has {len(sources)} sources, and there are names for {len(names)} tables")
+    return sources, names
 
 
-def _utf8(text: str) -> bytes:
-    """The bytes of a text; half of a pair of surrogates has none."""
-    try:
-        return text.encode("utf-8")
-    except UnicodeEncodeError:
-        raise ValueError(f"not a Unicode text: {text!r}") from None
-
-
-def _ascii_lower(name: str) -> str:
-    """A name with the letters A to Z made small."""
-    return re.sub("[A-Z]+", lambda letters: letters.group().lower(), name)
-
-
-def _any_lower(name: str) -> str:
-    """A name in which two letters that are one in any letter case are the same."""
-    return name.upper().lower()
-
-
-def _quoted_text(text: str) -> str:
-    _utf8(text)
-    return "'" + text.replace("'", "''") + "'"
-
-
-def _sqlite_text(text: str) -> str:
-    """A text of SQLite, where a query has no character 0."""
-    if "\0" not in text:
-        return _quoted_text(text)
-    return "(" + " || char(0) || ".join(_quoted_text(part) for part in text.split("\0")) + ")"
-
-
-def _duckdb_text(text: str) -> str:
-    if "\0" in text:
-        raise ValueError("duckdb has no literal with the character 0: put the text into a table, and join that")
-    return _quoted_text(text)
-
-
-def _spark_text(text: str) -> str:
-    """A text of Spark. What backslashes, quotes and dollar signs mean there depends on its settings, so they are bytes."""
-    if re.fullmatch(r"[\w .,:;/+-]*", text, re.ASCII):
-        return f"'{text}'"
-    return f"CAST(X'{_utf8(text).hex().upper()}' AS STRING)"
-
-
-def _sqlite_whole(number: int) -> str:
-    """A whole number. The least one is a difference, since its digits alone are past 64 bits."""
-    if number == _LEAST:
-        return f"({_LEAST + 1} - 1)"
-    return str(number) if number >= 0 else f"({number})"
-
-
-def _cast_whole(number: int) -> str:
-    """A whole number of 64 bits, where digits alone might have fewer."""
-    if number == _LEAST:
-        return f"(CAST({_LEAST + 1} AS BIGINT) - CAST(1 AS BIGINT))"
-    return f"CAST({number} AS BIGINT)"
-
-
-def _sqlite_total(column: str, over: str) -> str:
-    """A sum in two halves of 32 bits each: SQLite ends with an error if a part of a sum is past 64 bits."""
-    high, low = f"SUM({column} >> 32){over}", f"SUM({column} & 4294967295){over}"
-    return f"(({high} + ({low} >> 32)) * 4294967296 + ({low} & 4294967295))"
-
-
-def _duckdb_total(column: str, over: str) -> str:
-    """A sum, which DuckDB keeps in 128 bits."""
-    return f"CAST(SUM({column}){over} AS BIGINT)"
-
-
-def _spark_total(column: str, over: str) -> str:
-    """A sum, with decimals on the way, which have room for it."""
-    return f"CAST(SUM(CAST({column} AS DECIMAL(28, 0))){over} AS BIGINT)"
-
-
-_DIALECTS = {
-    "sqlite": _Dialect(
-        name="sqlite", quote='"', types={"int": "INTEGER", "text": "TEXT", "bool": "BOOLEAN"}, truths=("0", "1"),
-        same="IS", quotient="/", by_bytes=" COLLATE BINARY", kept="MATERIALIZED ", text=_sqlite_text, whole=_sqlite_whole,
-        total=_sqlite_total, no_name="\0", fold=_ascii_lower,
-    ),
-    "duckdb": _Dialect(
-        name="duckdb", quote='"', types={"int": "BIGINT", "text": "TEXT", "bool": "BOOLEAN"}, truths=("FALSE", "TRUE"),
-        same="IS NOT DISTINCT FROM", quotient="//", by_bytes="", kept="MATERIALIZED ", text=_duckdb_text, whole=_cast_whole,
-        total=_duckdb_total, no_name=r"\0|\A\Z", fold=str.lower,
-    ),
-    "spark": _Dialect(
-        name="spark", quote="`", types={"int": "BIGINT", "text": "STRING", "bool": "BOOLEAN"}, truths=("FALSE", "TRUE"),
-        same="<=>", quotient="DIV", by_bytes="", kept="", text=_spark_text, whole=_cast_whole, total=_spark_total,
-        no_name=r"\0|\A\Z|\$\{", fold=_any_lower,
-    ),
-}
+def row_column(sources: Sequence[Dict[str, Any]]) -> str:
+    """The name of the column that numbers the rows of each table."""
+    taken = {name.casefold() for source in sources for name, _ in source["columns"]}
+    row = "row"
+    while row in taken:
+        row += "_"
+    return row
 
 
 # ---- frames
@@ -184,10 +82,16 @@ class _Column(NamedTuple):
 
 
 class _Frame(NamedTuple):
-    """What a subquery gives: its identifier and its columns, besides the one that numbers the rows."""
+    """What a subquery reads: the table of the main source, or a subquery before it.
+
+    The columns of `order` are whole numbers that give the order of the rows: the first of them counts most, and is never null. Each join
+    adds one, so that no engine has to bring all rows to one place to number them anew.
+    """
 
     identifier: str
     columns: List[_Column]
+    order: List[_Column]
+    is_table: bool  # it may have more columns than these
 
     def column(self, name: str) -> _Column:
         for column in self.columns:
@@ -197,9 +101,9 @@ class _Frame(NamedTuple):
 
 
 class _Part(NamedTuple):
-    """A part of an expression that is a column of the subquery before."""
+    """A part of an expression that is a column of the subquery before: which of its columns."""
 
-    text: str
+    place: int
     kind: str
 
 
@@ -211,13 +115,30 @@ class _Output(NamedTuple):
     text: str
 
 
-def _row_column(sources: Sequence[Dict[str, Any]]) -> str:
-    """The name of the column that numbers the rows of each table."""
-    taken = {name.casefold() for source in sources for name, _ in source["columns"]}
-    row = "row"
-    while row in taken:
-        row += "_"
-    return row
+def _as_they_are(columns: Sequence[_Column]) -> List[_Output]:
+    """Columns of the frame that a subquery reads, as they are."""
+    return [_Output(column.name, column.kind, f"frame.{column.identifier}") for column in columns]
+
+
+def _listed(columns: Sequence[_Column], end: str = "") -> str:
+    """Columns of the frame that a subquery reads, each with this end."""
+    return ", ".join(f"frame.{column.identifier}{end}" for column in columns)
+
+
+def _begins(outputs: Sequence[_Output], columns: Sequence[_Column]) -> bool:
+    """Whether outputs begin with columns as they are."""
+    return list(outputs[: len(columns)]) == _as_they_are(columns)
+
+
+def _selected(items: Sequence[str], indent: str) -> str:
+    """The line that selects some items, or the lines, of which each has one."""
+    line = f"\n{indent}  "
+    return f"SELECT {items[0]}" if len(items) == 1 else f"SELECT{line}" + f",{line}".join(items)
+
+
+def _in_row_1(number: str, value: str) -> str:
+    """A value in the row that has the number 1."""
+    return f"CASE WHEN {number} = 1 THEN {value} END"
 
 
 def _member(step: Any) -> Tuple[str, Any]:
@@ -238,17 +159,24 @@ def _is_leaf(expression: Any) -> bool:
     return not isinstance(expression, list)
 
 
+def _is_constant(expression: Any) -> bool:
+    """Whether an expression has no column in it."""
+    if not _is_leaf(expression):
+        return all(map(_is_constant, expression[1:]))
+    return not isinstance(expression, _Part) and not (isinstance(expression, dict) and "col" in expression)
+
+
 class _Writer:
     """Writes the subqueries of one plan. In each, `frame` is the frame before, and `other` the right side of a join."""
 
-    def __init__(self, dialect: _Dialect, tables: Sequence[str], sources: Sequence[Dict[str, Any]]) -> None:
+    def __init__(self, dialect: Dialect, sources: Sequence[Dict[str, Any]], tables: Sequence[Table]) -> None:
         self.dialect = dialect
         self.sources = sources
-        self.tables = [dialect.identifier(table) for table in tables]
-        self.taken = {dialect.fold(table) for table in tables}
-        self.row_name = _row_column(sources)
+        self.tables = [dialect.table(table) for table in tables]
+        self.taken = {dialect.fold(names_of_table(table)[-1]) for table in tables}
+        self.row_name = row_column(sources)
         self.row = dialect.identifier(self.row_name)
-        self.subqueries: List[str] = []
+        self.subqueries: List[Tuple[str, str]] = []
         for source in sources:
             self.require_table(source)
 
@@ -268,46 +196,58 @@ class _Writer:
 
     # -- subqueries
 
-    def identifiers(self, names: Sequence[str]) -> List[str]:
-        """An identifier for each name: the name itself, or else one like it that stands for no other."""
-        taken, identifiers = {self.dialect.fold(self.row_name)}, []
-        for name in names:
-            base = name if name and not re.search(self.dialect.no_name, name) else "column"
-            unique, number = base, 2
-            while self.dialect.fold(unique) in taken:
-                unique, number = f"{base}_{number}", number + 1
-            taken.add(self.dialect.fold(unique))
-            identifiers.append(self.dialect.identifier(unique))
-        return identifiers
+    def identifier(self, name: str, taken: Set[str]) -> str:
+        """An identifier for a name: the name itself, or else one like it, that is not taken. Then it is."""
+        base = self.dialect.cut(name)
+        if not base or not self.dialect.may_have(base):
+            base = "column"
+        identifier, number = self.dialect.identifier(base), 2
+        while self.dialect.fold(identifier) in taken:
+            identifier, number = self.dialect.identifier(self.dialect.cut(base, f"_{number}")), number + 1
+        taken.add(self.dialect.fold(identifier))
+        return identifier
 
-    def subquery(self, name: str, row: str, outputs: Sequence[_Output], rest: str) -> _Frame:
-        """Adds a subquery that gives these outputs, and the number of the row, from what `rest` says."""
+    def start(self) -> _Frame:
+        """The frame of the main source, which is its table."""
+        columns = [_Column(name, kind, self.dialect.identifier(name)) for name, kind in self.sources[-1]["columns"]]
+        return _Frame(self.tables[-1], columns, [_Column(self.row_name, "int", self.row)], is_table=True)
+
+    def subquery(
+        self, name: str, frame: _Frame, outputs: Sequence[_Output], rest: str = "", order: Optional[Sequence[_Output]] = None,
+    ) -> _Frame:
+        """Adds a subquery that gives these outputs of a frame, in its order or another. `rest` stands after the name of the frame."""
+        order = _as_they_are(frame.order) if order is None else order
+        items: List[str] = []
+        taken: Set[str] = set()
+        said = ([], [])
+        if not frame.is_table and _begins(order, frame.order) and _begins(outputs, frame.columns):
+            items, said = ["frame.*"], (frame.order, frame.columns)
+            taken = {self.dialect.fold(column.identifier) for columns in said for column in columns}
+        order_after = self.named(order, said[0], taken, items)
+        columns = self.named(outputs, said[1], taken, items)
         while self.dialect.fold(name) in self.taken:
             name += "_"
         self.taken.add(self.dialect.fold(name))
-        identifiers = self.identifiers([output.name for output in outputs])
-        items = [f"{row} AS {self.row}"]
-        items += [f"{output.text} AS {identifier}" for output, identifier in zip(outputs, identifiers)]
         identifier = self.dialect.identifier(name)
-        lines = ",\n    ".join(items)
-        self.subqueries.append(f"{identifier} AS {self.dialect.kept}(\n  SELECT\n    {lines}\n  {rest}\n)")
-        columns = [_Column(output.name, output.kind, inner) for output, inner in zip(outputs, identifiers)]
-        return _Frame(identifier, columns)
+        self.subqueries.append((identifier, f"{_selected(items, '  ')}\n  FROM {frame.identifier} AS frame{rest}"))
+        return _Frame(identifier, columns, order_after, is_table=False)
 
-    def start(self) -> _Frame:
-        """The frame of the main source."""
-        outputs = [_Output(name, kind, f"frame.{self.dialect.identifier(name)}") for name, kind in self.sources[-1]["columns"]]
-        return self.subquery("start", f"frame.{self.row}", outputs, f"FROM {self.tables[-1]} AS frame")
+    def named(self, outputs: Sequence[_Output], said: Sequence[_Column], taken: Set[str], items: List[str]) -> List[_Column]:
+        """The columns that outputs become. Those after the ones that are said already are added to `items`, and get an identifier."""
+        columns = list(said)
+        for output in outputs[len(said):]:
+            identifier = self.identifier(output.name, taken)
+            items.append(output.text if output.text == f"frame.{identifier}" else f"{output.text} AS {identifier}")
+            columns.append(_Column(output.name, output.kind, identifier))
+        return columns
 
     def query(self, frame: _Frame) -> str:
-        """The whole query, which ends in this frame."""
+        """The whole query, which ends in this frame. It computes the columns of the last subquery once, so that one is not kept."""
+        parts = [f"{identifier} AS {self.dialect.kept}(\n  {body}\n)" for identifier, body in self.subqueries[:-1]]
+        parts += [f"{identifier} AS (\n  {body}\n)" for identifier, body in self.subqueries[-1:]]
+        chain = "WITH " + ",\n".join(parts) + "\n" if parts else ""
         items = [f"frame.{column.identifier} AS {self.dialect.identifier(column.name)}" for column in frame.columns]
-        chain, lines = ",\n".join(self.subqueries), ",\n  ".join(items)
-        return f"WITH {chain}\nSELECT\n  {lines}\nFROM {frame.identifier} AS frame\nORDER BY frame.{self.row}\n"
-
-    def outputs_of(self, frame: _Frame) -> List[_Output]:
-        """The columns of a frame as they are."""
-        return [_Output(column.name, column.kind, f"frame.{column.identifier}") for column in frame.columns]
+        return f"{chain}{_selected(items, '')}\nFROM {frame.identifier} AS frame\nORDER BY {_listed(frame.order)}\n"
 
     # -- steps
 
@@ -328,74 +268,102 @@ class _Writer:
         before, (condition,) = self.values(frame, name, [("", predicate)])
         if condition.kind != "bool":
             raise ValueError("the predicate of a filter is not a truth value")
-        rest = f"FROM {before.identifier} AS frame\n  WHERE {condition.text}"
-        return self.subquery(name, f"frame.{self.row}", self.outputs_of(frame), rest)
+        outputs = _as_they_are(before.columns[: len(frame.columns)])
+        return self.subquery(name, before, outputs, f"\n  WHERE {condition.text}")
 
     def with_columns(self, frame: _Frame, name: str, outputs: Sequence[Any]) -> _Frame:
         before, values = self.values(frame, name, outputs)
-        after = {output.name: output for output in self.outputs_of(frame)}
+        after = {output.name: output for output in _as_they_are(before.columns[: len(frame.columns)])}
         if values:
             _require_names([value.name for value in values])
         after.update({value.name: value for value in values})
-        return self.subquery(name, f"frame.{self.row}", list(after.values()), f"FROM {before.identifier} AS frame")
+        return self.subquery(name, before, list(after.values()))
 
     def select(self, frame: _Frame, name: str, outputs: Sequence[Any]) -> _Frame:
         before, values = self.values(frame, name, outputs)
-        return self.subquery(name, f"frame.{self.row}", values, f"FROM {before.identifier} AS frame")
+        return self.subquery(name, before, values)
 
     def join(self, frame: _Frame, name: str, join: Dict[str, Any]) -> _Frame:
         source, on, how = join["source"], join["on"], join["how"]
         if not 0 <= source < len(self.sources) - 1:
             raise ValueError(f"no such source: {source}")
         _require_names(on)
-        right = dict(self.sources[source]["columns"])
-        match = " AND ".join(self.key_match(frame, right, key, join.get("nulls_equal", False)) for key in on)
-        table = f"{self.tables[source]} AS other"
+        right, nulls_equal = dict(self.sources[source]["columns"]), join.get("nulls_equal", False)
+        for key in on:
+            if right.get(key) != frame.column(key).kind:
+                raise ValueError(f"the right side has no column {key!r} of kind {frame.column(key).kind}")
+        pairs = [(frame.column(key), self.dialect.identifier(key)) for key in on]
         if how in ("semi", "anti"):
-            word = "EXISTS" if how == "semi" else "NOT EXISTS"
-            rest = f"FROM {frame.identifier} AS frame\n  WHERE {word} (SELECT 1 FROM {table} WHERE {match})"
-            return self.subquery(name, f"frame.{self.row}", self.outputs_of(frame), rest)
+            return self.subquery(name, frame, _as_they_are(frame.columns), self.test(self.tables[source], pairs, how, nulls_equal))
         if how not in ("inner", "left"):
             raise ValueError(f"no such join: {how!r}")
         left_names = {column.name for column in frame.columns}
-        outputs = self.outputs_of(frame)
+        outputs = _as_they_are(frame.columns)
         for column, kind in right.items():
             if column not in on:
                 after = f"{column}_right" if column in left_names else column
                 outputs.append(_Output(after, kind, f"other.{self.dialect.identifier(column)}"))
-        row = f"ROW_NUMBER() OVER (ORDER BY frame.{self.row}, other.{self.row})"
-        rest = f"FROM {frame.identifier} AS frame\n  {how.upper()} JOIN {table} ON {match}"
-        return self.subquery(name, row, outputs, rest)
+        order = [*_as_they_are(frame.order), _Output(self.row_name, "int", f"other.{self.row}")]
+        rest = f"\n  {how.upper()} JOIN {self.tables[source]} AS other ON {self.match(pairs, nulls_equal)}"
+        return self.subquery(name, frame, outputs, rest, order)
 
-    def key_match(self, frame: _Frame, right: Dict[str, str], key: str, nulls_equal: bool) -> str:
-        """Whether the keys of two rows match."""
-        column = frame.column(key)
-        if right.get(key) != column.kind:
-            raise ValueError(f"the right side has no column {key!r} of kind {column.kind}")
-        operator = self.dialect.same if nulls_equal else "="
-        return f"{self.compared(f'frame.{column.identifier}', column.kind)} {operator} other.{self.dialect.identifier(key)}"
+    def test(self, table: str, pairs: Sequence[Tuple[_Column, str]], how: str, nulls_equal: bool) -> str:
+        """What stands after a frame to keep its rows that have a match, or those that have none.
+
+        The keys of the table are joined, each once, so that no row matches twice. By EXISTS, SQLite goes over the table for each row.
+        """
+        taken: Set[str] = set()
+        inner = [(column, self.identifier(column.name, taken)) for column, _ in pairs]
+        items = [f"{self.compared(f'other.{key}', left.kind)} AS {name}" for (left, key), (_, name) in zip(pairs, inner)]
+        match = self.match(inner, nulls_equal)
+        if how == "semi":
+            return f"\n  INNER JOIN (SELECT DISTINCT {', '.join(items)} FROM {table} AS other) AS other ON {match}"
+        found = self.identifier("found", taken)
+        distinct = f"(SELECT DISTINCT {', '.join([*items, f'1 AS {found}'])} FROM {table} AS other)"
+        return f"\n  LEFT JOIN {distinct} AS other ON {match}\n  WHERE other.{found} IS NULL"
+
+    def match(self, pairs: Sequence[Tuple[_Column, str]], nulls_equal: bool) -> str:
+        """Whether the keys of two rows match: columns of a frame, each with an identifier of the right side."""
+        return " AND ".join(self.key_match(column.kind, f"frame.{column.identifier}", f"other.{key}", nulls_equal) for column, key in pairs)
+
+    def key_match(self, kind: str, left: str, right: str, nulls_equal: bool) -> str:
+        if not nulls_equal:
+            return f"{self.compared(left, kind)} = {right}"
+        if self.dialect.hashes_same:
+            return f"{self.compared(left, kind)} {self.dialect.same} {right}"
+        value, _ = self.literal(_ANY_VALUES[kind])
+        filled = f"{self.compared(f'COALESCE({left}, {value})', kind)} = COALESCE({right}, {value})"
+        return f"{filled} AND ({left} IS NULL) = ({right} IS NULL)"
 
     def group_by(self, frame: _Frame, name: str, group: Dict[str, Any]) -> _Frame:
         _require_names(group["keys"])
-        keys = [frame.column(key) for key in group["keys"]]
-        by = ", ".join(self.compared(f"frame.{key.identifier}", key.kind) for key in keys)
-        before, ends = frame.identifier, {"first": "", "last": ""}
-        used = {aggregate[1] for aggregate in group["aggs"]} & set(ends)
-        if used:
-            before, ends = self.with_ends(frame, f"{name}_ends", by)
-        outputs = [_Output(key.name, key.kind, f"frame.{key.identifier}") for key in keys]
-        outputs += [self.aggregate(frame, aggregate, ends) for aggregate in group["aggs"]]
-        return self.subquery(name, f"MIN(frame.{self.row})", outputs, f"FROM {before} AS frame\n  GROUP BY {by}")
+        functions = {aggregate[1] for aggregate in group["aggs"]}
+        # (the least values of several columns of order may stand in different rows)
+        needs = {"first": "first" in functions or len(frame.order) > 1, "last": "last" in functions}
+        before, ends = self.with_ends(frame, f"{name}_ends", group["keys"], [end for end in needs if needs[end]])
+        keys = self.keys(before, group["keys"])
+        outputs = [_Output(key, before.column(key).kind, text) for key, text in zip(group["keys"], keys)]
+        outputs += [self.aggregate(before, aggregate, ends) for aggregate in group["aggs"]]
+        order = _as_they_are(before.order)
+        if len(order) > 1:
+            order = [place._replace(text=_in_row_1(ends["first"], place.text)) for place in order]
+        order = [place._replace(text=f"MIN({place.text})") for place in order]
+        return self.subquery(name, before, outputs, f"\n  GROUP BY {', '.join(keys)}", order)
 
-    def with_ends(self, frame: _Frame, name: str, by: str) -> Tuple[str, Dict[str, str]]:
-        """Adds a subquery in which each row has its number in its group, from the front and from the back."""
-        outputs = self.outputs_of(frame)
-        for order in ("", " DESC"):
-            number = f"ROW_NUMBER() OVER (PARTITION BY {by} ORDER BY frame.{self.row}{order})"
-            outputs.append(_Output("from_last" if order else "from_first", "int", number))
-        after = self.subquery(name, f"frame.{self.row}", outputs, f"FROM {frame.identifier} AS frame")
-        front, back = after.columns[-2:]
-        return after.identifier, {"first": f"frame.{front.identifier}", "last": f"frame.{back.identifier}"}
+    def keys(self, frame: _Frame, names: Sequence[str]) -> List[str]:
+        """Columns by which rows are grouped."""
+        return [self.compared(f"frame.{column.identifier}", column.kind) for column in map(frame.column, names)]
+
+    def with_ends(self, frame: _Frame, name: str, keys: Sequence[str], ends: Sequence[str]) -> Tuple[_Frame, Dict[str, str]]:
+        """A frame in which each row has its number in its group, counted from these ends of it; and the columns with the numbers."""
+        if not ends:
+            return frame, {}
+        by, outputs = ", ".join(self.keys(frame, keys)), _as_they_are(frame.columns)
+        for end in ends:
+            order = _listed(frame.order, "" if end == "first" else " DESC")
+            outputs.append(_Output(f"from_{end}", "int", f"ROW_NUMBER() OVER (PARTITION BY {by} ORDER BY {order})"))
+        after = self.subquery(name, frame, outputs)
+        return after, {end: f"frame.{number.identifier}" for end, number in zip(ends, after.columns[len(frame.columns):])}
 
     def aggregate(self, frame: _Frame, aggregate: Sequence[str], ends: Dict[str, str]) -> _Output:
         """An aggregate of a group. `ends` has the columns that number a group's rows from its ends."""
@@ -403,34 +371,46 @@ class _Writer:
         if function == "len":
             return _Output(name, "int", "COUNT(*)")
         column = frame.column(aggregate[2])
+        if function in ends:
+            return _Output(name, column.kind, self.end_of_group(column, ends[function]))
         value = f"frame.{column.identifier}"
         compared = self.compared(value, column.kind)
         if function == "sum" and column.kind != "int":
             raise ValueError(f"no sum of a column of kind {column.kind}")
+        least, greatest = self.least_and_greatest(column.kind)
         texts = {
             "count": f"COUNT({value})",
             "sum": f"COALESCE({self.dialect.total(value, '')}, {self.dialect.whole(0)})",
-            "min": f"MIN({compared})",
-            "max": f"MAX({compared})",
+            "min": f"{least}({compared})",
+            "max": f"{greatest}({compared})",
             "n_unique": f"COUNT(DISTINCT {compared}) + MAX(CASE WHEN {value} IS NULL THEN 1 ELSE 0 END)",
-            "first": f"MAX(CASE WHEN {ends['first']} = 1 THEN {value} END)",
-            "last": f"MAX(CASE WHEN {ends['last']} = 1 THEN {value} END)",
         }
         if function not in texts:
             raise ValueError(f"no such aggregate: {function!r}")
         return _Output(name, "int" if function in ("count", "sum", "n_unique") else column.kind, texts[function])
 
+    def end_of_group(self, column: _Column, number: str) -> str:
+        """The value of a column in the row of a group that has the number 1."""
+        _, greatest = self.least_and_greatest(column.kind)
+        return f"{greatest}({_in_row_1(number, self.compared(f'frame.{column.identifier}', column.kind))})"
+
+    def least_and_greatest(self, kind: str) -> Tuple[str, str]:
+        """The aggregates that give the least and the greatest value of a kind."""
+        return self.dialect.least_and_greatest_truth if kind == "bool" else ("MIN", "MAX")
+
     def rolling_sum(self, frame: _Frame, name: str, rolling: Dict[str, Any]) -> _Frame:
+        """The step that needs all rows at one place, so it numbers them anew if more than one column gives their order."""
         column, window = frame.column(rolling["column"]), rolling["window"]
         samples = rolling.get("min_samples", window)
         if column.kind != "int" or not 1 <= samples <= window:
             raise ValueError(f"no such rolling sum: {rolling!r}")
-        value = f"frame.{column.identifier}"
-        over = f" OVER (ORDER BY frame.{self.row} ROWS BETWEEN {window - 1} PRECEDING AND CURRENT ROW)"
-        text = f"CASE WHEN COUNT({value}){over} >= {samples} THEN {self.dialect.total(value, over)} END"
-        after = {output.name: output for output in self.outputs_of(frame)}
+        value, by = f"frame.{column.identifier}", f"ORDER BY {_listed(frame.order)}"
+        text = f"CASE WHEN COUNT({value}) OVER recent >= {samples} THEN {self.dialect.total(value, ' OVER recent')} END"
+        after = {output.name: output for output in _as_they_are(frame.columns)}
         after[rolling["name"]] = _Output(rolling["name"], "int", text)
-        return self.subquery(name, f"frame.{self.row}", list(after.values()), f"FROM {frame.identifier} AS frame")
+        rest = f"\n  WINDOW recent AS ({by} ROWS BETWEEN {window - 1} PRECEDING AND CURRENT ROW)"
+        order = [_Output(self.row_name, "int", f"ROW_NUMBER() OVER ({by})")] if len(frame.order) > 1 else None
+        return self.subquery(name, frame, list(after.values()), rest, order)
 
     # -- expressions
 
@@ -445,8 +425,7 @@ class _Writer:
             expressions = [self.cut(frame, expression, parts)[0] for expression in expressions]
             if not parts:
                 break
-            rest = f"FROM {frame.identifier} AS frame"
-            frame = self.subquery(f"{name}_parts{number}", f"frame.{self.row}", [*self.outputs_of(frame), *parts], rest)
+            frame = self.subquery(f"{name}_parts{number}", frame, [*_as_they_are(frame.columns), *parts])
             number += 1
         values = []
         for output, expression in zip(names, expressions):
@@ -473,38 +452,50 @@ class _Writer:
         """A part of an expression as a column of its own, after those of the frame and the parts so far."""
         text, kind = self.expression(frame, expression)
         parts.append(_Output("part", kind, text))
-        names = [column.name for column in frame.columns] + [part.name for part in parts]
-        return _Part(f"frame.{self.identifiers(names)[-1]}", kind)
+        return _Part(len(frame.columns) + len(parts) - 1, kind)
 
     def expression(self, frame: _Frame, expression: Any) -> Tuple[str, str]:
         """The SQL of an expression on `frame`, and its kind."""
         if isinstance(expression, _Part):
-            return expression.text, expression.kind
+            return f"frame.{frame.columns[expression.place].identifier}", expression.kind
         if isinstance(expression, dict):
             word, value = _member(expression)
             if word == "null" and value in _KINDS:
-                return f"CAST(NULL AS {self.dialect.types[value]})", value
+                return self.null(value), value
             if word != "col":
                 raise ValueError(f"not an expression: {expression!r}")
             column = frame.column(value)
             return f"frame.{column.identifier}", column.kind
         if isinstance(expression, list) and len(expression) == 2:
-            return self.unary(expression[0], *self.expression(frame, expression[1]))
+            operand, kind = self.expression(frame, expression[1])
+            return self.unary(expression[0], self.late(frame, operand, expression), kind)
         if isinstance(expression, list) and len(expression) == 3:
             (left, kind), (right, right_kind) = (self.expression(frame, operand) for operand in expression[1:])
             if kind != right_kind:
                 raise ValueError(f"{expression[0]} of {kind} and {right_kind}")
+            left = self.late(frame, left, expression)
+            if expression[0] in _DIVISIONS and kind == "int" and isinstance(expression[2], int):
+                return self.division_by_literal(expression[0], left, expression[2]), kind
             return self.binary(expression[0], left, right, kind)
         return self.literal(expression)
+
+    def late(self, frame: _Frame, operand: str, expression: Any) -> str:
+        """The first operand of an expression, such that an engine does not fault at it where there is no row to compute it for."""
+        if self.dialect.computes_early and expression[0] in _MAY_OVERFLOW and _is_constant(expression):
+            return f"({operand} + 0 * frame.{frame.order[0].identifier})"
+        return operand
 
     def literal(self, value: Any) -> Tuple[str, str]:
         if isinstance(value, bool):
             return self.dialect.truths[value], "bool"
         if isinstance(value, str):
             return self.dialect.text(value), "text"
-        if isinstance(value, int) and _LEAST <= value <= _GREATEST:
+        if isinstance(value, int) and LEAST <= value <= GREATEST:
             return self.dialect.whole(value), "int"
         raise ValueError(f"not an expression: {value!r}")
+
+    def null(self, kind: str) -> str:
+        return f"CAST(NULL AS {self.dialect.types[kind]})"
 
     def unary(self, operator: str, operand: str, kind: str) -> Tuple[str, str]:
         if operator in _NULL_TESTS:
@@ -545,3 +536,16 @@ class _Writer:
             return f"(CASE WHEN {differs} THEN {rest} + {right} ELSE {rest} END)"
         quotient = f"(({left} - {rest}) {self.dialect.quotient} NULLIF({right}, 0))"
         return f"({quotient} - CASE WHEN {differs} THEN 1 ELSE 0 END)"
+
+    def division_by_literal(self, operator: str, left: str, divisor: int) -> str:
+        """A quotient by a number that the plan says, or its rest."""
+        if divisor == 0:
+            return self.null("int")
+        if divisor == -1:
+            return f"(- {left})" if operator == "floordiv" else f"({left} % 1)"
+        right = self.dialect.whole(divisor)
+        rest = f"{left} % {right}"
+        differs = f"CAST({rest} {'<' if divisor > 0 else '>'} 0 AS INTEGER)"
+        if operator == "mod":
+            return f"({rest} + {right} * {differs})"
+        return f"((({left} - {rest}) {self.dialect.quotient} {right}) - {differs})"
