@@ -4,12 +4,14 @@ import os
 from typing import Any, Iterable, List, Mapping, NamedTuple, NoReturn, Optional, Sequence, Tuple, Union
 
 from . import _program
+from ._dialects import Table
 from ._expressions import FUNCTIONS, TOO_DEEP, Expr, Node
 from ._expressions import columns_of, expanded, flat, has, kind_of, name_of, named, parts, plain_names, replaced, written
 from ._faults import DuplicateError, NoColumnError, UnsupportedError, WrongKindError
 from ._kinds import AnyKind, Kind, Schema, schema_of
 from ._results import DataFrame
 from ._sql import sql
+from ._sql_setup import sql_setup
 
 Path = Union[str, "os.PathLike[str]"]
 Output = Tuple[str, Node]
@@ -320,14 +322,18 @@ class LazyFrame:
         """The files, in the order in which the plan takes them."""
         return [file for source in (*self._rights, self._main) for file in source.files]
 
-    def sql(self, dialect: str = "sqlite", tables: Optional[Sequence[str]] = None) -> str:
-        """The plan as one SQL query over a table for each source, in the dialect of "sqlite", "duckdb" or "spark".
+    def sql(self, dialect: str = "sqlite", tables: Optional[Sequence[Table]] = None) -> str:
+        """The plan as one SQL query over a table for each source, in the dialect of "sqlite", "postgres", "duckdb" or "spark".
 
-        The tables are source0, source1 and so on, or those named, in the order of the plan's sources. Each has the columns of its
-        source, and a column `row` that numbers its rows in the order of the files. The query gives the rows of the plan, in order, where
-        no value leaves 64 bits.
+        The tables are source0, source1 and so on, or those named, in the order of the plan's sources; ("reports", "sales") is the table
+        sales in the schema reports. Each has the columns of its source, and a column `row` that numbers its rows in the order of the
+        files. The query gives the rows of the plan, in order, where no value leaves 64 bits.
         """
         return sql(self.plan(), dialect, tables)
+
+    def sql_setup(self, dialect: str = "postgres", tables: Optional[Sequence[Table]] = None, *, program: Path = "frameq") -> str:
+        """A script of psql, for PostgreSQL, that makes these tables from the plan's files: the program reads each of them, as in a run."""
+        return sql_setup(self.plan(), self.files(), dialect, tables, program)
 
     def explain(self, *, program: Optional[Path] = None) -> str:
         """What the program says of the plan: the columns after each step, and where it runs."""

@@ -89,11 +89,11 @@ class Server:
             self.process.wait(MOST_SECONDS)
         shutil.rmtree(self.room)
 
-    def psql(self, script, *words, **environment):
-        """Runs a script by psql."""
+    def psql(self, script, *words, folder=None):
+        """Runs a script by psql, in a folder."""
         return subprocess.run(
-            [os.path.join(self.programs, "psql"), "-X", "-q", "-v", "VERBOSITY=terse", *words], input=script, check=False,
-            stdout=subprocess.PIPE, stderr=subprocess.PIPE, env={**self.environment, **environment},
+            [os.path.join(self.programs, "psql"), "-X", "-q", "-v", "VERBOSITY=terse", *words], input=script, check=False, cwd=folder,
+            stdout=subprocess.PIPE, stderr=subprocess.PIPE, env=self.environment,
         )
 
 

@@ -9,22 +9,27 @@ import json
 import os
 import re
 import sys
+import tempfile
 import unittest
 from collections import Counter
 from unittest import mock
 
-import repository  # noqa: F401
+from repository import ROOT, program
 
 from frameq._sql import sql
+from frameq._sql_setup import sql_setup
 
 import cases
 import oracle
 from postgres import start_server
 from sql_by_hand import ByHand
-from sql_cases import A_B, GREATEST, LEAST, column, plan_of, quoted, random_cases, row_name
+from sql_cases import A_B, GREATEST, LEAST, SEED, as_text, column, plan_of, quoted, random_cases, row_name
 
 # Random cases are drawn until frameq has given so many frames.
 FRAMES = int(os.environ.get("FRAMES", "2000"))
+
+# For so many random cases the files are loaded.
+SETUPS = 100
 
 TYPES = {"int": "BIGINT", "text": "TEXT", "bool": "BOOLEAN"}
 COLLATIONS = ["", " COLLATE no_case", " COLLATE german", ' COLLATE "C"']
@@ -222,6 +227,139 @@ def unbounded(given):
     """The rows of a case if numbers had no bounds: where no value leaves 64 bits, those that it has."""
     with mock.patch.object(oracle, "fits", lambda number: True):
         return oracle.meaning(given.plan, given.sources, given.along, given.case.files)
+
+
+# ---- scripts that load files
+
+class Setup(OnPostgres):
+    """The script that makes the tables of a plan, in a schema of its own."""
+
+    def setUp(self):
+        self.program = program()
+        self.psql(b"DROP SCHEMA IF EXISTS loaded CASCADE; CREATE SCHEMA loaded;")
+        search = mock.patch.dict(server.environment, PGOPTIONS=f"{server.environment['PGOPTIONS']} -c search_path=loaded")
+        search.start()
+        self.addCleanup(search.stop)
+        folder = tempfile.TemporaryDirectory(prefix="it's a ~")
+        self.addCleanup(folder.cleanup)
+        self.folder = folder.name
+
+    def psql(self, script, *words):
+        """What a script prints that succeeds."""
+        ran = server.psql(script, *words)
+        self.assertEqual((ran.returncode, ran.stderr), (0, b""))
+        return ran.stdout.decode()
+
+    def load(self, plan, files, **how):
+        """Runs the script of a plan over files with odd names."""
+        names = [f"-f'{number} \\x ~.csv" for number in range(len(files))]
+        for name, data in zip(names, files):
+            with open(os.path.join(self.folder, name), "wb") as file:
+                file.write(data)
+        script = sql_setup(plan, names, program=self.program, **how)
+        return server.psql(script.encode(), folder=self.folder)
+
+    def check_refused(self, message, plan, files):
+        """A script that ends in an error, and makes no table."""
+        ran = self.load(plan, files)
+        self.assertEqual((ran.returncode, ran.stdout), (3, b""))
+        self.assertIn(message, ran.stderr.decode())
+        self.assertEqual(self.psql(b"SELECT COUNT(*) FROM pg_tables WHERE schemaname = 'loaded'", "-At"), "0\n")
+
+    def table(self, table, columns, row="row"):
+        """The rows of a table with these columns, in order, after their numbers. Then the table is gone."""
+        listed = ", ".join(map(quoted, [row, *columns]))
+        query = f"SELECT {listed} FROM {table} ORDER BY {quoted(row)}; DROP TABLE {table};"
+        names, rows = names_and_rows(self.psql(query.encode(), "--csv", f"--pset=null={NULL}"))
+        self.assertEqual(names, [row, *columns])
+        return cells(["int", *columns.values()], rows)
+
+    def test_a_table_has_the_rows_that_a_run_reads(self):
+        columns = [["it's; --", "text"], ['say "so" \\', "int"], ["p:q", "bool"], ["row", "text"]]
+        plan = {"version": 2, "sources": [{"files": 2, "columns": columns, "null_values": ["NA", "it's"]}], "steps": []}
+        header = b'\xef\xbb\xbfit\'s; --,"say ""so"" \\",p:q,row\r\n'
+        first = header + b'"a,""b""\nc",+007,TRUE,"12""x"\r\n\r\nNA,NA,NA,NA\r\n"",,,""\r\n'
+        self.assertEqual(self.load(plan, [first, header + "é,-9223372036854775808,false,it's".encode()]).stderr, b"")
+        self.assertEqual(self.table("source0", dict(columns), "row_"), [
+            (1, 'a,"b"\nc', 7, True, '12"x'), (2, None, None, None, None), (3, None, None, None, None), (4, "é", LEAST, False, None),
+        ])
+
+    def test_a_line_that_psql_would_take_for_the_end(self):
+        texts = ["\\.", "a\n\\.\nb", 'a"\n\\.\n"b', "a\r\n\\.\r\nb", "\\.\n\\.", "\n\\.\n\\.\n", "\\.x", "\\.,\n", "\\", ".", "x\\."]
+        columns = {"t": "text"}
+        file = oracle.printed(columns, [{"t": text.encode()} for text in [*texts, "end"]])
+        self.assertEqual(self.load(plan_of([[["t", "text"]]]), [file]).stderr, b"")
+        self.assertEqual(self.table("source0", columns), list(enumerate([*texts, "end"], 1)))
+        columns = {"t": "text", "u": "text"}
+        rows = [{"t": first.encode(), "u": second and second.encode()} for first in texts for second in [*texts, None]]
+        self.assertEqual(self.load(plan_of([list(columns.items())]), [oracle.printed(columns, rows)], tables=["two"]).stderr, b"")
+        self.assertEqual(self.table("two", columns), [(number, *map(as_text, row.values())) for number, row in enumerate(rows, 1)])
+
+    def test_what_ends_in_an_error(self):
+        plan = plan_of([[["t", "text"]], [["a", "int"], ["t", "text"]]])
+        good = b"a,t\n1,x\n"
+        self.check_refused("row 2, column 0: bad cell", plan, [b"t\nx\n", good + b"1.5,y\n"])
+        self.check_refused("file 0: header differs", plan, [b"u\nx\n", good])
+        self.check_refused("wrong number of fields", plan, [b"t\nx\n", good + b"1,2,3\n"])
+        self.check_refused("header differs", plan, [b"", good])
+        for text in (b"x\0", b"x\0y", b"\0"):
+            self.check_refused("invalid byte sequence", plan, [b"t\n" + text, good])
+            self.check_refused("invalid byte sequence", plan, [b"t\nx\n", good + b"2," + text + b"\n3,z"])
+        self.program = "no such program"
+        self.check_refused("not found", plan, [b"t\nx\n", good])
+
+    def test_a_program_that_is_killed_while_it_prints(self):
+        for printed in ("t\nx\n", "t\nx", 't\n"x', 't\n"x"', 't\n"x""', 't\n"x\n'):
+            self.program = os.path.join(self.folder, "killed")
+            with open(self.program, "w", encoding="utf-8") as file:
+                file.write(f"#!/bin/sh\ncat > /dev/null; printf %s '{printed}'; kill -9 $$\n")
+            os.chmod(self.program, 0o755)
+            with self.subTest(printed=printed):
+                self.check_refused("", plan_of([[["t", "text"]]]), [b"t\nx\n"])
+
+    def test_tables_with_names(self):
+        plan = plan_of([[["a", "int"]], [["a", "int"]]], {"join": {"source": 0, "on": ["a"], "how": "anti"}})
+        tables = [("loaded", "the: 'first' \\ %s"), ["loaded", "se.cond"]]
+        self.assertEqual(self.load(plan, [b"a\n1\n2\n", b"a\n3\n1\n4\n"], tables=tables).stderr, b"")
+        self.assertEqual(self.psql(sql(plan, "postgres", tables).encode() + b";", "--csv"), "a\n3\n4\n")
+        self.assertIn(b"already exists", self.load(plan, [b"a\n1\n", b"a\n"], tables=tables).stderr)
+
+    def test_the_first_report(self):
+        folder = os.path.join(ROOT, "examples", "monthly_sales")
+        with open(os.path.join(folder, "plan.json"), encoding="utf-8") as file:
+            plan = json.load(file)
+        script = sql_setup(plan, ["january.csv", "february.csv", "march.csv"], program=self.program)
+        self.assertEqual(server.psql(script.encode(), folder=folder).stderr, b"")
+        with open(os.path.join(folder, "expected"), encoding="utf-8") as file:
+            self.assertEqual(self.psql(sql(plan, "postgres").encode(), "--csv"), file.read())
+
+    def test_random_files(self):
+        count = Counter()
+        with mock.patch.object(cases, "NAMES", [name or INSTEAD_OF_EMPTY for name in cases.NAMES]):
+            for number in range(SETUPS):
+                count[self.loaded(cases.case(SEED, number))] += 1
+        self.assertGreater(count["loaded"], SETUPS // 3)
+        self.assertGreater(count["refused"], SETUPS // 20)
+
+    def loaded(self, case):
+        """Whether the files of a case were loaded, and are what they are read as; or refused, as a run refuses them; or have no plan."""
+        try:
+            plan = oracle.read_plan(case.plan)
+            sources, _ = oracle.check(plan)
+        except oracle.Ending:
+            return "no plan"
+        if oracle.files_wanted(plan) != len(case.files):
+            return "no plan"
+        streams = oracle.streams_of_sources(plan, sources, case.files)
+        ran = self.load(json.loads(case.plan), case.files)
+        if any(stream.fault for stream in streams):
+            self.assertEqual(ran.returncode, 3, case.plan)
+            return "refused"
+        self.assertEqual((ran.returncode, ran.stderr), (0, b""), case.plan)
+        for place, (columns, stream) in enumerate(zip(sources, streams)):
+            rows = [(number, *map(as_text, row.values())) for number, row in enumerate(stream.rows, 1)]
+            self.assertEqual(self.table(f"source{place}", columns, row_name(sources)), rows)
+        return "loaded"
 
 
 if __name__ == "__main__":

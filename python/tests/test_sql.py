@@ -9,6 +9,7 @@ import unittest
 import repository  # noqa: F401
 
 from frameq._sql import sql
+from frameq._sql_setup import sql_setup
 
 import oracle
 from sql_by_hand import ByHand
@@ -89,7 +90,7 @@ class ByHandOnSqlite(ByHand, OnSqlite):
 
 
 class Refused(unittest.TestCase):
-    """What has no query."""
+    """What has no query, and no script."""
 
     def refused(self, message, plan, *arguments):
         with self.assertRaisesRegex(ValueError, message):
@@ -130,6 +131,19 @@ class Refused(unittest.TestCase):
         ]:
             with self.subTest(step=step):
                 self.refused("", plan_of([A_B], step))
+
+
+    def test_scripts_that_load_files(self):
+        plan = plan_of([A_B])
+        for message, arguments in [
+            ("from Python", (plan, ["a.csv"], "sqlite")), ("was ever run", (plan, ["a.csv"], "duckdb")), ("no order", (plan, ["a.csv"], "spark")),
+            ("no such dialect", (plan, ["a.csv"], "oracle")), ("there are names for 2", (plan, ["a.csv", "b.csv"])),
+            ("standard input", (plan, ["-"])), ("one line", (plan, ["a\nb.csv"])),
+            ("of its own", (plan_of([A_B, A_B]), ["a.csv", "b.csv"], "postgres", ["s", "s"])),
+            ("by itself", (plan_of([[["ctid", "int"]]]), ["a.csv"])),
+        ]:
+            with self.subTest(message=message), self.assertRaisesRegex(ValueError, message):
+                sql_setup(*arguments)
 
 
 class OtherDialects(unittest.TestCase):
