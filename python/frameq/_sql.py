@@ -340,7 +340,10 @@ class _Writer:
         functions = {aggregate[1] for aggregate in group["aggs"]}
         # (the least values of several columns of order may stand in different rows)
         needs = {"first": "first" in functions or len(frame.order) > 1, "last": "last" in functions}
-        before, ends = self.with_ends(frame, f"{name}_ends", group["keys"], [end for end in needs if needs[end]])
+        before, ends = frame, {}
+        if any(needs.values()):
+            read = {*group["keys"], *(name for aggregate in group["aggs"] for name in aggregate[2:])}
+            before, ends = self.with_ends(frame, f"{name}_ends", group["keys"], read, [end for end in needs if needs[end]])
         keys = self.keys(before, group["keys"])
         outputs = [_Output(key, before.column(key).kind, text) for key, text in zip(group["keys"], keys)]
         outputs += [self.aggregate(before, aggregate, ends) for aggregate in group["aggs"]]
@@ -354,16 +357,18 @@ class _Writer:
         """Columns by which rows are grouped."""
         return [self.compared(f"frame.{column.identifier}", column.kind) for column in map(frame.column, names)]
 
-    def with_ends(self, frame: _Frame, name: str, keys: Sequence[str], ends: Sequence[str]) -> Tuple[_Frame, Dict[str, str]]:
-        """A frame in which each row has its number in its group, counted from these ends of it; and the columns with the numbers."""
-        if not ends:
-            return frame, {}
-        by, outputs = ", ".join(self.keys(frame, keys)), _as_they_are(frame.columns)
+    def with_ends(
+        self, frame: _Frame, name: str, keys: Sequence[str], read: Set[str], ends: Sequence[str],
+    ) -> Tuple[_Frame, Dict[str, str]]:
+        """The columns of a frame that a grouping reads, with the number of each row in its group, counted from these ends of it; and the
+        columns with the numbers."""
+        by = ", ".join(self.keys(frame, keys))
+        outputs = _as_they_are([column for column in frame.columns if column.name in read])
         for end in ends:
             order = _listed(frame.order, "" if end == "first" else " DESC")
             outputs.append(_Output(f"from_{end}", "int", f"ROW_NUMBER() OVER (PARTITION BY {by} ORDER BY {order})"))
         after = self.subquery(name, frame, outputs)
-        return after, {end: f"frame.{number.identifier}" for end, number in zip(ends, after.columns[len(frame.columns):])}
+        return after, {end: f"frame.{number.identifier}" for end, number in zip(ends, after.columns[-len(ends):])}
 
     def aggregate(self, frame: _Frame, aggregate: Sequence[str], ends: Dict[str, str]) -> _Output:
         """An aggregate of a group. `ends` has the columns that number a group's rows from its ends."""

@@ -17,7 +17,7 @@ OLDEST = 15
 # The user of the server, where the tests run as root: it refuses to.
 USER = "nobody"
 
-# What makes a short run faster, and changes no answer.
+# What makes tests faster, and changes no answer.
 SETTINGS = ["fsync=off", "full_page_writes=off", "synchronous_commit=off", "jit=off", "max_connections=10", "log_min_messages=panic"]
 
 # How long the server may take to start or stop, and a statement to run.
@@ -45,8 +45,9 @@ def server_programs():
 class Server:
     """A server that runs until `stop`."""
 
-    def __init__(self, programs):
+    def __init__(self, programs, settings=SETTINGS):
         self.programs = programs
+        self.settings = [*settings, "listen_addresses="]
         self.room = tempfile.mkdtemp(prefix="frameq-")
         self.process = None
         self.environment = {
@@ -64,7 +65,7 @@ class Server:
         data = os.path.join(self.room, "data")
         words = ["initdb", "--no-sync", "--auth=trust", "--username=frameq", "--encoding=UTF8", "--locale=C", f"--pgdata={data}"]
         self.run_program(words)
-        settings = [f"unix_socket_directories={self.room}", "listen_addresses=", *SETTINGS]
+        settings = [*self.settings, f"unix_socket_directories={self.room}"]
         words = [os.path.join(self.programs, "postgres"), "-D", data, *(word for setting in settings for word in ("-c", setting))]
         self.process = subprocess.Popen(words, cwd=self.room, stderr=subprocess.DEVNULL, **self.how)
         until = time.monotonic() + MOST_SECONDS
@@ -92,9 +93,13 @@ class Server:
     def psql(self, script, *words, folder=None):
         """Runs a script by psql, in a folder."""
         return subprocess.run(
-            [os.path.join(self.programs, "psql"), "-X", "-q", "-v", "VERBOSITY=terse", *words], input=script, check=False, cwd=folder,
-            stdout=subprocess.PIPE, stderr=subprocess.PIPE, env=self.environment,
+            [*self.psql_words(), *words], input=script, check=False, cwd=folder, stdout=subprocess.PIPE, stderr=subprocess.PIPE,
+            env=self.environment,
         )
+
+    def psql_words(self):
+        """The command that runs a script, where the server's environment is."""
+        return [os.path.join(self.programs, "psql"), "-X", "-q", "-v", "VERBOSITY=terse"]
 
 
 def start_server(add_cleanup):

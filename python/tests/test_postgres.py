@@ -32,7 +32,7 @@ FRAMES = int(os.environ.get("FRAMES", "2000"))
 SETUPS = 100
 
 TYPES = {"int": "BIGINT", "text": "TEXT", "bool": "BOOLEAN"}
-COLLATIONS = ["", " COLLATE no_case", " COLLATE german", ' COLLATE "C"']
+COLLATIONS = [" COLLATE no_case", " COLLATE german", "", ' COLLATE "C"']
 
 # Stands for a column without a name, which PostgreSQL has not.
 INSTEAD_OF_EMPTY = 'A "%s"\\'
@@ -101,7 +101,8 @@ def answers(queries):
 
 def names_and_rows(printed):
     names, *rows = csv.reader(io.StringIO(printed, newline=""))
-    return names, rows
+    # (a line is empty where the only cell is an empty text)
+    return names, [row or [""] for row in rows]
 
 
 def cells(kinds, rows):
@@ -156,6 +157,16 @@ class ByHandOnPostgres(ByHand, OnPostgres):
         steps = [{"filter": ["lt", column("a"), 10]}, {"filter": ["lt", ["mul", column("a"), column("b")], 10]}]
         self.check(plan_of([A_B], *steps), [[(2, 3), (GREATEST, 3)]], ["a", "b"], [(2, 3)])
 
+    def test_no_join_compares_each_row_with_each(self):
+        columns, rows = [["i", "int"], ["s", "text"]], [(number, str(number)) for number in range(2000)]
+        for how in ("inner", "left", "semi", "anti"):
+            for nulls_equal in (False, True):
+                with self.subTest(how=how, nulls_equal=nulls_equal):
+                    plan = plan_of([columns, columns], {"join": {"source": 0, "on": ["i", "s"], "how": how, "nulls_equal": nulls_equal}})
+                    (_, lines), = answers([(f"EXPLAIN {sql(plan, 'postgres')}", [(columns, rows)] * 2, "row")])
+                    self.assertRegex(str(lines), "Hash|Merge")
+                    self.assertNotIn("Nested Loop", str(lines))
+
     def test_long_names(self):
         first, second = "é" * 40 + "1", "é" * 40 + "2"
         plan = plan_of(
@@ -185,6 +196,8 @@ class RandomPlans(OnPostgres):
         with mock.patch.object(cases, "NAMES", names):
             for batch in random_cases():
                 batch = list(filter(is_comparable, batch))
+                count["a name that it has not"] += sum(map(has_odd_name, batch))
+                batch = list(itertools.filterfalse(has_odd_name, batch))
                 queries = [self.query(given) for given in batch]
                 for given, query, answer in zip(batch, queries, answers(queries)):
                     with self.subTest(case=given.number, plan=given.case.plan, query=query[0]):
@@ -221,6 +234,11 @@ def is_comparable(given):
     if given.answer.status == 4 and re.search(b"overflow|out of range", given.answer.error):
         return all(stream.fault is None for stream in oracle.streams_of_sources(given.plan, given.sources, given.case.files))
     return given.answer.status == 0
+
+
+def has_odd_name(given):
+    """Whether a column of a case, seldom one that a plan got by chance, has no name."""
+    return any("" in columns for columns in (*given.sources, given.along[-1]))
 
 
 def unbounded(given):
