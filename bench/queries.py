@@ -6,7 +6,8 @@
 The files and the tasks are those of bench/program.py, without the wide ones, and one more: a join, and a grouping by a column that it
 adds. SQLite and PostgreSQL have tables of them, loaded before; PostgreSQL is a server of its own, with the settings of its package. Each
 engine prints its answer as CSV into a file. In each round each of them runs once; in the first, which is not timed, all have to print the
-same rows in the same order. A line has the best seconds of each engine, and of frameq with two workers, which reads the files.
+same rows in the same order. A line has for each engine, and for frameq with two workers, which reads the files, the seconds of its best
+run, and in brackets the least that a run took of the processor, that of the server too.
 """
 import argparse
 import csv
@@ -17,6 +18,7 @@ import sqlite3
 import subprocess
 import sys
 import tempfile
+import time
 
 import program
 from program import ORDERS, PRODUCT_LABELS, ROOT, Task, make_inputs, measure
@@ -116,7 +118,7 @@ def main():
             load_postgres(server, sources, folder, frameq)
             os.environ.update(server.environment)
             for key, task in tasks.items():
-                print_task(task.name, words_of(server, frameq, folder, key, task), folder, given.runs)
+                print_task(task.name, words_of(server, frameq, folder, key, task), server, folder, given.runs)
         finally:
             server.stop()
 
@@ -127,20 +129,35 @@ def same_rows(one, other):
         return all(row == same for row, same in itertools.zip_longest(csv.reader(first), csv.reader(second)))
 
 
-def print_task(name, words, folder, runs):
+def of_sessions(server):
+    """The seconds of the processor that the sessions of a server took which have ended."""
+    with open(f"/proc/{server.process.pid}/stat", encoding="ascii") as file:
+        fields = file.read().rpartition(")")[2].split()
+    return (int(fields[13]) + int(fields[14])) / os.sysconf("SC_CLK_TCK")
+
+
+def timed(command, server, folder, output):
+    """The seconds of a run, and of the processor."""
+    before = of_sessions(server)
+    taken = measure(command, folder, output)
+    time.sleep(0.2)  # until the session has ended
+    return taken.seconds, taken.user + taken.system + of_sessions(server) - before
+
+
+def print_task(name, words, server, folder, runs):
     """Prints the line of a task."""
-    seconds = {engine: [] for engine in words}
+    rounds = {engine: [] for engine in words}
     outputs = {engine: os.path.join(folder, f"{engine}.csv") for engine in words}
+    expected = next(iter(outputs.values()))
     for number in range(runs + 1):
         for engine, command in words.items():
-            taken = measure(command, folder, outputs[engine]).seconds
-            if number:
-                seconds[engine].append(taken)
-            elif not same_rows(outputs["frameq"], outputs[engine]):
+            rounds[engine].append(timed(command, server, folder, outputs[engine]))
+            if number == 0 and not same_rows(expected, outputs[engine]):
                 sys.exit(f"{name}: {engine} has another answer")
-    with open(outputs["frameq"], "rb") as file:
+    with open(expected, "rb") as file:
         rows = sum(1 for _ in file) - 1
-    print(f"{name}: {rows} rows; " + ", ".join(f"{engine} {min(taken):.2f}" for engine, taken in seconds.items()), flush=True)
+    bests = {engine: [min(seconds) for seconds in zip(*taken[1:])] for engine, taken in rounds.items()}
+    print(f"{name}: {rows} rows; " + ", ".join(f"{engine} {best[0]:.2f} ({best[1]:.2f})" for engine, best in bests.items()), flush=True)
 
 
 if __name__ == "__main__":
