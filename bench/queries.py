@@ -92,7 +92,7 @@ def words_of(server, frameq, folder, key, task):
     return {
         "frameq": [frameq, "--plan", plan, "--workers", "2", *task.files],
         "SQLite": ["sqlite3", "-csv", "-header", "-separator", ",", "-newline", "\n", "tables.db", f".read '{queries['sqlite']}'"],
-        "PostgreSQL": [*server.psql_words(), "--csv", "-f", queries["postgres"]],
+        "PostgreSQL": [*server.psql_words(), "-v", "ON_ERROR_STOP=1", "--csv", "-f", queries["postgres"]],
     }
 
 

@@ -1,6 +1,6 @@
 """What SQLite, PostgreSQL, DuckDB and Spark spell differently in SQL."""
 import re
-from typing import Callable, Dict, NamedTuple, Optional, Sequence, Tuple, Union
+from typing import Callable, Dict, List, NamedTuple, Optional, Sequence, Tuple, Union
 
 LEAST, GREATEST = -(2**63), 2**63 - 1
 
@@ -54,9 +54,12 @@ class Dialect(NamedTuple):
         return ".".join(map(self.identifier, names_of_table(table)))
 
 
-def names_of_table(table: Table) -> Sequence[str]:
+def names_of_table(table: Table) -> List[str]:
     """The names of a table: its own is the last."""
-    return [table] if isinstance(table, str) else table
+    names = [table] if isinstance(table, str) else list(table)
+    if not names:
+        raise ValueError("a table has a name")
+    return names
 
 
 # ---- names and literals

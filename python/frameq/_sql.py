@@ -219,7 +219,7 @@ class _Writer:
         order = _as_they_are(frame.order) if order is None else order
         items: List[str] = []
         taken: Set[str] = set()
-        said = ([], [])
+        said: Tuple[Sequence[_Column], Sequence[_Column]] = ([], [])  # by `*`
         if not frame.is_table and _begins(order, frame.order) and _begins(outputs, frame.columns):
             items, said = ["frame.*"], (frame.order, frame.columns)
             taken = {self.dialect.fold(column.identifier) for columns in said for column in columns}
@@ -294,7 +294,8 @@ class _Writer:
                 raise ValueError(f"the right side has no column {key!r} of kind {frame.column(key).kind}")
         pairs = [(frame.column(key), self.dialect.identifier(key)) for key in on]
         if how in ("semi", "anti"):
-            return self.subquery(name, frame, _as_they_are(frame.columns), self.test(self.tables[source], pairs, how, nulls_equal))
+            rest = self.filtering_join(self.tables[source], pairs, how, nulls_equal)
+            return self.subquery(name, frame, _as_they_are(frame.columns), rest)
         if how not in ("inner", "left"):
             raise ValueError(f"no such join: {how!r}")
         left_names = {column.name for column in frame.columns}
@@ -307,7 +308,7 @@ class _Writer:
         rest = f"\n  {how.upper()} JOIN {self.tables[source]} AS other ON {self.match(pairs, nulls_equal)}"
         return self.subquery(name, frame, outputs, rest, order)
 
-    def test(self, table: str, pairs: Sequence[Tuple[_Column, str]], how: str, nulls_equal: bool) -> str:
+    def filtering_join(self, table: str, pairs: Sequence[Tuple[_Column, str]], how: str, nulls_equal: bool) -> str:
         """What stands after a frame to keep its rows that have a match, or those that have none.
 
         The keys of the table are joined, each once, so that no row matches twice. By EXISTS, SQLite goes over the table for each row.

@@ -249,7 +249,8 @@ class ByHand:
     def test_semi_and_anti_joins_of_texts_that_are_there_twice(self):
         columns = [["found", "text"], ["row_2", "int"]]
         right, left = [("a", 1), (None, 2), ("a", 3), ("é", 4)], [("A", 1), ("a", 2), (None, 3), ("é", 4), ("a", 5)]
-        for how, nulls_equal, places in [("semi", False, [1, 3, 4]), ("semi", True, [1, 2, 3, 4]), ("anti", False, [0, 2]), ("anti", True, [0])]:
+        kept = [("semi", False, [1, 3, 4]), ("semi", True, [1, 2, 3, 4]), ("anti", False, [0, 2]), ("anti", True, [0])]
+        for how, nulls_equal, places in kept:
             with self.subTest(how=how, nulls_equal=nulls_equal):
                 join = {"join": {"source": 0, "on": ["found"], "how": how, "nulls_equal": nulls_equal}}
                 plan = plan_of([columns, columns], join, {"filter": ["gt", column("row_2"), 0]})

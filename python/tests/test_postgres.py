@@ -146,8 +146,8 @@ class ByHandOnPostgres(ByHand, OnPostgres):
         self.check_overflow(plan_of([A_B], {"group_by": {"keys": ["b"], "aggs": [["s", "sum", "a"]]}}), [(LEAST, 0), (-1, 0)])
 
     def test_what_no_row_needs_is_no_error(self):
-        expressions = [["add", GREATEST, 1], ["neg", ["neg", LEAST]], ["floordiv", LEAST, -1], ["mul", ["fill_null", {"null": "int"}, 2**62], 2]]
-        for expression in expressions:
+        filled = ["fill_null", {"null": "int"}, 2**62]
+        for expression in (["add", GREATEST, 1], ["neg", ["neg", LEAST]], ["floordiv", LEAST, -1], ["mul", filled, 2]):
             plan = plan_of([A_B], {"filter": ["lt", column("a"), 0]}, {"filter": ["eq", expression, 0]}, {"select": [["x", expression]]})
             with self.subTest(expression=expression):
                 self.check(plan, [[(1, 2), (3, 4)]], ["x"], [])

@@ -136,8 +136,9 @@ class Refused(unittest.TestCase):
     def test_scripts_that_load_files(self):
         plan = plan_of([A_B])
         for message, arguments in [
-            ("from Python", (plan, ["a.csv"], "sqlite")), ("was ever run", (plan, ["a.csv"], "duckdb")), ("no order", (plan, ["a.csv"], "spark")),
-            ("no such dialect", (plan, ["a.csv"], "oracle")), ("there are names for 2", (plan, ["a.csv", "b.csv"])),
+            ("from Python", (plan, ["a.csv"], "sqlite")), ("was ever run", (plan, ["a.csv"], "duckdb")),
+            ("no order", (plan, ["a.csv"], "spark")), ("no such dialect", (plan, ["a.csv"], "oracle")),
+            ("there are names for 2", (plan, ["a.csv", "b.csv"])), ("a table has a name", (plan, ["a.csv"], "postgres", [()])),
             ("standard input", (plan, ["-"])), ("one line", (plan, ["a\nb.csv"])),
             ("of its own", (plan_of([A_B, A_B]), ["a.csv", "b.csv"], "postgres", ["s", "s"])),
             ("by itself", (plan_of([[["ctid", "int"]]]), ["a.csv"])),
