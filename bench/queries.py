@@ -15,7 +15,6 @@ import itertools
 import json
 import os
 import sqlite3
-import subprocess
 import sys
 import tempfile
 import time

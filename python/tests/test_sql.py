@@ -2,6 +2,7 @@
 
 The variable SEED gives other random plans.
 """
+import itertools
 import json
 import sqlite3
 import unittest
@@ -79,12 +80,13 @@ class ByHandOnSqlite(ByHand, OnSqlite):
 
     def test_no_join_goes_over_a_table_for_each_row(self):
         """Some 20 million instructions of SQLite's machine are enough for 20,000 rows with 20,000, and not for each with each."""
-        columns, odd, all_of = [["k", "int"]], [(number,) for number in range(1, 40_000, 2)], [(number,) for number in range(20_000)]
+        columns = [["k", "int"], ["t", "text"]]
+        odd, all_of = ([(number, str(number)) for number in numbers] for numbers in (range(1, 40_000, 2), range(20_000)))
+        self.connection.set_progress_handler(lambda: True, 20_000_000)
         for how, count in [("inner", 10_000), ("left", 20_000), ("semi", 10_000), ("anti", 10_000)]:
-            for nulls_equal in (False, True):
-                with self.subTest(how=how, nulls_equal=nulls_equal):
-                    self.connection.set_progress_handler(lambda: True, 20_000_000)
-                    join = {"source": 0, "on": ["k"], "how": how, "nulls_equal": nulls_equal}
+            for key, nulls_equal in itertools.product("kt", (False, True)):
+                with self.subTest(how=how, key=key, nulls_equal=nulls_equal):
+                    join = {"source": 0, "on": [key], "how": how, "nulls_equal": nulls_equal}
                     _, rows = self.answer(plan_of([columns, columns], {"join": join}), [odd, all_of])
                     self.assertEqual(len(rows), count)
 
