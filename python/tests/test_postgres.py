@@ -81,7 +81,7 @@ def table_script(table, columns, rows, row):
     ]
     listed = ", ".join([f"{quoted(row)} BIGINT", *kinds])
     return "\n".join([
-        f"CREATE TEMPORARY TABLE {quoted(table)} ({listed}) ON COMMIT DROP;", f"COPY {quoted(table)} FROM STDIN;", *lines[::-1], "\\.", "",
+        f"CREATE TEMPORARY TABLE {quoted(table)} ({listed});", f"COPY {quoted(table)} FROM STDIN;", *lines[::-1], "\\.", "",
     ])
 
 
