@@ -3,13 +3,13 @@ import contextlib
 import itertools
 import os
 import stat
-from typing import BinaryIO, Tuple, Union
+from typing import BinaryIO, Iterable, Tuple, Union
 
 from ._faults import WriteError
 
 
-def write_whole(path: Union[str, "os.PathLike[str]"], text: bytes) -> None:
-    """Puts a text in the place of a file, as the program does by `--output`.
+def write_whole(path: Union[str, "os.PathLike[str]"], text: Iterable[bytes]) -> None:
+    """Puts a text, which is given in pieces, in the place of a file, as the program does by `--output`.
 
     A new file beside it is written, stored and renamed. A link is followed (one to nothing is refused), and the permissions of a file
     that is there are kept. A pipe or a device is written as it is.
@@ -20,11 +20,11 @@ def write_whole(path: Union[str, "os.PathLike[str]"], text: bytes) -> None:
         raise WriteError(f"write failed: {error}") from None
 
 
-def _write(path: str, text: bytes) -> None:
+def _write(path: str, text: Iterable[bytes]) -> None:
     there = os.stat(path) if os.path.lexists(path) else None
     if there is not None and not stat.S_ISREG(there.st_mode):
         with open(path, "wb") as device:
-            device.write(text)
+            device.writelines(text)
         return
     place = os.path.realpath(path)
     file, new = _file_beside(place)
@@ -32,7 +32,7 @@ def _write(path: str, text: bytes) -> None:
         with file:
             if there is not None:
                 os.fchmod(file.fileno(), stat.S_IMODE(there.st_mode))
-            file.write(text)
+            file.writelines(text)
             file.flush()
             os.fsync(file.fileno())
         os.replace(new, place)
