@@ -19,7 +19,7 @@ from ._printed import end_of_names
 from ._program import Settings, find_program, printed
 from ._results import DataFrame, read_frame
 from ._tasks import Told, most_rows, run_all
-from ._whole import write_whole
+from ._whole import check_place, write_whole
 
 if TYPE_CHECKING:
     from concurrent.futures import Executor
@@ -48,6 +48,7 @@ def collect(report: Report, executor: "Executor", settings: Settings) -> DataFra
     """The frame that a plan makes of files."""
     with tempfile.TemporaryDirectory(prefix="frameq-") as room:
         parts = _Parts(report, executor, settings, room)
+        parts.check()
         last = parts.last()
         text = parts.done(last) if isinstance(last, _Run) else b"".join(_frame_of(last))
     _warn(parts)
@@ -58,6 +59,8 @@ def sink(report: Report, path: str, executor: "Executor", settings: Settings) ->
     """Puts what a plan makes of files in the place of a file."""
     with tempfile.TemporaryDirectory(prefix="frameq-") as room:
         parts = _Parts(report, executor, settings, room)
+        parts.check()
+        check_place(path)
         last = parts.last()
         if isinstance(last, _Run):
             parts.done(last, ["--output", os.path.abspath(path)])
@@ -98,20 +101,25 @@ class _Parts:
         self._files = report.files[self._first :]
         self._fits_one_run = len(report.files) <= _MOST_FILES
 
+    def check(self) -> None:
+        """Raises what a run of all files says before it reads: of the plan, and of the first file that cannot be opened."""
+        for file in self._report.files:
+            if file == "-" or (os.path.exists(file) and not os.path.isfile(file) and not os.path.isdir(file)):
+                raise UnsupportedError(f"each task reads files, and {file!r} can be read only once: write it to a file first")
+        few = min(len(self._files), max(1, _MOST_FILES - self._first))
+        self.done(_Run(self._plan([*self._sides, {**self._main, "files": few}], self._steps), [], []), ["--explain"])
+        for number, file in enumerate(self._report.files):
+            if not _can_be_opened(file):
+                self.done(_Run(self._plan([{**self._source_of(number), "files": 1}], []), [file], [number]))
+
     def last(self) -> Union[_Run, str]:
         """The run that is left when the parts are there; or the file that has their rows, if these are the result."""
-        self._check()
         for cut in cuts(self._steps, self._report.schemas, self._place()):
             if self._fits_one_run and cut.then and cut.then == self._steps:
                 break
             files = self._rows_of_parts(cut)
-            if files is None:
-                continue
-            if not cut.then:
-                return files[0]
-            if self._first + len(files) > _MOST_FILES:
-                raise UnsupportedError("more rows are put together than one run takes: filter them before that, or group them")
-            return self._run(cut.then, files, [self._first] * len(files), _source(cut.columns), cut.at)
+            if files is not None:
+                return self._run(cut.then, files, [self._first] * len(files), _source(cut.columns), cut.at) if cut.then else files[0]
         if self._fits_one_run:
             return self._run(self._steps, self._files, range(self._first, len(self._report.files)))
         raise UnsupportedError(
@@ -137,33 +145,24 @@ class _Parts:
 
     # Before the parts.
 
-    def _check(self) -> None:
-        """Raises what a run of all files says before it reads: of the plan, and of the first file that cannot be opened."""
-        for file in self._report.files:
-            if file == "-" or (os.path.exists(file) and not os.path.isfile(file) and not os.path.isdir(file)):
-                raise UnsupportedError(f"each task reads files, and {file!r} can be read only once: write it to a file first")
-        few = min(len(self._files), max(1, _MOST_FILES - self._first))
-        self.done(_Run(self._plan([*self._sides, {**self._main, "files": few}], self._steps), [], []), ["--explain"])
-        for number, file in enumerate(self._report.files):
-            if not _can_be_opened(file):
-                self.done(_Run(self._plan([{**self._source_of(number), "files": 1}], []), [file], [number]))
-
     def _source_of(self, number: int) -> dict:
         """The source of the file of this number."""
         ends = itertools.accumulate(source["files"] for source in self._report.plan["sources"])
         return next(source for source, end in zip(self._report.plan["sources"], ends) if number < end)
 
     def _place(self) -> int:
-        """The number of the step before which the plan is cut: the first that looks at more than one row, or, if that comes before, a join that
-        may give more rows than a join gives, since it counts those of all files."""
+        """The number of the step before which the plan is cut: the first that looks at more than one row, or, if that comes before, a join
+        that may give more rows than a join gives. That limit is one of the rows of all files."""
         place = first_of_many_rows(self._steps)
         joins = [number for number in range(place) if "join" in self._steps[number]]
+        full = place
         for rows, matches in self._most_of_joins([self._steps[number]["join"] for number in joins]) if joins else ():
-            joined = itertools.accumulate([rows, *matches], operator.mul)
-            full = [number for number, most in zip(joins, itertools.islice(joined, 1, None)) if most > _MOST_JOINED_ROWS]
-            if not full:
-                return place
-        return min([*full, place]) if joins else place
+            most = itertools.accumulate([rows, *matches], operator.mul)
+            next(most)
+            full = next((number for number, joined in zip(joins, most) if joined > _MOST_JOINED_ROWS), place)
+            if full == place:
+                break
+        return full
 
     def _most_of_joins(self, joins: Sequence[dict]) -> Iterator[Tuple[float, List[float]]]:
         """How many rows all main files have at most, and how many rows each of joins gives at most for one: what is known at once, and then
@@ -193,12 +192,17 @@ class _Parts:
         tasks = [self._task(cut.first, number) for number in range(len(self._files))]
         with contextlib.closing(run_all(self._executor, [(task.plan, task.files) for task in tasks], self._settings, room)) as all_told:
             for number, (task, told) in enumerate(zip(tasks, all_told)):
-                if told.status == _FAULT and isinstance(self._fault(task, told), SumRangeError):
-                    return None
-                if told.status in (_FAULT, _UNREAD):
-                    self.done(self._run_to_fault(cut, number))
+                if told.status != 0:
+                    break
                 rows.add(self._printed(task, told))
-        return rows.files
+            else:
+                return rows.files
+        if isinstance(self._fault(task, told), SumRangeError):
+            return None
+        if told.status in (_FAULT, _UNREAD):
+            self.done(self._run_to_fault(cut, number))
+        # (a file is not the same here, or the task ended in another way)
+        raise self._fault(task, told)
 
     def _task(self, steps: Sequence[dict], number: int) -> _Run:
         """Steps over a main file and the sources that they join, with paths that are right in any folder."""
@@ -237,6 +241,8 @@ class _Parts:
 
     def _run(self, steps: Sequence[dict], files: Sequence[str], numbers: Sequence[int], source: Optional[dict] = None, first: int = 0) -> _Run:
         """Steps over all sources that are joined, and files of the main source, or of another."""
+        if self._first + len(files) > _MOST_FILES:
+            raise UnsupportedError("more rows of files are put together than one run takes: filter them before that, or group them")
         plan = self._plan([*self._sides, {**(source or self._main), "files": len(files)}], steps)
         return _Run(plan, [*self._report.files[: self._first], *files], [*range(self._first), *numbers], first)
 
