@@ -183,7 +183,7 @@ def _columns_of_file(plan: dict, file: int) -> List[str]:
 
 
 def renumbered(said: str, files: Sequence[int], first_step: int) -> str:
-    """What a run said, with the numbers that its files have in a larger run, and those of its steps, of which the first is this one there."""
+    """What a run said, with the numbers of its files and of its steps in a larger run, where the first of its steps has this number."""
     said = re.sub(r"(?m)^(frameq: (?:read failed: )?file )(\d+)", lambda found: f"{found[1]}{files[int(found[2])]}", said)
     return re.sub(r"(?m)^(frameq: step )(\d+)", lambda found: f"{found[1]}{first_step + int(found[2])}", said)
 

@@ -123,7 +123,7 @@ class _Parts:
         if self._fits_one_run:
             return self._run(self._steps, self._files, range(self._first, len(self._report.files)))
         raise UnsupportedError(
-            f"over more than {_MOST_FILES} files no text may be empty and not null where rows of several files are put together: let lit and "
+            f"over more than {_MOST_FILES} files no text may be empty and not null where the rows of files are put together: let lit and "
             'fill_null give another text than ""'
         )
 
@@ -151,8 +151,10 @@ class _Parts:
         return next(source for source, end in zip(self._report.plan["sources"], ends) if number < end)
 
     def _place(self) -> int:
-        """The number of the step before which the plan is cut: the first that looks at more than one row, or, if that comes before, a join
-        that may give more rows than a join gives. That limit is one of the rows of all files."""
+        """The number of the step before which the plan is cut: the first that looks at more than one row.
+
+        Or it is a join before it that may give more rows than a join gives, since that limit counts the rows of all files.
+        """
         place = first_of_many_rows(self._steps)
         joins = [number for number in range(place) if "join" in self._steps[number]]
         full = place
@@ -165,8 +167,7 @@ class _Parts:
         return full
 
     def _most_of_joins(self, joins: Sequence[dict]) -> Iterator[Tuple[float, List[float]]]:
-        """How many rows all main files have at most, and how many rows each of joins gives at most for one: what is known at once, and then
-        what takes more time to know, and is less."""
+        """How many rows all main files have at most, and a row after each of joins: first what takes the least time to know."""
         rows = _most_rows_by_size(self._files)
         rights = [self._files_of_side(join["source"]) for join in joins]
         yield rows, [_most_rows_by_size(right) if steps_to_most_matches(join) else 1 for join, right in zip(joins, rights)]
@@ -181,12 +182,12 @@ class _Parts:
             return 1
         status, text, _ = printed(self._plan([self._sides[join["source"]]], steps), [], right, self._settings)
         # (a fault of these files is told by a run that joins them)
-        return max([1, *read_frame(text, {"all": Kind.BOOL, "most": Kind.INT})["most"]]) if status == 0 else math.inf
+        return max([1, *(int(line.rpartition(b",")[2]) for line in text.splitlines()[1:])]) if status == 0 else math.inf
 
     # The parts.
 
     def _rows_of_parts(self, cut: Cut) -> Optional[List[str]]:
-        """Files that have the rows that parts give, in the order of the files. None if a sum of a part is out of range: that of all may be in it."""
+        """Files with the rows of all parts, in order; or none if a sum of a part is out of range, since that of all files may fit."""
         room = tempfile.mkdtemp(dir=self._room)
         rows = _Rows(room, _MOST_ROWS if cut.then else math.inf)
         tasks = [self._task(cut.first, number) for number in range(len(self._files))]
@@ -239,7 +240,9 @@ class _Parts:
     def _plan(self, sources: Sequence[dict], steps: Sequence[dict]) -> dict:
         return {**self._report.plan, "sources": list(sources), "steps": list(steps)}
 
-    def _run(self, steps: Sequence[dict], files: Sequence[str], numbers: Sequence[int], source: Optional[dict] = None, first: int = 0) -> _Run:
+    def _run(
+        self, steps: Sequence[dict], files: Sequence[str], numbers: Sequence[int], source: Optional[dict] = None, first: int = 0
+    ) -> _Run:
         """Steps over all sources that are joined, and files of the main source, or of another."""
         if self._first + len(files) > _MOST_FILES:
             raise UnsupportedError("more rows of files are put together than one run takes: filter them before that, or group them")

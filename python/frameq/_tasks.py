@@ -3,7 +3,7 @@ import functools
 import os
 import queue
 import uuid
-from typing import TYPE_CHECKING, Any, Dict, Iterator, List, NamedTuple, Sequence, Tuple
+from typing import TYPE_CHECKING, Any, Dict, Generator, List, NamedTuple, Sequence, Tuple
 
 from ._program import Settings, printed
 
@@ -42,7 +42,7 @@ def most_rows(executor: "Executor", files: Sequence[str]) -> int:
 
 def run_all(
     executor: "Executor", runs: Sequence[Tuple[Dict[str, Any], Sequence[str]]], settings: Settings, room: str
-) -> Iterator[Told]:
+) -> Generator[Told, None, None]:
     """What the runs of plans over files tell, in their order.
 
     What comes before its turn waits in a file of a folder, so that it takes no memory.

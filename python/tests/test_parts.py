@@ -3,6 +3,7 @@ import concurrent.futures
 import contextlib
 import functools
 import json
+import multiprocessing
 import os
 import signal
 import subprocess
@@ -24,6 +25,7 @@ MOST = 2**63 - 1
 MOST_FILES = 16
 # How many random plans there are for each executor. By hand, FRAMEQ_PARTS=2000 runs that many by each.
 COUNT = int(os.environ.get("FRAMEQ_PARTS", "60"))
+ATTRIBUTES = ("line", "details", "status", "file", "row", "column", "step", "item", "call")
 FILES = [1, 2, 3, 5, 8, 12, 15, 16, 17, 20, 27, 40]
 
 
@@ -32,7 +34,7 @@ def told(call):
     try:
         return call()
     except fq.FrameqError as error:
-        return type(error), str(error), vars(error)
+        return type(error), str(error), {name: getattr(error, name) for name in ATTRIBUTES}
 
 
 # ---- random plans
@@ -108,6 +110,10 @@ def differences(numbers, path, executor):
 
 
 # ---- executors
+
+# (a process that is forked from one with other threads may wait for ever for what these held)
+process_pool = functools.partial(ProcessPoolExecutor, mp_context=multiprocessing.get_context("spawn"))
+
 
 class Cancelled(Executor):
     """All that it is given is cancelled."""
@@ -204,7 +210,8 @@ class Parts(unittest.TestCase):
 
     def test_each_aggregate(self):
         """Groups of parts are grouped, with nulls as values, as keys and alone, over a key that all parts have and keys that some have."""
-        frame = self.scan(["k,n,t\nx,5,b\n,1,\ny,,\n", "k,n,t\ny,,\nx,-7,\nz,3,c\n", "k,n,t\n", "k,n,t\nz,,a\n,,q\nx,,a\n"], k=TEXT, n=INT, t=TEXT)
+        texts = ["k,n,t\nx,5,b\n,1,\ny,,\n", "k,n,t\ny,,\nx,-7,\nz,3,c\n", "k,n,t\n", "k,n,t\nz,,a\n,,q\nx,,a\n"]
+        frame = self.scan(texts, k=TEXT, n=INT, t=TEXT)
         aggs = [getattr(C(column), function)().alias(f"{function} {column}")
                 for function in ("min", "max", "count", "first", "last") for column in ("n", "t")]
         text = self.same(frame.group_by("k").agg(fq.len(), C("n").sum(), C("n").sum().alias("again"), *aggs))
@@ -228,7 +235,8 @@ class Parts(unittest.TestCase):
         texts = [f"n\n{MOST}\n1\n", "n\n-3\n", f"n\n-{MOST}\n"]
         group = self.scan(texts, n=INT).group_by(all=fq.lit(True)).agg(fq.len(), C("n").sum())
         self.assertEqual(self.same(group), "all,len,n\ntrue,4,-2\n")
-        group = self.scan([f"n\n{MOST}\n", "n\n1\n"], n=INT).filter(C("n") > 0).group_by("n").agg(fq.len()).group_by("len").agg(C("n").sum())
+        frame = self.scan([f"n\n{MOST}\n", "n\n1\n"], n=INT)
+        group = frame.filter(C("n") > 0).group_by("n").agg(fq.len()).group_by("len").agg(C("n").sum())
         kind, _, said = self.same(group)
         self.assertEqual((kind, said["step"], said["item"]), (fq.SumRangeError, 2, 0))
         group = self.scan([f"k,n\n1,{MOST}\n", "k,n\n1,1\n"], k=INT, n=INT).filter(C("n") > 0).group_by("k").agg(fq.len(), C("n").sum())
@@ -351,7 +359,7 @@ class Parts(unittest.TestCase):
         self.file("-bad.csv", "k\n1\nx\n")
         before = os.getcwd()
         self.addCleanup(os.chdir, before)
-        with ProcessPoolExecutor(1) as pool:
+        with process_pool(1) as pool:
             pool.submit(os.getcwd).result()
             os.chdir(self.room)
             kind, _, said = self.same(fq.scan_csv(["good.csv", "-bad.csv"], schema={"k": INT}), pool)
@@ -406,8 +414,12 @@ class Parts(unittest.TestCase):
         """A fault that is not found here is told as the task told it."""
         frame = self.scan(["k\n1\n", "k\n2\n"], k=INT)
         bad = self.file("bad.csv", "k\nx\n")
-        changed = self.script(f'case "$*" in *"-1.csv") [ -e "{self.room}/told" ] || {{ : > "{self.room}/told"; cp "{bad}" "{self.room}/main-1.csv"; '
-                              f'"{self.program}" "$@"; status=$?; printf "k\\n2\\n" > "{self.room}/main-1.csv"; exit $status; }};; esac')
+        changed = self.script(
+            f"""cd "{self.room}"
+            case "$*" in *-1.csv) [ -e told ] || {{
+                : > told; cp "{bad}" main-1.csv; "{self.program}" "$@"; status=$?; printf 'k\\n2\\n' > main-1.csv; exit $status
+            }};; esac"""
+        )
         with self.assertRaises(fq.BadCellError) as raised:
             self.in_parts(frame, program=changed)
         self.assertEqual((raised.exception.file, raised.exception.row), (frame.files()[1], 1))
@@ -443,7 +455,8 @@ class Parts(unittest.TestCase):
     def test_what_a_program_says(self):
         """What it says beside an answer is one warning, of this call."""
         with self.assertWarnsRegex(UserWarning, "^not proved$") as warned:
-            fq.scan_csv([self.file("a.csv", "k\n1\n")] * 2, schema={"k": INT}).collect(program=self.script("echo not proved >&2"), executor=self.pool)
+            frame = fq.scan_csv([self.file("a.csv", "k\n1\n")] * 2, schema={"k": INT})
+            frame.collect(program=self.script("echo not proved >&2"), executor=self.pool)
         self.assertEqual((warned.filename, len(warned.warnings)), (__file__, 1))
 
     # Tasks that do not end well.
@@ -485,14 +498,15 @@ class Parts(unittest.TestCase):
 
     def test_dead_process(self):
         """A process that is killed while it runs a task."""
-        with ProcessPoolExecutor(2) as pool:
-            self.ends(concurrent.futures.process.BrokenProcessPool, pool, program=self.script('case "$*" in *main-1.csv) kill -9 $PPID;; esac'))
+        with process_pool(2) as pool:
+            deadly = self.script('case "$*" in *main-1.csv) kill -9 $PPID;; esac')
+            self.ends(concurrent.futures.process.BrokenProcessPool, pool, program=deadly)
 
     def test_dead_program(self):
         """A program that is killed, or that is not where a task looks for it."""
         killed = self.script('case "$*" in *main-1.csv) kill -9 $$;; esac')
         self.assertIn(f"signal {signal.SIGKILL.value}", str(self.ends(fq.FrameqError, self.pool, program=killed)))
-        with ProcessPoolExecutor(1, initializer=functools.partial(os.chdir, "/")) as pool:
+        with process_pool(1, initializer=functools.partial(os.chdir, "/")) as pool:
             self.assertEqual(self.in_parts(self.scan(["k\n1\n"], k=INT), pool, program=os.path.relpath(self.program)), "k\n1\n")
         with self.assertRaises(fq.ProgramNotFoundError):
             self.in_parts(self.scan(["k\n1\n"], k=INT), program=os.path.join(self.room, "nothing"))
@@ -523,7 +537,7 @@ class Random(unittest.TestCase):
 
     def test_processes(self):
         path = program()
-        with ProcessPoolExecutor(4) as pool:
+        with process_pool(4) as pool:
             self.assertEqual(differences(range(COUNT, 2 * COUNT), path, pool), [])
 
     def test_dask(self):
