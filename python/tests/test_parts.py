@@ -255,6 +255,28 @@ class Parts(unittest.TestCase):
         rolled = frame.join(names, on="k").with_columns(s=C("n").rolling_sum(3, min_samples=1)).group_by("name").agg(C("s").max())
         self.assertEqual(self.same(rolled), "name,s\nzero,11\ntwo,8\n")
 
+    def test_joined_sources(self):
+        """Tasks join some of the sources, and the last run others, some of which are joined twice."""
+        frame = self.scan(["k,n\n1,2\n2,5\n", "k,n\n2,1\n3,2\n,4\n"], k=INT, n=INT)
+        first, second, third = (
+            fq.scan_csv(self.file(f"{name}.csv", f"{key},{name}\n1,{name}1\n2,{name}2\n"), schema={key: INT, name: TEXT})
+            for name, key in [("a", "n"), ("b", "k"), ("c", "n")]
+        )
+        lazy = frame.join(first, on="n", how="anti").join(second, on="k").group_by("n").agg(fq.len())
+        self.assertEqual(self.same(lazy.join(third, on="n", how="left")), "n,len,c\n5,1,\n")
+        lazy = frame.join(second, on="k").join(second, on="k").with_columns(s=C("n").rolling_sum(2, min_samples=1))
+        text = self.same(lazy.join(first, on="n", how="left").join(third, on="n").join(second, on="k", how="semi"))
+        self.assertEqual(text, "k,n,b,b_right,s,a,c\n1,2,b1,b1,2,a2,c2\n2,1,b2,b2,6,a1,c1\n")
+
+    def test_null_texts(self):
+        """Texts that are null in the files of a source are texts in what comes back, and in no other source."""
+        paths = [self.file(f"{number}.csv", "t,n\nNA,1\n7,7\nx,+7\n") for number in range(2)]
+        frame = fq.scan_csv(paths, schema={"t": TEXT, "n": INT}, null_values=["NA", "7"])
+        lazy = frame.with_columns(t=C("t").fill_null("NA")).group_by("t").agg(fq.len(), C("n").sum())
+        self.assertEqual(self.same(lazy), "t,len,n\nNA,4,2\nx,2,14\n")
+        lazy = frame.with_columns(t=C("t").fill_null("NA")).with_columns(s=C("n").rolling_sum(2, min_samples=2))
+        self.assertEqual(self.same(lazy), "t,n,s\n" + "NA,1,\nNA,,\nx,7,\nNA,1,8\nNA,,\nx,7,\n")
+
     def test_order(self):
         """Rows and groups stand in the order of the files, and not in that in which the tasks end."""
         texts = [f"k\n{number}\n" for number in range(6)]
@@ -402,6 +424,33 @@ class Parts(unittest.TestCase):
                     kind, _, said = told(lambda lazy=lazy: self.in_parts(lazy))
                     expected = meant(lazy.plan(), [text.encode() for text in texts])
                     self.assertEqual((kind, (said["status"], said["line"])), (error, expected))
+
+    def test_copied_files(self):
+        """The files before a fault, where they are too many for a run, keep their fields: null texts, signs, zeros and what is quoted."""
+        texts = ['n,t\n+7,"7"\n007,"a,""\n"\n7,\n'] * 20
+        texts[-1] = "n,t\n7,7\n+7,x\n1,x,y\n"
+        paths = [self.file(f"{number}.csv", text) for number, text in enumerate(texts)]
+        frame = fq.scan_csv(paths, schema={"n": INT, "t": TEXT}, null_values="7").filter(C("n").is_not_null())
+        rolled = frame.with_columns(s=C("n").rolling_sum(39))
+        for lazy, error in [
+            (rolled.with_columns(p=C("s") * (MOST // 7 // 39) * 2), fq.OverflowError),
+            (rolled.with_columns(p=C("s") * (MOST // 7 // 39)), fq.WidthError),
+            (rolled.filter(C("t").is_null()).with_columns(p=C("s") * MOST), fq.WidthError),
+            (rolled.filter(C("t") == "x").with_columns(p=C("s") * MOST), fq.OverflowError),
+        ]:
+            with self.subTest(repr(lazy)[-60:]):
+                kind, _, said = told(lambda lazy=lazy: self.in_parts(lazy))
+                expected = meant(lazy.plan(), [text.encode() for text in texts])
+                self.assertEqual((kind, (said["status"], said["line"])), (error, expected))
+
+    def test_the_rest_is_cancelled(self):
+        """Tasks that wait when a report fails are not run."""
+        frame = self.scan(["k\nx\n"] * 40, k=INT)
+        counted = self.script(f'mktemp "{self.room}/run-XXXXXX" > /dev/null')
+        with ThreadPoolExecutor(1) as pool, self.assertRaises(fq.BadCellError):
+            self.in_parts(frame, pool, program=counted)
+        # (the plan's check, the fault that is told, and the tasks that ran before that was known)
+        self.assertLess(sum(name.startswith("run-") for name in os.listdir(self.room)), 20)
 
     def test_files_that_change(self):
         """What was read before is not taken for what is there now, though an executor remembers calls."""
