@@ -206,13 +206,10 @@ class _Parts:
         raise self._fault(task, told)
 
     def _task(self, steps: Sequence[dict], number: int) -> _Run:
-        """Steps over a main file and the sources that they join, with paths that are right in any folder."""
-        joined = sorted({step["join"]["source"] for step in steps if "join" in step})
-        numbers = [*(file for side in joined for file in self._numbers_of_side(side)), self._first + number]
-        steps = [
-            {"join": {**step["join"], "source": joined.index(step["join"]["source"])}} if "join" in step else step for step in steps
-        ]
-        plan = self._plan([*(self._sides[side] for side in joined), {**self._main, "files": 1}], steps)
+        """Steps over a main file and the sources up to the last that they join, with paths that are right in any folder."""
+        sides = self._sides[: 1 + max((step["join"]["source"] for step in steps if "join" in step), default=-1)]
+        numbers = [*range(sum(side["files"] for side in sides)), self._first + number]
+        plan = self._plan([*sides, {**self._main, "files": 1}], steps)
         return _Run(plan, [os.path.abspath(self._report.files[file]) for file in numbers], numbers)
 
     def _run_to_fault(self, cut: Cut, number: int) -> _Run:
@@ -249,13 +246,10 @@ class _Parts:
         plan = self._plan([*self._sides, {**(source or self._main), "files": len(files)}], steps)
         return _Run(plan, [*self._report.files[: self._first], *files], [*range(self._first), *numbers], first)
 
-    def _numbers_of_side(self, side: int) -> range:
-        """The numbers of the files of a source that is joined."""
-        start = sum(source["files"] for source in self._sides[:side])
-        return range(start, start + self._sides[side]["files"])
-
     def _files_of_side(self, side: int) -> List[str]:
-        return [self._report.files[number] for number in self._numbers_of_side(side)]
+        """The files of a source that is joined."""
+        start = sum(source["files"] for source in self._sides[:side])
+        return self._report.files[start : start + self._sides[side]["files"]]
 
 
 class _Rows:
