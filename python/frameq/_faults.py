@@ -182,6 +182,12 @@ def _columns_of_file(plan: dict, file: int) -> List[str]:
     return []
 
 
+def renumbered(said: str, files: Sequence[int], first_step: int) -> str:
+    """What a run said, with the numbers of its files and of its steps in a larger run, where the first of its steps has this number."""
+    said = re.sub(r"(?m)^(frameq: (?:read failed: )?file )(\d+)", lambda found: f"{found[1]}{files[int(found[2])]}", said)
+    return re.sub(r"(?m)^(frameq: step )(\d+)", lambda found: f"{found[1]}{first_step + int(found[2])}", said)
+
+
 def fault(said: str, status: int, plan: Optional[dict], files: Sequence[str], calls: Sequence[str]) -> FrameqError:
     """The exception of a run that ended with this status and said this on standard error."""
     # (the last such line: a program that is not built yet says so before)

@@ -1,9 +1,9 @@
 """Lazy frames, by Polars' names: what is written is a plan."""
 import copy
 import os
-from typing import Any, Iterable, List, Mapping, NamedTuple, NoReturn, Optional, Sequence, Tuple, Union
+from typing import TYPE_CHECKING, Any, Iterable, List, Mapping, NamedTuple, NoReturn, Optional, Sequence, Tuple, Union
 
-from . import _program
+from . import _parts, _program
 from ._dialects import Table
 from ._expressions import FUNCTIONS, TOO_DEEP, Expr, Node
 from ._expressions import columns_of, expanded, flat, has, kind_of, name_of, named, parts, plain_names, replaced, written
@@ -12,6 +12,9 @@ from ._kinds import AnyKind, Kind, Schema, schema_of
 from ._results import DataFrame
 from ._sql import sql
 from ._sql_setup import sql_setup
+
+if TYPE_CHECKING:
+    from concurrent.futures import Executor
 
 Path = Union[str, "os.PathLike[str]"]
 Output = Tuple[str, Node]
@@ -92,16 +95,19 @@ def scan_csv(
         raise UnsupportedError("null_values are of all columns of a file: give a list")
     columns = schema_of(schema)
     scan = Source(tuple(os.fspath(file) for file in files), tuple(columns.items()), tuple(nulls))
-    return LazyFrame(scan, (), (), (), columns)
+    return LazyFrame(scan, (), (), (), (columns,))
 
 
 class LazyFrame:
     """Steps on the rows of a scan, not yet run, as Polars' LazyFrame. It does not change: each method gives another."""
 
-    __slots__ = ("_main", "_rights", "_steps", "_calls", "_schema")
+    # The columns are those of the scan, and those after each step.
+    __slots__ = ("_main", "_rights", "_steps", "_calls", "_schemas")
 
-    def __init__(self, main: Source, rights: Tuple[Source, ...], steps: Tuple[dict, ...], calls: Tuple[str, ...], schema: Schema) -> None:
-        self._main, self._rights, self._steps, self._calls, self._schema = main, rights, steps, calls, schema
+    def __init__(
+        self, main: Source, rights: Tuple[Source, ...], steps: Tuple[dict, ...], calls: Tuple[str, ...], schemas: Tuple[Schema, ...]
+    ) -> None:
+        self._main, self._rights, self._steps, self._calls, self._schemas = main, rights, steps, calls, schemas
 
     def __repr__(self) -> str:
         return "\n".join([f"scan_csv({list(self._main.files)!r})", *(f"  .{call}" for call in self._calls)])
@@ -111,6 +117,10 @@ class LazyFrame:
             raise UnsupportedError(f"frameq has no {name}(): {_INSTEAD[name]}")
         raise AttributeError(f"a lazy frame has no {name!r}")
 
+    @property
+    def _schema(self) -> Schema:
+        return self._schemas[-1]
+
     def collect_schema(self) -> Schema:
         """The names and kinds of the columns."""
         return dict(self._schema)
@@ -118,7 +128,7 @@ class LazyFrame:
     def _after(self, step: dict, call: str, schema: Schema) -> "LazyFrame":
         if _nesting(step) + _NESTING_AROUND_STEPS > _MOST_NESTED:
             raise UnsupportedError(TOO_DEEP)
-        return LazyFrame(self._main, self._rights, (*self._steps, step), (*self._calls, call), schema)
+        return LazyFrame(self._main, self._rights, (*self._steps, step), (*self._calls, call), (*self._schemas, schema))
 
     # Row-wise steps.
 
@@ -281,7 +291,7 @@ class LazyFrame:
         if nulls_equal:
             step["nulls_equal"] = True
         call = _call("join", (), {"on": keys, "how": how, **({"nulls_equal": True} if nulls_equal else {})})
-        return LazyFrame(self._main, rights, (*self._steps, {"join": step}), (*self._calls, call), schema)
+        return LazyFrame(self._main, rights, (*self._steps, {"join": step}), (*self._calls, call), (*self._schemas, schema))
 
     def _joined_schema(self, other: "LazyFrame", keys: Sequence[str], how: str) -> Schema:
         if len(set(keys)) < len(keys):
@@ -340,13 +350,22 @@ class LazyFrame:
         return _program.explain(self.plan(), self._calls, program)
 
     def collect(
-        self, *, batch: Optional[int] = None, workers: Optional[int] = None, program: Optional[Path] = None, progress: bool = False
+        self,
+        *,
+        batch: Optional[int] = None,
+        workers: Optional[int] = None,
+        program: Optional[Path] = None,
+        progress: bool = False,
+        executor: Optional["Executor"] = None,
     ) -> DataFrame:
         """Runs the plan. `batch` is a number of rows, 1 to 65,536, and `workers` one of threads, 1 to 16; no answer depends on them.
 
-        `progress` shows how much of a file has been read, on standard error, if that is a terminal or a notebook's.
+        `progress` shows how much of a file has been read, on standard error, if that is a terminal or a notebook's. With an executor, each
+        file of the main source is a task of its own, and there may be any number of them.
         """
         settings = _program.Settings(batch, workers, program, progress)
+        if executor is not None:
+            return _parts.collect(self._report(), executor, settings)
         return _program.collect(self.plan(), self.files(), self._schema, self._calls, settings)
 
     def sink_csv(
@@ -357,10 +376,20 @@ class LazyFrame:
         workers: Optional[int] = None,
         program: Optional[Path] = None,
         progress: bool = False,
+        executor: Optional["Executor"] = None,
     ) -> None:
-        """Runs the plan, and writes its result to a file, whole or not at all. The path may be one of the plan's files."""
+        """Runs the plan, and writes its result to a file, whole or not at all. The path may be one of the plan's files.
+
+        The arguments are those of `collect`.
+        """
         settings = _program.Settings(batch, workers, program, progress)
-        _program.sink(self.plan(), self.files(), os.fspath(path), self._calls, settings)
+        if executor is not None:
+            _parts.sink(self._report(), os.fspath(path), executor, settings)
+        else:
+            _program.sink(self.plan(), self.files(), os.fspath(path), self._calls, settings)
+
+    def _report(self) -> _parts.Report:
+        return _parts.Report(self.plan(), self.files(), self._calls, self._schemas)
 
 
 class GroupBy:

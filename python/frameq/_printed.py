@@ -15,14 +15,19 @@ _OF_TRUTHS = {value: cell for cell, value in _TRUTHS.items()}
 
 def names_of(text: bytes) -> List[str]:
     """The names of the columns."""
-    return _cells(text[: _end_of_record(text, 0, 0)].decode("utf-8")) if text else []
+    return _cells(text[: end_of_names(text)].decode("utf-8")) if text else []
+
+
+def end_of_names(text: bytes) -> int:
+    """Where the rows begin."""
+    return _end_of_record(text, 0, 0)
 
 
 def columns_of(text: bytes, schema: Schema) -> List[Column]:
     """The values of each column. KeyError or ValueError if a cell is not of its column's kind."""
     readers = [_READERS[kind] for kind in schema.values()]
     columns: List[Column] = [[] for _ in readers]
-    for piece in _pieces(text, _end_of_record(text, 0, 0)):
+    for piece in _pieces(text, end_of_names(text)):
         cells = _cells(piece)
         for place, (column, read) in enumerate(zip(columns, readers)):
             column.extend(read(cells[place :: len(readers)]))

@@ -94,16 +94,31 @@ def _run(
     out: Union[int, IO[bytes]],
 ) -> bytes:
     """Runs the program, and gives what it wrote if that is not written elsewhere. Raises its fault."""
-    program = find_program(settings.program)
-    with _plan_file(plan) as path:
-        command = [program, "--plan", path, "--details", *settings.words(), *words, *_words_of_files(files)]
-        status, written, said = _ran(command, out, settings.progress)
+    status, written, said = _answer(plan, words, files, settings, out)
     if status != 0:
         raise fault(said, status, _plan_object(plan), files, calls)
     if said:
         # (a program that is not built says that what ran is not proved; it is said of the call of the package's user)
         warnings.warn(said.strip(), stacklevel=4)
     return written
+
+
+def _answer(
+    plan: Union[Path, dict], words: Sequence[str], files: Sequence[str], settings: Settings, out: Union[int, IO[bytes]]
+) -> Tuple[int, bytes, str]:
+    """Runs the program: its exit status, what it wrote if that is not written elsewhere, and what it said."""
+    program = find_program(settings.program)
+    with _plan_file(plan) as path:
+        command = [program, "--plan", path, "--details", *settings.words(), *words, *_words_of_files(files)]
+        return _ran(command, out, settings.progress)
+
+
+def printed(plan: Union[Path, dict], words: Sequence[str], files: Sequence[str], settings: Settings) -> Tuple[int, bytes, str]:
+    """Runs the program: its exit status, what it printed, and what it said."""
+    with tempfile.TemporaryFile() as out:
+        status, _, said = _answer(plan, words, files, settings, out)
+        out.seek(0)
+        return status, out.read(), said
 
 
 def _ran(command: List[str], out: Union[int, IO[bytes]], progress: bool) -> Tuple[int, bytes, str]:

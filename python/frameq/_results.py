@@ -188,7 +188,7 @@ class DataFrame:
         if file is None:
             return text.decode()
         if isinstance(file, (str, os.PathLike)):
-            write_whole(file, text)
+            write_whole(file, [text])
         else:
             _write_to(file, text)
         return None

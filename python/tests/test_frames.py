@@ -575,7 +575,7 @@ class Page(unittest.TestCase):
         """Each piece of code that text follows prints this text, over the files of its example."""
         path = program()
         with open(os.path.join(ROOT, "docs", "PYTHON.md"), encoding="utf-8") as file:
-            pieces = re.findall(r"```python\n(.*?)```\n\n```text\n(.*?)```", file.read(), re.DOTALL)
+            pieces = re.findall(r"```python\n((?:(?!```).)*)```\n\n```text\n(.*?)```", file.read(), re.DOTALL)
         self.assertGreater(len(pieces), 1)
         code = "print('----')\n".join(piece for piece, _ in pieces)
         environment = {**os.environ, "PYTHONPATH": os.path.join(ROOT, "python"), "FRAMEQ": path}
