@@ -162,11 +162,13 @@ SORTS = ("memory", "thread", "open", "read", "write", "interrupt", "short-read",
 
 def is_allowed(sort, answer, own):
     """Whether an answer is allowed if a call of this sort is refused."""
+    if sort == "keep":  # what is stored and renamed is the file of --output, and without either there is no frame
+        return answer == Answer(5, "", WRITE_LINE)
     if answer == own:
         return True
     if sort in ("memory", "thread"):
         return answer == MEMORY
-    if sort in ("open", "keep") and answer == Answer(5, "", WRITE_LINE):
+    if sort == "open" and answer == Answer(5, "", WRITE_LINE):
         return True
     if sort in ("open", "read"):
         is_failed = re.fullmatch(r"frameq: read failed: file \d+\n", answer.err) and answer.status == 5 and not answer.out
