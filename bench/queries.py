@@ -128,6 +128,12 @@ def same_rows(one, other):
         return all(row == same for row, same in itertools.zip_longest(csv.reader(first), csv.reader(second)))
 
 
+def processes_of(server):
+    """The processes of a server, besides its first."""
+    with open(f"/proc/{server.process.pid}/task/{server.process.pid}/children", encoding="ascii") as file:
+        return set(file.read().split())
+
+
 def of_sessions(server):
     """The seconds of the processor that the sessions of a server took which have ended."""
     with open(f"/proc/{server.process.pid}/stat", encoding="ascii") as file:
@@ -137,9 +143,10 @@ def of_sessions(server):
 
 def timed(command, server, folder, output):
     """The seconds of a run, and of the processor."""
-    before = of_sessions(server)
+    processes, before = processes_of(server), of_sessions(server)
     taken = measure(command, folder, output)
-    time.sleep(0.2)  # until the session has ended
+    while processes_of(server) - processes:  # until the session has ended
+        time.sleep(0.01)
     return taken.seconds, taken.user + taken.system + of_sessions(server) - before
 
 
