@@ -72,16 +72,17 @@ bit gone[THREADS];		/* this thread has ended */
 #include "replay.pml"
 #else
 #define says(thread, what, other) skip
+#define begins() skip
 #endif
 
-/* A run ends, or feeds put items for ever: whatever a thread does for ever, a feed puts without end. */
+/* Each run ends, or feeds put items for ever. */
 #ifdef ENDS
-bit run_over, odd;			/* the run has ended; so many messages of feeds were put: an odd number */
-#define counts_put() odd = 1 - odd
+bit run_over, odd;		/* the run has ended; feeds have put an odd number of items */
+#define counts_item() odd = 1 - odd
 #define ends() run_over = 1
 ltl each_run_ends { <> run_over || ([] <> (odd == 0) && [] <> (odd == 1)) }
 #else
-#define counts_put() skip
+#define counts_item() skip
 #ifndef REPLAY
 #define ends() skip
 #endif
@@ -91,8 +92,7 @@ ltl each_run_ends { <> run_over || ([] <> (odd == 0) && [] <> (odd == 1)) }
 inline put(own, at_lane, message) {
 	at_lane!message;
 	says(own, PUTS, HUB);
-	owes[own] = 1;
-	counts_put()
+	owes[own] = 1
 }
 
 /* Waiter::wake; of the hub, as Waiter::turned has it */
@@ -102,7 +102,7 @@ inline wake(own, other) {
 
 /* Waiter::wait: a thread sleeps only where nothing is there for it, or another is about to wake it. */
 inline wait(own, nothing) {
-	atomic { assert(token[own] || (nothing)); says(own, SLEEPS, own); token[own] -> token[own] = 0 }
+	atomic { assert(token[own] || (nothing)); says(own, SLEEPS, HUB); token[own] -> token[own] = 0 }
 }
 
 /* ------------------------------------------------------------------ a feed's thread: feed_thread.rt */
@@ -118,6 +118,7 @@ next:	/* run_feed; Feed::next; put_quietly, Put::put */
 		if
 		:: items > 0 ->
 			put(FEED(f), lane[f], Item);
+			counts_item();
 			items = (items == 255 -> 255 : items - 1);
 			if
 			:: room > 0 -> goto next		/* put_ahead: goes on */
@@ -287,6 +288,7 @@ active proctype Hub() {
 	bit found, done, ran;
 	mtype told;
 
+	begins();
 	/*
 	 * run_threads, start_feeds, start_workers, start_workers_from: each call starts a thread (start_feed, open_feed; start_worker,
 	 * open_worker), or else drains the feeds that run; the last one runs the hub (Run::run, run_hub)
