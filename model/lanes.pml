@@ -45,11 +45,11 @@
 /*
  * ------------------------------------------------------------------ lanes: lanes.rt, messages.rt
  *
- * A lane is a ring of rtrb. Producer::push (is_full, slots, push_reserved) and Consumer::pop (is_empty, slots, pop_known) each have one load
- * of the other end's position at most (End::load_head, End::load_tail), and then one store of their own (End::put, End::take), all SeqCst. An
- * end that takes pops what it has seen before it loads, and nobody else takes: so a take is one step, at its store, and finds nothing only
- * where nothing is there at its load. An end that puts may know of less room than there is, as Put::room (cached_slots) tells, so a feed's
- * loads are steps of their own.
+ * A lane is a ring of rtrb. Producer::push (is_full, slots, push_reserved) and Consumer::pop (is_empty, slots, pop_known) each have one
+ * load of the other end's position at most (End::load_head, End::load_tail), and then one store of their own (End::put, End::take), all
+ * SeqCst. An end that takes pops what it has seen before it loads, and nobody else takes: so a take is one step, at its store, and finds
+ * nothing only where nothing is there at its load. An end that puts may know of less room than there is, as Put::room (cached_slots)
+ * tells, so a feed's loads are steps of their own.
  */
 
 mtype = { Item, End,		/* FromFeed; whether an end tells a fault is chosen as it is taken, which no thread can tell from before */
@@ -73,6 +73,7 @@ bit gone[THREADS];		/* this thread has ended */
 #else
 #define says(thread, what, other) skip
 #define begins() skip
+#define must(hold) assert(hold)
 #endif
 
 /* Each run ends, or feeds put items for ever. */
@@ -102,7 +103,7 @@ inline wake(own, other) {
 
 /* Waiter::wait: a thread sleeps only where nothing is there for it, or another is about to wake it. */
 inline wait(own, nothing) {
-	atomic { assert(token[own] || (nothing)); says(own, SLEEPS, HUB); token[own] -> token[own] = 0 }
+	atomic { must(token[own] || (nothing)); says(own, SLEEPS, HUB); token[own] -> token[own] = 0 }
 }
 
 /* ------------------------------------------------------------------ a feed's thread: feed_thread.rt */
@@ -153,7 +154,7 @@ next:	/* run_worker, Take::take */
 	:: atomic { jobs[w]?[Do] -> jobs[w]?Do; says(WORKER(w), TAKES, HUB) }
 	fi;
 	/* put_quietly; a choice of the answer is the hub's, as it takes it */
-	atomic { assert(len(answers[w]) < MOST_OUTSTANDING); put(WORKER(w), answers[w], 0) };
+	atomic { must(len(answers[w]) < MOST_OUTSTANDING); put(WORKER(w), answers[w], 0) };
 	/* wake_hub, Take::waiting */
 	if
 	:: len(jobs[w]) <= 1 -> wake(WORKER(w), HUB)
@@ -193,7 +194,7 @@ inline renumber(f) {
 
 /* put_waiting of a worker's lane, up to the wake-up */
 inline give(worker, message) {
-	assert(len(jobs[worker]) < MOST_OUTSTANDING);
+	must(len(jobs[worker]) < MOST_OUTSTANDING);
 	jobs[worker]!message;
 	says(HUB, PUTS, WORKER(worker));
 	owed[WORKER(worker)] = 1
@@ -223,9 +224,9 @@ inline hand_on() {
 /* Hub::offer, Sink::offer, FileState::offer: refuses nothing */
 inline offer() {
 	d_step {
-		assert(!(ended[file] && serial >= ahead[file]));	/* Closed */
-		assert(serial < SLOTS);					/* Far */
-		assert(!(slots[file] & (1 << serial)));			/* Double */
+		must(!(ended[file] && serial >= ahead[file]));	/* Closed */
+		must(serial < SLOTS);					/* Far */
+		must(!(slots[file] & (1 << serial)));			/* Double */
 		slots[file] = slots[file] | (1 << serial);
 		file = 0; serial = 0
 	}
@@ -385,10 +386,10 @@ turns:	/* run_turns, take_turn */
 finished:	/* without a fault everything was handed out */
 	atomic {
 		do
-		:: n < FILES -> assert(ahead[n] == 0 && slots[n] == 0); n++
+		:: n < FILES -> must(ahead[n] == 0 && slots[n] == 0); n++
 		:: else -> break
 		od;
-		assert(at == FILES)
+		must(at == FILES)
 	};
 	goto close;
 
