@@ -1,4 +1,6 @@
 //! What opens files by name.
+ghost use Rattle.std.specs.Prelude.{◌≡◌, ℕ, List, Option, Some, None, IfOk};
+
 use crate::outputs::{Output, SystemOutput};
 use crate::progress::{Line, Watched};
 use fq_places::Unread;
@@ -43,8 +45,13 @@ pub trait Opener {
     /// What takes the frame in the place of a file.
     type Output: Output;
 
+    // The bytes of the file of a name, if they are known.
+    ghost bytes_of: { Self → List ℕ → Option (List ℕ) } = { λ _ _. None };
+
     /// A reader of the file of this name, from its start. Fails if there is none, or it cannot be opened.
-    fn reader_of(&mut self, name: &str) -> Result<Self::Reader, OpenFault>;
+    fn reader_of(&mut self, name: &str) -> Result<Self::Reader, OpenFault>
+        ensures same { bytes_of self.new ≡ bytes_of self.old }
+        ensures told { (bytes : List ℕ) → bytes_of self.old name.now ≡ Some bytes → IfOk result (λ reader. Self.Reader.remaining reader ≡ Some bytes) };
 
     /// What takes the place of the file of this name, once it is kept. Fails if nothing can be written there.
     fn output_of(&mut self, alloc: Global, name: &str) -> Result<Self::Output, OpenFault>;
@@ -56,7 +63,9 @@ pub trait Opener {
     }
 
     /// From here on, the readers of the files that are opened show how far they are. An opener may have nowhere to show it.
-    fn show_progress(&mut self) {}
+    fn show_progress(&mut self)
+        ensures { bytes_of self.new ≡ bytes_of self.old }
+    {}
 
     /// Takes away what the readers have shown.
     fn clear_progress(&mut self) {}

@@ -1,5 +1,11 @@
 //! The arguments of the command line.
+ghost use Rattle.std.specs.Prelude.{◌≡◌, ◌≤◌, true, false, codes, map, option_map, string_bytes, count_by, IfOk, IfErr};
+ghost use Rattle.std.specs.Option.{option_map_or};
+ghost use Rattle.clap.specs.Words.{app_of, kind_of, rule_of};
+ghost use Rattle.fq_shell.specs.Arguments.{option_rule, number_rule, flag_rule, output_rule, file_rule, run_app, is_run, is_standard, names_of, named_by, reads_input_twice};
+
 use crate::files::{STANDARD_INPUT, STANDARD_OUTPUT};
+use clap::error::ErrorKind;
 use clap::{Arg, ArgAction, ArgMatches, Command, Error, value_parser};
 use fq_csv::MAX_BATCH_SIZE;
 use fq_lanes::MAX_WORKERS;
@@ -22,6 +28,15 @@ const LIMIT: u64 = 100;
 pub struct Options<'a>(ArgMatches<'a>);
 
 impl<'a> Options<'a> {
+    /// The options of a run, if the arguments are those of one; the program's own name is not among these. Other arguments are refused:
+    /// those of a run that repeats an option, too, which [`Options::of_arguments`] takes.
+    pub fn of_run(alloc: Global, words: &'a [String]) -> Result<Options<'a>, Error>
+        ensures taken { IfOk result (λ options. (is_run (map string_bytes words.now) ≡ true) × (named_by options ≡ names_of (map string_bytes words.now))) }
+        ensures refused { IfErr result (λ refusal. is_run (map string_bytes words.now) ≡ true → kind_of refusal ≡ ErrorKind.OutOfMemory) }
+    {
+        Ok(Options(run_command(alloc)?.try_get_matches_from(words)?))
+    }
+
     /// The options that the arguments give; the program's own name is not among these. A request for help or for the version is an
     /// error here, as in `clap`.
     pub fn of_arguments(alloc: Global, words: &'a [String]) -> Result<Options<'a>, Error> {
@@ -29,30 +44,52 @@ impl<'a> Options<'a> {
     }
 
     /// The name of the plan file. It is present unless a plan is to be drafted: `clap` requires it.
-    pub fn plan(&self) -> Option<&'a str> {
+    pub fn plan(&self) -> Option<&'a str>
+        ensures { option_map (λ name. name.now) result ≡ (named_by self.now).plan }
+    {
         self.0.get_str("plan")
     }
 
     /// The names of the data files, in order. There are none only if the plan is to be explained.
-    pub fn files(&self) -> &[&'a str] {
+    pub fn files(&self) -> &[&'a str]
+        ensures { map (λ name. name.now) result.now ≡ (named_by self.now).files }
+    {
         self.0.get_strs("file").unwrap_or_default()
     }
 
     /// The rows of a batch.
-    pub fn batch_size(&self) -> u32 {
-        self.0.get_one("batch").unwrap_or(BATCH_SIZE)
+    pub fn batch_size(&self) -> u32
+        ensures positive { 1 ≤ result }
+        ensures not_too_many { result ≤ MAX_BATCH_SIZE }
+    {
+        // (`clap` has refused a number out of this range, and no contract says so)
+        let size = self.0.get_one("batch").unwrap_or(BATCH_SIZE);
+        size.clamp(1, MAX_BATCH_SIZE)
     }
 
     /// The number of workers.
-    pub fn workers(&self) -> u16 {
-        self.0.get_one("workers").unwrap_or(WORKERS)
+    pub fn workers(&self) -> u16
+        ensures positive { 1 ≤ result }
+        ensures not_too_many { result ≤ MAX_WORKERS }
+    {
+        let workers = self.0.get_one("workers").unwrap_or(WORKERS);
+        workers.clamp(1, MAX_WORKERS)
     }
 
     /// The name of the file that takes the frame, if standard output does not.
-    pub fn output(&self) -> Option<&'a str> {
-        self.0
-            .get_str("output")
-            .filter(|name| *name != STANDARD_OUTPUT)
+    pub fn output(&self) -> Option<&'a str>
+        ensures { option_map (λ name. name.now) result ≡ (named_by self.now).output }
+    {
+        match self.0.get_str("output") {
+            Some(name) => {
+                if name == STANDARD_OUTPUT {
+                    None
+                } else {
+                    Some(name)
+                }
+            }
+            None => None,
+        }
     }
 
     /// Whether the plan is to be explained, and not run.
@@ -94,14 +131,59 @@ impl<'a> Options<'a> {
     }
 
     /// Whether more than one of the plan and the files is standard input.
-    pub fn reads_input_twice(&self) -> bool {
-        let plan = usize::from(self.plan() == Some(STANDARD_INPUT));
-        let files = self.files().iter().filter(|name| **name == STANDARD_INPUT);
-        plan + files.count() > 1
+    pub fn reads_input_twice(&self) -> bool
+        ensures { result ≡ reads_input_twice (named_by self.now) }
+    {
+        let files = count_standard(self.files());
+        if self.plan_is_standard() {
+            files > 0
+        } else {
+            files > 1
+        }
+    }
+
+    // Whether the plan is standard input.
+    fn plan_is_standard(&self) -> bool
+        ensures { result ≡ option_map_or is_standard (named_by self.now).plan false }
+    {
+        match self.plan() {
+            Some(name) => name == STANDARD_INPUT,
+            None => false,
+        }
     }
 }
 
-// The command line, and its help, in whose order the arguments stand.
+// How many of these names are standard input.
+fn count_standard(names: &[&str]) -> usize
+    ensures { result ≡ count_by is_standard (map (λ name. name.now) names.now) }
+{
+    let mut count = 0;
+    for name in names {
+        if *name == STANDARD_INPUT {
+            count += 1;
+        }
+    }
+    count
+}
+
+// The command line of a run: no argument has a rule on another, and none may be repeated but the files, so that its contract says
+// exactly what it takes and what it finds.
+fn run_command<'a>(alloc: Global) -> Result<Command<'a>, AllocError>
+    ensures { IfOk result (λ command. app_of command ≡ run_app) }
+{
+    let command = Command::new(alloc, "frameq")
+        .no_binary_name(true)
+        .disable_help_flag(true);
+    let command = command.arg(plan(alloc).required(true))?;
+    let command = command.arg(batch(alloc))?;
+    let command = command.arg(workers(alloc))?;
+    let command = command.arg(output(alloc))?;
+    let command = command.arg(details(alloc))?;
+    let command = command.arg(progress(alloc))?;
+    command.arg(file(alloc).required(true))
+}
+
+// The whole command line, and its help, in whose order the arguments stand. Those of a run are the same as above, with rules on the others.
 fn command<'a>(alloc: Global) -> Result<Command<'a>, AllocError> {
     let command = Command::new(alloc, "frameq")
         .no_binary_name(true)
@@ -110,15 +192,16 @@ fn command<'a>(alloc: Global) -> Result<Command<'a>, AllocError> {
         .after_long_help(AFTER_HELP);
     let command = with_run(alloc, command)?;
     let command = with_reviews(alloc, command)?;
-    with_messages(alloc, command)?.arg(file(alloc)?)
+    with_messages(alloc, command)?.arg(file(alloc).required_unless_present("explain")?)
 }
 
 // Adds the arguments of a run.
 fn with_run<'a>(alloc: Global, command: Command<'a>) -> Result<Command<'a>, AllocError> {
-    let command = command.arg(plan(alloc)?)?;
-    let command = command.arg(batch(alloc)?)?;
-    let command = command.arg(workers(alloc)?)?;
-    command.arg(output(alloc)?)
+    let command = command.arg(plan(alloc).required_unless_present("draft")?)?;
+    let command = command.arg(batch(alloc).overrides_with("batch")?)?;
+    let command = command.arg(workers(alloc).overrides_with("workers")?)?;
+    let output = output(alloc).overrides_with("output")?;
+    command.arg(output.conflicts_with("explain")?)
 }
 
 // Adds the arguments with which no plan is run.
@@ -134,44 +217,51 @@ fn with_messages<'a>(alloc: Global, command: Command<'a>) -> Result<Command<'a>,
     command.arg(details(alloc))?.arg(progress(alloc))
 }
 
-fn plan<'a>(alloc: Global) -> Result<Arg<'a>, AllocError> {
+fn plan<'a>(alloc: Global) -> Arg<'a>
+    ensures rule { rule_of result ≡ option_rule (codes "plan") }
+    ensures local { result.global ≡ false }
+{
     Arg::new(alloc, "plan")
         .long("plan")
         .value_name("PLAN")
         .action(ArgAction::Set)
         .help("The plan: a file with one JSON object, or - for standard input")
-        .required_unless_present("draft")
 }
 
-fn batch<'a>(alloc: Global) -> Result<Arg<'a>, AllocError> {
+fn batch<'a>(alloc: Global) -> Arg<'a>
+    ensures rule { rule_of result ≡ number_rule (codes "batch") 65536 (codes "1024") }
+    ensures local { result.global ≡ false }
+{
     Arg::new(alloc, "batch")
         .long("batch")
         .value_name("N")
         .value_parser(value_parser!(u32).range(1..=i64::from(MAX_BATCH_SIZE)))
         .default_value("1024")
         .help("Rows that are read and worked on at a time, from 1 to 65536")
-        .overrides_with("batch")
 }
 
-fn workers<'a>(alloc: Global) -> Result<Arg<'a>, AllocError> {
+fn workers<'a>(alloc: Global) -> Arg<'a>
+    ensures rule { rule_of result ≡ number_rule (codes "workers") 16 (codes "2") }
+    ensures local { result.global ≡ false }
+{
     Arg::new(alloc, "workers")
         .long("workers")
         .value_name("N")
         .value_parser(value_parser!(u16).range(1..=i64::from(MAX_WORKERS)))
         .default_value("2")
         .help("Threads that work on batches, from 1 to 16")
-        .overrides_with("workers")
 }
 
-fn output<'a>(alloc: Global) -> Result<Arg<'a>, AllocError> {
+fn output<'a>(alloc: Global) -> Arg<'a>
+    ensures rule { rule_of result ≡ output_rule }
+    ensures local { result.global ≡ false }
+{
     Arg::new(alloc, "output")
         .long("output")
         .short('o')
         .value_name("OUT")
         .action(ArgAction::Set)
         .help("The file that takes the frame once all of it is there, or - for standard output")
-        .overrides_with("output")?
-        .conflicts_with("explain")
 }
 
 fn explain<'a>(alloc: Global) -> Arg<'a> {
@@ -223,21 +313,30 @@ fn null_values<'a>(alloc: Global) -> Result<Arg<'a>, AllocError> {
         .requires_arg("draft")
 }
 
-fn details<'a>(alloc: Global) -> Arg<'a> {
+fn details<'a>(alloc: Global) -> Arg<'a>
+    ensures rule { rule_of result ≡ flag_rule (codes "details") }
+    ensures local { result.global ≡ false }
+{
     Arg::new(alloc, "details")
         .long("details")
         .action(ArgAction::SetTrue)
         .help("Say more about a fault, in lines after its own: where it is, and what stands there")
 }
 
-fn progress<'a>(alloc: Global) -> Arg<'a> {
+fn progress<'a>(alloc: Global) -> Arg<'a>
+    ensures rule { rule_of result ≡ flag_rule (codes "progress") }
+    ensures local { result.global ≡ false }
+{
     Arg::new(alloc, "progress")
         .long("progress")
         .action(ArgAction::SetTrue)
         .help("Show on standard error how far the files are read, if it is a terminal")
 }
 
-fn file<'a>(alloc: Global) -> Result<Arg<'a>, AllocError> {
+fn file<'a>(alloc: Global) -> Arg<'a>
+    ensures rule { rule_of result ≡ file_rule }
+    ensures local { result.global ≡ false }
+{
     Arg::new(alloc, "file")
         .value_name("FILE")
         .action(ArgAction::Append)
@@ -245,7 +344,6 @@ fn file<'a>(alloc: Global) -> Result<Arg<'a>, AllocError> {
         .help(
             "The CSV files, or - for standard input: those of the plan's first source, then those of the next, and so on",
         )
-        .required_unless_present("explain")
 }
 
 const AFTER_HELP: &str =

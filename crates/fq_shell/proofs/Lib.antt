@@ -1,0 +1,3 @@
+pub mod OnLiterals
+pub mod RuleLemmas
+pub mod RunCommand

@@ -1,0 +1,41 @@
+-- Worked examples: the arguments of runs, and the files that they name.
+use Rattle.std.specs.Prelude.{◌≡◌, true, false, List, [], ◌∷◌, codes, Option, Some, None}
+use Rattle.clap.specs.Words.{Text}
+use Rattle.fq_shell.specs.Arguments.{Names, is_run, names_of, reads_input_twice}
+
+-- these are the arguments of a run, which name this plan, these files and this output
+abbrev pub NamesThese : List Text → Text → List Text → Option Text → Type 0
+NamesThese arguments plan files output = (is_run arguments ≡ true) × (names_of arguments ≡ record { plan = Some plan; files = files; output = output })
+
+-- the files in the order in which they stand, wherever options stand between them
+abbrev pub Orders : Type 0
+Orders = NamesThese (codes "--plan=p" ∷ codes "1" ∷ codes "0" ∷ []) (codes "p") (codes "1" ∷ codes "0" ∷ []) None
+    × NamesThese (codes "1" ∷ codes "--plan" ∷ codes "p" ∷ codes "0" ∷ []) (codes "p") (codes "1" ∷ codes "0" ∷ []) None
+    × NamesThese (codes "1" ∷ codes "1" ∷ codes "--workers=16" ∷ codes "--batch" ∷ codes "65536" ∷ codes "--details" ∷ codes "--plan" ∷ codes "p" ∷ []) (codes "p") (codes "1" ∷ codes "1" ∷ []) None
+
+-- `-` is a file as others are, and behind `--` no name is an option
+abbrev pub Hyphens : Type 0
+Hyphens = NamesThese (codes "--plan" ∷ codes "-" ∷ codes "a" ∷ []) (codes "-") (codes "a" ∷ []) None
+    × NamesThese (codes "--plan" ∷ codes "p" ∷ codes "--" ∷ codes "-x" ∷ codes "--plan" ∷ []) (codes "p") (codes "-x" ∷ codes "--plan" ∷ []) None
+
+-- `-` is standard output
+abbrev pub Outputs : Type 0
+Outputs = NamesThese (codes "--plan=p" ∷ codes "-o" ∷ codes "out" ∷ codes "a" ∷ []) (codes "p") (codes "a" ∷ []) (Some (codes "out"))
+    × NamesThese (codes "--plan=p" ∷ codes "a" ∷ codes "-oout" ∷ []) (codes "p") (codes "a" ∷ []) (Some (codes "out"))
+    × NamesThese (codes "--plan=p" ∷ codes "--output=-" ∷ codes "a" ∷ []) (codes "p") (codes "a" ∷ []) None
+
+-- no plan, no file, a number out of range, an option that is repeated, and what asks for something else than a run
+abbrev pub Others : Type 0
+Others = (is_run (codes "a" ∷ []) ≡ false)
+    × (is_run (codes "--plan=p" ∷ []) ≡ false)
+    × (is_run (codes "--plan=p" ∷ codes "--batch" ∷ codes "0" ∷ codes "a" ∷ []) ≡ false)
+    × (is_run (codes "--plan=p" ∷ codes "--workers=17" ∷ codes "a" ∷ []) ≡ false)
+    × (is_run (codes "--plan=p" ∷ codes "--plan=q" ∷ codes "a" ∷ []) ≡ false)
+    × (is_run (codes "--plan=p" ∷ codes "--check" ∷ codes "a" ∷ []) ≡ false)
+    × (is_run (codes "--help" ∷ []) ≡ false)
+
+-- standard input under two names
+abbrev pub Twice : Type 0
+Twice = (reads_input_twice (names_of (codes "--plan=-" ∷ codes "a" ∷ codes "-" ∷ [])) ≡ true)
+    × (reads_input_twice (names_of (codes "--plan=p" ∷ codes "-" ∷ codes "-" ∷ [])) ≡ true)
+    × (reads_input_twice (names_of (codes "--plan=p" ∷ codes "a" ∷ codes "-" ∷ [])) ≡ false)
