@@ -1,4 +1,6 @@
 //! What more can be said of a failure than its one line says.
+ghost use Rattle.fq_messages.specs.Ending.{IsOutside};
+
 use crate::failures::Failure;
 use crate::file_details::FileDetails;
 use fq_column::Kind;
@@ -30,7 +32,9 @@ impl Learned {
     }
 
     /// The failure of a file that cannot be made or put in its place.
-    pub fn failure_of_write(&mut self, fault: OpenFault) -> Failure {
+    pub fn failure_of_write(&mut self, fault: OpenFault) -> Failure
+        ensures { IsOutside result }
+    {
         match fault {
             OpenFault::Memory => Failure::MEMORY,
             OpenFault::Failed(error) => {

@@ -13,6 +13,8 @@ const MAX_READS: u64 = 4_294_967_296;
 
 /// A reader of the file of this name. If it cannot be opened, the answer is `failure`.
 pub fn open<O: Opener>(files: &mut O, name: &str, failure: Failure) -> Result<O::Reader, Failure>
+    ensures same { O.bytes_of files.new ≡ O.bytes_of files.old }
+    ensures told { (bytes : List ℕ) → O.bytes_of files.old name.now ≡ Some bytes → IfOk result (λ reader. O.Reader.remaining reader ≡ Some bytes) }
     ensures failed { IfErr result (λ f. (f ≡ failure) ⊎ (f ≡ Failure.MEMORY)) }
 {
     match files.reader_of(name) {
