@@ -1,1 +1,3 @@
 pub mod ClauseLemmas
+pub mod NamedLemmas
+pub mod OpeningLemmas

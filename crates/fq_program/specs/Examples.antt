@@ -1,5 +1,6 @@
--- Worked examples: what inputs come to, from the bytes of standard input to the bytes of standard output, or the failure and its status.
-use Rattle.std.specs.Prelude.{◌≡◌, ℕ, ◌==◌, List, ◌++◌, map, codes, Result, Ok, Err, if◌then◌else◌}
+-- Worked examples: what inputs come to, from the bytes of standard input to the bytes of standard output, or the failure and its status;
+-- and what the files come to that arguments name.
+use Rattle.std.specs.Prelude.{◌≡◌, ℕ, ◌==◌, List, [], ◌∷◌, ◌++◌, map, codes, Some, None, Result, Ok, Err, if◌then◌else◌}
 use Rattle.std.specs.Result.{result_map_both}
 use Rattle.fq_column.specs.declared.faults.StepFault.TheVariants.{NoSuchColumn}
 use Rattle.fq_csv.specs.Printed.{printed}
@@ -8,9 +9,11 @@ use Rattle.fq_language.specs.declared.faults.PlanFault.TheVariants.{Json, Shape}
 use Rattle.fq_language.specs.declared.faults.Place.TheVariants.{Step}
 use Rattle.fq_run.specs.declared.faults.Fault.TheVariants.{Inputs, Header, BadCell}
 use Rattle.fq_messages.specs.Ending.{code_of}
+use Rattle.fq_shell.specs.Arguments.{names_of}
+use Rattle.fq_program.specs.Named.{early_failure, outcome_of}
 use Rattle.fq_program.specs.Program.{program}
 use Rattle.fq_messages.specs.declared.failures.Failure.{Failure}
-use Rattle.fq_messages.specs.declared.failures.Failure.TheVariants.{Plan, Check, Run}
+use Rattle.fq_messages.specs.declared.failures.Failure.TheVariants.{InputTwice, Plan, Check, Run}
 
 -- the output of an input, or its failure
 abbrev pub output : List ℕ → Result (List ℕ) Failure
@@ -42,3 +45,13 @@ Statuses = (code_of (output (line (codes "1") over_ten ++ codes "id,v\n")) ≡ 0
     × (code_of (output (line (codes "2") over_ten ++ codes "id,v\n")) ≡ 2)
     × (code_of (output (codes "{")) ≡ 3)
     × (code_of (output (line (codes "1") over_ten)) ≡ 4)
+
+-- two files of columns id and v, in the order in which they are named; no plan; the wrong number of files; standard input named twice
+abbrev pub NamedFiles : Type 0
+NamedFiles =
+    (result_map_both printed (λ failure. failure) (outcome_of (names_of (codes "--plan=p" ∷ codes "1" ∷ codes "0" ∷ [])) (line (codes "2") over_ten)
+    (codes "id,v\n1,30\n" ∷ codes "id,v\n0,20\n" ∷ [])) ≡ Ok (codes "id,v\n1,30\n0,20\n"))
+    × (early_failure (names_of (codes "--plan=p" ∷ codes "1" ∷ codes "0" ∷ [])) (line (codes "2") over_ten) ≡ None)
+    × (early_failure (names_of (codes "--plan=p" ∷ codes "1" ∷ [])) (codes "{") ≡ Some (Plan Json))
+    × (early_failure (names_of (codes "--plan=p" ∷ codes "1" ∷ [])) (line (codes "2") over_ten) ≡ Some (Run (Inputs 2 1)))
+    × (early_failure (names_of (codes "--plan=-" ∷ codes "-" ∷ [])) (line (codes "1") over_ten) ≡ Some InputTwice)

@@ -1,9 +1,16 @@
 //! The program with arguments.
-ghost use Rattle.std.specs.Prelude.{◌≢◌, ◌<◌, ◌^◌, length, IfErr, OnOk};
-ghost use Rattle.std.specs.Io.KnownBytes.{Keeps};
+ghost use Rattle.std.specs.Prelude.{◌≡◌, ◌≢◌, ◌⊎◌, ◌<◌, ◌^◌, ℕ, List, Some, None, IsSome, IfSome, IfErr, IfOk, IsErrAnd, MatchResult, OnOk, length, map, string_bytes, true};
+ghost use Rattle.std.specs.Io.KnownBytes.{Appends, Keeps};
+ghost use Rattle.fq_column.specs.Frame.{Frame};
+ghost use Rattle.fq_csv.specs.Printed.{printed};
+ghost use Rattle.fq_language.specs.Plan.{files_wanted};
 ghost use Rattle.fq_run.specs.declared.faults.Fault.TheVariants as fault;
-ghost use Rattle.fq_messages.specs.Ending.{done, bad_device};
+ghost use Rattle.fq_run.specs.Run.{Tell};
+ghost use Rattle.fq_shell.specs.Arguments.{is_run, names_of, named_by};
+ghost use Rattle.fq_messages.specs.Ending.{done, bad_device, code_of, number_of, status_of, IsOutside};
 ghost use Rattle.fq_messages.specs.declared.failures.Failure.TheVariants as failure;
+ghost use Rattle.fq_program.specs.Program.{checked_plan as checked_plan_of, frame_of};
+ghost use Rattle.fq_program.specs.Named.{early_failure, outcome_of, plan_text, EndsAt, FailsAs, IsRun, Prints};
 
 use crate::program::{checked_plan, run_over};
 use clap::error::ErrorKind;
@@ -36,10 +43,84 @@ pub fn with_words<T: Threads + Wait + Sync, O: Opener, W: Write, E: Write>(
     out: &mut Noted<W>,
     err: &mut E,
 ) -> u8
+    ensures early { let arguments = map string_bytes words.items in (text : List ℕ) → IsRun (O.bytes_of files.old) arguments text →
+        IfSome (early_failure (names_of arguments) text) (λ refusal. EndsAt (number_of (status_of refusal)) result) }
+    ensures status { let arguments = map string_bytes words.items in (text : List ℕ) (inputs : List (List ℕ)) → IsRun (O.bytes_of files.old) arguments text →
+        Tell (O.bytes_of files.old) (names_of arguments).files inputs → EndsAt (code_of (outcome_of (names_of arguments) text inputs)) result }
+    ensures output { let arguments = map string_bytes words.items in (text : List ℕ) (inputs : List (List ℕ)) → IsRun (O.bytes_of files.old) arguments text →
+        Tell (O.bytes_of files.old) (names_of arguments).files inputs → (names_of arguments).output ≡ None → result ≡ done →
+        (frame : Frame) × (outcome_of (names_of arguments) text inputs ≡ Ok frame) × Appends (W.contents out.old.writer) (W.contents out.new.writer) (printed frame) }
+    ensures elsewhere { let arguments = map string_bytes words.items in is_run arguments ≡ true → IsSome (names_of arguments).output →
+        Keeps (W.contents out.old.writer) (W.contents out.new.writer) }
     ensures unwritten { result ≢ done → result ≢ bad_device → Keeps (W.contents out.old.writer) (W.contents out.new.writer) }
 {
-    match Options::of_arguments(alloc, words.as_slice()) {
-        Ok(options) => run_and_report(rt, alloc, &options, files, out, err),
+    match Options::of_run(alloc, words.as_slice()) {
+        Ok(options) => answer_run(rt, alloc, &options, files, out, err),
+        Err(refusal) => match refusal.kind() {
+            ErrorKind::OutOfMemory => report(Err(Failure::MEMORY), err),
+            _ => answer_other(rt, alloc, words.as_slice(), files, out, err),
+        },
+    }
+}
+
+// Runs the plan of the plan file over the data files, and says on `err` why there is no frame.
+fn answer_run<T: Threads + Wait + Sync, O: Opener, W: Write, E: Write>(
+    rt: &T,
+    alloc: Global,
+    options: &Options<'_>,
+    files: &mut O,
+    out: &mut Noted<W>,
+    err: &mut E,
+) -> u8
+    ensures early { (text : List ℕ) → plan_text (O.bytes_of files.old) (named_by options.now) ≡ Some text →
+        IfSome (early_failure (named_by options.now) text) (λ refusal. EndsAt (number_of (status_of refusal)) result) }
+    ensures status { (text : List ℕ) (inputs : List (List ℕ)) → plan_text (O.bytes_of files.old) (named_by options.now) ≡ Some text →
+        Tell (O.bytes_of files.old) (named_by options.now).files inputs → EndsAt (code_of (outcome_of (named_by options.now) text inputs)) result }
+    ensures output { (text : List ℕ) (inputs : List (List ℕ)) → plan_text (O.bytes_of files.old) (named_by options.now) ≡ Some text →
+        Tell (O.bytes_of files.old) (named_by options.now).files inputs → (named_by options.now).output ≡ None → result ≡ done →
+        (frame : Frame) × (outcome_of (named_by options.now) text inputs ≡ Ok frame) × Appends (W.contents out.old.writer) (W.contents out.new.writer) (printed frame) }
+    ensures elsewhere { IsSome (named_by options.now).output → Keeps (W.contents out.old.writer) (W.contents out.new.writer) }
+    ensures unwritten { result ≢ done → result ≢ bad_device → Keeps (W.contents out.old.writer) (W.contents out.new.writer) }
+{
+    let mut learned = Learned::new(alloc);
+    let ending = run_named(rt, alloc, options, files, out, &mut learned);
+    learned.write = learned.write.or(out.error);
+    answer_ending(alloc, ending, options, &learned, files, err)
+}
+
+// The exit status of an ending; on `err`, why there is nothing on the output, with details if they are asked for.
+fn answer_ending<O: Opener, E: Write>(
+    alloc: Global,
+    ending: Result<(), Failure>,
+    options: &Options<'_>,
+    learned: &Learned,
+    files: &mut O,
+    err: &mut E,
+) -> u8
+    ensures { result ≡ code_of ending }
+{
+    let status = report(ending, err);
+    if let Err(failure) = ending
+        && options.details()
+    {
+        write_details(alloc, failure, options, learned, files, err);
+    }
+    status
+}
+
+// Does what arguments ask for that are not only those of a run, or says what is wrong with them.
+fn answer_other<T: Threads + Wait + Sync, O: Opener, W: Write, E: Write>(
+    rt: &T,
+    alloc: Global,
+    words: &[String],
+    files: &mut O,
+    out: &mut Noted<W>,
+    err: &mut E,
+) -> u8
+    ensures unwritten { result ≢ done → result ≢ bad_device → Keeps (W.contents out.old.writer) (W.contents out.new.writer) }
+{
+    match Options::of_arguments(alloc, words) {
+        Ok(options) => answer_options(rt, alloc, &options, files, out, err),
         Err(answer) => answer_usage(alloc, &answer, out, err),
     }
 }
@@ -68,8 +149,8 @@ fn answer_usage<W: Write, E: Write>(
     )
 }
 
-// Explains the plan of the plan file, or runs it over the data files, and says on `err` why there is nothing on `out`.
-fn run_and_report<T: Threads + Wait + Sync, O: Opener, W: Write, E: Write>(
+// Does what the options ask for, and says on `err` why there is nothing on `out`.
+fn answer_options<T: Threads + Wait + Sync, O: Opener, W: Write, E: Write>(
     rt: &T,
     alloc: Global,
     options: &Options<'_>,
@@ -82,13 +163,7 @@ fn run_and_report<T: Threads + Wait + Sync, O: Opener, W: Write, E: Write>(
     let mut learned = Learned::new(alloc);
     let ending = run_options(rt, alloc, options, files, out, err, &mut learned);
     learned.write = learned.write.or(out.error);
-    let status = report(ending, err);
-    if let Err(failure) = ending
-        && options.details()
-    {
-        write_details(alloc, failure, options, &learned, files, err);
-    }
-    status
+    answer_ending(alloc, ending, options, &learned, files, err)
 }
 
 // Drafts a plan, checks the data files, explains the plan of the plan file, or runs it over the data files.
@@ -124,11 +199,37 @@ fn read_plan_file<O: Opener>(
     options: &Options<'_>,
     files: &mut O,
     learned: &mut Learned,
-) -> Result<Checked, Failure> {
-    let name = options.plan().ok_or(Failure::PlanFile)?;
-    let reader = open(files, name, Failure::PlanFile)?;
-    learned.plan = read_whole(alloc, reader, Failure::PlanFile)?;
-    checked_plan(alloc, learned.plan.as_slice())
+) -> Result<Checked, Failure>
+    ensures same { O.bytes_of files.new ≡ O.bytes_of files.old }
+    ensures read { (text : List ℕ) → plan_text (O.bytes_of files.old) (named_by options.now) ≡ Some text →
+        MatchResult result (λ plan. checked_plan_of text ≡ Ok plan) (λ f. (checked_plan_of text ≡ Err f) ⊎ IsOutside f) }
+{
+    match read_plan_text(alloc, options, files) {
+        Ok(text) => {
+            learned.plan = text;
+            checked_plan(alloc, learned.plan.as_slice())
+        }
+        Err(failure) => Err(failure),
+    }
+}
+
+// The text of the plan file.
+fn read_plan_text<O: Opener>(
+    alloc: Global,
+    options: &Options<'_>,
+    files: &mut O,
+) -> Result<Vec<u8>, Failure>
+    ensures same { O.bytes_of files.new ≡ O.bytes_of files.old }
+    ensures read { (text : List ℕ) → plan_text (O.bytes_of files.old) (named_by options.now) ≡ Some text → IfOk result (λ bytes. bytes.items ≡ text) }
+    ensures failed { IfErr result IsOutside }
+{
+    match options.plan() {
+        Some(name) => match open(files, name, Failure::PlanFile) {
+            Ok(reader) => read_whole(alloc, reader, Failure::PlanFile),
+            Err(failure) => Err(failure),
+        },
+        None => Err(Failure::PlanFile),
+    }
 }
 
 // Writes a plan without steps whose sources are the data files, and on `err` what a reader of it may want to know.
@@ -163,13 +264,8 @@ fn explain_or_run<T: Threads + Wait + Sync, O: Opener, W: Write>(
 {
     if options.explain() {
         write_explanation(alloc, plan, options.files(), out)
-    } else if options.progress() {
-        files.show_progress();
-        let answer = run_plan(rt, alloc, plan, options, files, out, learned);
-        files.clear_progress();
-        answer
     } else {
-        run_plan(rt, alloc, plan, options, files, out, learned)
+        run_shown(rt, alloc, plan, options, files, out, learned)
     }
 }
 
@@ -189,6 +285,62 @@ fn write_explanation<W: Write>(
     write!(out, "{explanation}").map_err(|_| Failure::Run(Fault::Write))
 }
 
+// Writes the frame of the plan of the plan file over the data files.
+fn run_named<T: Threads + Wait + Sync, O: Opener, W: Write>(
+    rt: &T,
+    alloc: Global,
+    options: &Options<'_>,
+    files: &mut O,
+    out: &mut W,
+    learned: &mut Learned,
+) -> Result<(), Failure>
+    ensures early { (text : List ℕ) → plan_text (O.bytes_of files.old) (named_by options.now) ≡ Some text →
+        IfSome (early_failure (named_by options.now) text) (λ refusal. IsErrAnd result (λ f. (f ≡ refusal) ⊎ IsOutside f)) }
+    ensures printed { (text : List ℕ) (inputs : List (List ℕ)) → plan_text (O.bytes_of files.old) (named_by options.now) ≡ Some text →
+        Tell (O.bytes_of files.old) (named_by options.now).files inputs →
+        Prints (outcome_of (named_by options.now) text inputs) (named_by options.now).output (W.contents out.old) (W.contents out.new) result }
+    ensures failed { (text : List ℕ) (inputs : List (List ℕ)) → plan_text (O.bytes_of files.old) (named_by options.now) ≡ Some text →
+        Tell (O.bytes_of files.old) (named_by options.now).files inputs → FailsAs (outcome_of (named_by options.now) text inputs) result }
+    ensures elsewhere { IsSome (named_by options.now).output → Keeps (W.contents out.old) (W.contents out.new) }
+    ensures unwritten { IfErr result (λ f. f ≢ failure.Run fault.Write → Keeps (W.contents out.old) (W.contents out.new)) }
+{
+    if options.reads_input_twice() {
+        return Err(Failure::InputTwice);
+    }
+    match read_plan_file(alloc, options, files, learned) {
+        Ok(plan) => run_shown(rt, alloc, &plan, options, files, out, learned),
+        Err(failure) => Err(failure),
+    }
+}
+
+// Writes the frame of the plan over the data files, and shows meanwhile how far they are read, if that is asked for.
+fn run_shown<T: Threads + Wait + Sync, O: Opener, W: Write>(
+    rt: &T,
+    alloc: Global,
+    plan: &Checked,
+    options: &Options<'_>,
+    files: &mut O,
+    out: &mut W,
+    learned: &mut Learned,
+) -> Result<(), Failure>
+    ensures early { length (named_by options.now).files ≢ files_wanted plan.now →
+        result ≡ Err (failure.Run (fault.Inputs (files_wanted plan.now) (length (named_by options.now).files))) }
+    ensures printed { (inputs : List (List ℕ)) → Tell (O.bytes_of files.old) (named_by options.now).files inputs →
+        Prints (frame_of plan.now inputs) (named_by options.now).output (W.contents out.old) (W.contents out.new) result }
+    ensures failed { (inputs : List (List ℕ)) → Tell (O.bytes_of files.old) (named_by options.now).files inputs → FailsAs (frame_of plan.now inputs) result }
+    ensures elsewhere { IsSome (named_by options.now).output → Keeps (W.contents out.old) (W.contents out.new) }
+    ensures unwritten { IfErr result (λ f. f ≢ failure.Run fault.Write → Keeps (W.contents out.old) (W.contents out.new)) }
+{
+    if options.progress() {
+        files.show_progress();
+        let answer = run_plan(rt, alloc, plan, options, files, out, learned);
+        files.clear_progress();
+        answer
+    } else {
+        run_plan(rt, alloc, plan, options, files, out, learned)
+    }
+}
+
 // Writes the frame of the plan over the data files.
 fn run_plan<T: Threads + Wait + Sync, O: Opener, W: Write>(
     rt: &T,
@@ -199,11 +351,37 @@ fn run_plan<T: Threads + Wait + Sync, O: Opener, W: Write>(
     out: &mut W,
     learned: &mut Learned,
 ) -> Result<(), Failure>
+    ensures early { length (named_by options.now).files ≢ files_wanted plan.now →
+        result ≡ Err (failure.Run (fault.Inputs (files_wanted plan.now) (length (named_by options.now).files))) }
+    ensures printed { (inputs : List (List ℕ)) → Tell (O.bytes_of files.old) (named_by options.now).files inputs →
+        Prints (frame_of plan.now inputs) (named_by options.now).output (W.contents out.old) (W.contents out.new) result }
+    ensures failed { (inputs : List (List ℕ)) → Tell (O.bytes_of files.old) (named_by options.now).files inputs → FailsAs (frame_of plan.now inputs) result }
+    ensures elsewhere { IsSome (named_by options.now).output → Keeps (W.contents out.old) (W.contents out.new) }
     ensures unwritten { IfErr result (λ f. f ≢ failure.Run fault.Write → Keeps (W.contents out.old) (W.contents out.new)) }
 {
     let names = options.files();
     count_files(plan, names)?;
     let inputs = open_all(alloc, files, names)?;
+    write_frame(rt, alloc, plan, options, inputs, files, out, learned)
+}
+
+// Writes the frame of the plan over inputs to `out`, or in the place of a file.
+fn write_frame<T: Threads + Wait + Sync, R: Read + Drop + Send, O: Opener, W: Write>(
+    rt: &T,
+    alloc: Global,
+    plan: &Checked,
+    options: &Options<'_>,
+    inputs: Vec<R>,
+    files: &mut O,
+    out: &mut W,
+    learned: &mut Learned,
+) -> Result<(), Failure>
+    ensures printed { (texts : List (List ℕ)) → Tell R.remaining inputs.items texts →
+        Prints (frame_of plan.now texts) (named_by options.now).output (W.contents out.old) (W.contents out.new) result }
+    ensures failed { (texts : List (List ℕ)) → Tell R.remaining inputs.items texts → FailsAs (frame_of plan.now texts) result }
+    ensures elsewhere { IsSome (named_by options.now).output → Keeps (W.contents out.old) (W.contents out.new) }
+    ensures unwritten { IfErr result (λ f. f ≢ failure.Run fault.Write → Keeps (W.contents out.old) (W.contents out.new)) }
+{
     let (batch_size, workers) = (options.batch_size(), options.workers());
     match options.output() {
         None => run_over(rt, alloc, plan, inputs, out, batch_size, workers),
@@ -217,7 +395,8 @@ fn run_plan<T: Threads + Wait + Sync, O: Opener, W: Write>(
 // Refuses a number of files that is not the plan's.
 fn count_files(plan: &Checked, names: &[&str]) -> Result<(), Failure>
     ensures few { OnOk result (length names.now < 2 ^ 16) }
-    ensures refused { IfErr result (λ f. f ≢ failure.Run fault.Write) }
+    ensures right { OnOk result (length names.now ≡ files_wanted plan.now) }
+    ensures wrong { IfErr result (λ f. (length names.now ≢ files_wanted plan.now) × (f ≡ failure.Run (fault.Inputs (files_wanted plan.now) (length names.now)))) }
 {
     let (wanted, got) = (plan.inputs(), names.len());
     if got != usize::from(wanted) {
@@ -235,19 +414,25 @@ fn run_to_file<T: Threads + Wait + Sync, R: Read + Drop + Send, O: Output>(
     inputs: Vec<R>,
     output: O,
     learned: &mut Learned,
-) -> Result<(), Failure> {
+) -> Result<(), Failure>
+    ensures kept { (texts : List (List ℕ)) → Tell R.remaining inputs.items texts → OnOk result ((frame : Frame) × (frame_of plan.now texts ≡ Ok frame)) }
+    ensures failed { (texts : List (List ℕ)) → Tell R.remaining inputs.items texts → FailsAs (frame_of plan.now texts) result }
+{
     let mut output = Noted::new(output);
     let (batch_size, workers) = (options.batch_size(), options.workers());
     let answer = run_over(rt, alloc, plan, inputs, &mut output, batch_size, workers);
     let Noted { writer, error } = output;
-    if answer.is_err() {
-        learned.write = error;
-        writer.discard();
-        return answer;
+    match answer {
+        Ok(()) => match writer.keep() {
+            Ok(()) => Ok(()),
+            Err(error) => Err(learned.failure_of_write(OpenFault::of(error))),
+        },
+        Err(failure) => {
+            learned.write = error;
+            writer.discard();
+            Err(failure)
+        }
     }
-    writer
-        .keep()
-        .map_err(|error| learned.failure_of_write(OpenFault::of(error)))
 }
 
 // Readers of the files of these names, in order.
@@ -257,6 +442,9 @@ fn open_all<O: Opener>(
     names: &[&str],
 ) -> Result<Vec<O::Reader>, Failure>
     requires { length names.now < 2 ^ 16 }
+    ensures told { (inputs : List (List ℕ)) → Tell (O.bytes_of files.old) (map (λ name. name.now) names.now) inputs →
+        IfOk result (λ readers. Tell O.Reader.remaining readers.items inputs) }
+    ensures failed { IfErr result IsOutside }
 {
     let mut readers = Vec::with_capacity(alloc, names.len())?;
     for (file, name) in names.iter().enumerate() {

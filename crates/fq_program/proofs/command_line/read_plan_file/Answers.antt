@@ -1,0 +1,7 @@
+use Rattle.std.proofs.Common.{◌∙◌}
+use Rattle.fq_program.proofs.NamedLemmas.{outside-memory}
+use Rattle.fq_program.proofs.command_line.read_plan_file.Goals as goal
+
+pub returns-in-Ok-clause-read : goal.returns-in-Ok-clause-read
+returns-in-Ok-clause-read g c text known =
+    outside-memory text _ c.checked_plan.result (c.as_slice.ensures.value ∙ c.in-Ok.ensures.read text known) c.checked_plan.ensures
