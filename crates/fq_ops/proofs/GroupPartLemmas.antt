@@ -1,5 +1,5 @@
 -- The groups of the groups of parts are the groups of all rows.
-use Rattle.std.proofs.Common.{◌≡◌, ℕ, zero, suc, ◌+◌, ◌^◌, ◌<◌, ◌⊎◌, inl, inr, Bool, true, false, not, cond, ◌||◌, ◌&&◌, List, [], ◌∷◌, ◌++◌, map, filter, length, nat_lt, ◌==◌, pos, Option, Some, None, Result, Ok, Err, refl, sym, ap, subst, ◌∙◌, true≢false, arith, append_assoc, append-nil}
+use Rattle.std.proofs.Common.{◌≡◌, ℕ, suc, ◌^◌, ◌<◌, ◌⊎◌, inl, inr, Bool, true, false, not, cond, ◌||◌, List, [], ◌∷◌, ◌++◌, map, filter, length, nat_lt, ◌==◌, pos, Option, Some, None, Result, Ok, Err, refl, sym, ap, subst, ◌∙◌, true≢false, arith, append_assoc, append-nil}
 use Rattle.std.specs.Prelude.{All, IsOk, slice_index_or}
 use Rattle.std.specs.List.{flat_map, list_any}
 use Rattle.std.specs.Option.{option_map, option_map_or}
@@ -7,7 +7,6 @@ use Rattle.std.specs.Result.{result_map_both}
 use Rattle.std.specs.Bool.{Decides}
 use Rattle.std.specs.Cmp.{first_so, second_so, signed_Decides}
 use Rattle.std.specs.Cmp.Lexicographic.{bytes_decides, pointwise_decides}
-use Rattle.std.proofs.lemmas.Bool.{or_parts}
 use Rattle.std.proofs.lemmas.List.{length-append, length-map, map-append}
 use Rattle.std.proofs.lemmas.List.Elements.{filter-append}
 use Rattle.fq_column.specs.declared.cells.Cell.{Cell}
@@ -23,7 +22,7 @@ use Rattle.fq_column.specs.Schema.{kind_named}
 use Rattle.fq_column.proofs.NameLemmas.{position-here, position-past}
 use Rattle.fq_ops.specs.declared.aggregates.Function.{Function}
 use Rattle.fq_ops.specs.declared.aggregates.Function.TheVariants as function
-use Rattle.fq_ops.specs.Aggregate.{Aggregate, len, over, Output, aggregated, count, first_seen, value_of}
+use Rattle.fq_ops.specs.Aggregate.{Aggregate, len, over, Output, aggregated, first_seen, value_of}
 use Rattle.fq_ops.specs.Fields.{Judged, refusals, settled}
 use Rattle.fq_ops.specs.Group.{aggregate_kind, all_ok, group_of, group_row, group_schema, grouped, grouped_fields, grouped_kinds, grouped_names, key_of, keys_of_rows, same_key}
 use Rattle.fq_ops.specs.Parts.{output_over_parts, over_parts}

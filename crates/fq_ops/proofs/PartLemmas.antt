@@ -1,12 +1,11 @@
 -- The rows of a part of a join.
-use Rattle.std.proofs.Common.{◌≡◌, ◌<◌, ◌≤◌, ◌+◌, ◌++◌, ◌∙◌, ◌⊎◌, inl, inr, ℕ, List, [], Option, None, Some, IsOk, length, map, drop, ap, sym, subst, refl, append-nil, slice_index_or, arith}
-use Rattle.std.specs.Option.{option_map}
+use Rattle.std.proofs.Common.{◌≡◌, ◌++◌, ◌∙◌, inl, inr, ℕ, List, [], Option, IsOk, length, map, ap, sym, subst, refl, append-nil, arith}
 use Rattle.std.proofs.lemmas.List.{length-map, map-append}
 use Rattle.fq_column.specs.Batch.{frame_of, kind_of_cells}
 use Rattle.fq_column.specs.Column.{Cells}
 use Rattle.fq_column.specs.Frame.{Fields, Frame, IsFrame, Name, Row, kinds_of}
 use Rattle.fq_column.specs.Stream.{Stream}
-use Rattle.fq_ops.specs.Join.{join_rows, join_schema, joined_fields}
+use Rattle.fq_ops.specs.Join.{join_schema, joined_fields}
 use Rattle.fq_ops.specs.Pairs.{Pair, join_picks, matches_of, named_key, pair_row, pairs_of}
 use Rattle.fq_ops.specs.Picks.{columns_of, row_of}
 use Rattle.fq_ops.specs.Probing.{GivesPart, GoesOn, IsCursor, IsProbeOf, output_at, pairs_from, rows_left}

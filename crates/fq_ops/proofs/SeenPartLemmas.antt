@@ -1,5 +1,5 @@
 -- Keys that are seen part by part, and the rows of one key.
-use Rattle.std.proofs.Common.{◌≡◌, ℕ, Bool, true, false, not, cond, ◌||◌, List, [], ◌∷◌, ◌++◌, map, filter, fold, length, refl, sym, ap, ◌∙◌, if◌then◌else◌, append_assoc, append-nil}
+use Rattle.std.proofs.Common.{◌≡◌, Bool, true, false, not, cond, ◌||◌, List, [], ◌∷◌, ◌++◌, filter, fold, refl, sym, ap, ◌∙◌, if◌then◌else◌, append_assoc, append-nil}
 use Rattle.std.specs.List.{list_any, flat_map}
 use Rattle.std.specs.Cmp.{IsEquivalence}
 use Rattle.indexmap.specs.IndexSet.{insert_key}

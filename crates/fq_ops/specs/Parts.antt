@@ -1,5 +1,5 @@
 -- What makes the groups of all rows of the groups of their parts (partial aggregates, as of MapReduce's combiners).
-use Rattle.std.specs.Prelude.{List, map, Option, Some, None}
+use Rattle.std.specs.Prelude.{Option, Some, None}
 use Rattle.std.specs.Option.{option_map}
 use Rattle.fq_ops.specs.declared.aggregates.Function.{Function}
 use Rattle.fq_ops.specs.declared.aggregates.Function.TheVariants as function

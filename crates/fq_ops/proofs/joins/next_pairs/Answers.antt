@@ -1,8 +1,7 @@
-use Rattle.std.proofs.Common.{◌≡◌, ◌∙◌, ◌++◌, ◌+◌, ◌-◌, ◌<◌, ◌≤◌, ℕ, List, [], Some, ap, append-nil, arith, drop, length, length-append, slice_index_or, subst, sym, take}
+use Rattle.std.proofs.Common.{◌≡◌, ◌∙◌, ◌++◌, ◌+◌, ◌-◌, ◌<◌, ◌≤◌, ℕ, List, [], ap, append-nil, arith, drop, length, length-append, slice_index_or, subst, sym, take}
 use Rattle.std.proofs.lemmas.List.{length-take}
 use Rattle.fq_ops.specs.Grouping.{key_at}
 use Rattle.fq_ops.specs.Pairs.{Pair, matches_of, pairs_of}
-use Rattle.fq_ops.specs.Probing.{pairs_from}
 use Rattle.fq_ops.specs.declared.probes.Cursor.{Cursor}
 use Rattle.fq_ops.proofs.ProbingLemmas.{Gives, ends, gives-more, gives-row, gives-some, stops}
 use Rattle.fq_ops.proofs.joins.next_pairs.Goals as goal

@@ -1,8 +1,8 @@
-use Rattle.std.proofs.Common.{◌≡◌, ◌<◌, ◌≤◌, ◌∙◌, ◌++◌, ℕ, Some, ap, arith, drop, length, sym, take}
+use Rattle.std.proofs.Common.{◌≡◌, ◌<◌, ◌∙◌, ◌++◌, ℕ, Some, ap, arith, drop, length, sym, take}
 use Rattle.std.proofs.lemmas.Bool.Decides.{nat_tests}
 use Rattle.std.proofs.lemmas.List.{length-map}
 use Rattle.std.proofs.lemmas.Result.{on_ok_weaker}
-use Rattle.fq_ops.specs.Pairs.{Pair, pairs_of}
+use Rattle.fq_ops.specs.Pairs.{Pair}
 use Rattle.fq_ops.proofs.ProbingLemmas.{each-match, some-matches}
 use Rattle.fq_ops.proofs.joins.push_pairs.Goals as goal
 

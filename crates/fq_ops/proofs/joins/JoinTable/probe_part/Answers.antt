@@ -3,8 +3,7 @@ use Rattle.std.specs.Prelude.{IsOk}
 use Rattle.std.specs.List.{AllPass}
 use Rattle.std.proofs.lemmas.List.{length-map}
 use Rattle.fq_column.specs.declared.cells.Cell.{Cell}
-use Rattle.fq_column.specs.Batch.{frame_of}
-use Rattle.fq_column.specs.Frame.{Fields, Frame, Name, Row, has_name, names_of}
+use Rattle.fq_column.specs.Frame.{Fields, Frame, Name, has_name, names_of}
 use Rattle.fq_column.specs.Refusal.{IsJudgement}
 use Rattle.fq_ops.specs.declared.joins.How.{How}
 use Rattle.fq_ops.specs.declared.probes.Next.{Next}

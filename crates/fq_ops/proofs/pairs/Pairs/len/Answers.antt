@@ -1,4 +1,4 @@
-use Rattle.std.proofs.Common.{◌∙◌, ap, arith, length, sym}
+use Rattle.std.proofs.Common.{ap, arith, length}
 use Rattle.std.proofs.lemmas.Slice.Zip.{length-zip}
 use Rattle.fq_ops.proofs.pairs.Pairs.len.Goals as goal
 
