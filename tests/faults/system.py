@@ -192,9 +192,9 @@ def waiting_run(program, room, steps, path):
     """A run into a file that waits for the rows of a pipe, and the end of that pipe."""
     pipe = f"{room}/pipe"
     os.mkfifo(pipe)
-    rows = os.open(pipe, os.O_RDWR)  # (does not wait for a reader)
+    rows = open(pipe, "r+b", buffering=0)  # (does not wait for a reader)
     ran = subprocess.Popen([program.path, "--plan", steps, "-o", path, pipe], stderr=subprocess.DEVNULL)
-    os.write(rows, b"v\n1\n")
+    rows.write(b"v\n1\n")
     new = f"{room}/.frameq-0"
     for _ in range(LONGEST_RUN * 100):
         if os.path.exists(new):
@@ -206,8 +206,7 @@ def waiting_run(program, room, steps, path):
     finally:
         ran.kill()
         ran.wait()
-        with contextlib.suppress(OSError):
-            os.close(rows)
+        rows.close()
         os.unlink(pipe)
 
 
@@ -229,7 +228,7 @@ def interrupted_outputs(count, program, room, steps, into):
     with waiting_run(program, room, steps, other) as (ran, rows, new):
         answer = program.run(["--plan", steps, "-o", f"{room}/beside.csv", data])
         check(count, "output file", "beside another run", answer._replace(out=str(os.path.exists(new))), lambda it: it == Answer(0, "True", ""))
-        os.close(rows)
+        rows.close()
         ran.wait()
         with open(other, encoding="utf-8") as opened:
             check(count, "output file", "the other run", Answer(ran.returncode, opened.read(), ""), lambda it: it == Answer(0, "v\n1\n", ""))

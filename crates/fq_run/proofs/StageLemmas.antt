@@ -1,5 +1,5 @@
 -- What operators make of a stream.
-use Rattle.std.proofs.Common.{◌≡◌, ℕ, suc, ◌+◌, ◌≤◌, nat_lt, Bool, true, false, not, List, [], ◌∷◌, map, length, take, zip, Option, Some, None, is_none, Result, Ok, Err, pos, refl, ap, sym, ◌∙◌, arith, append-nil, zero, length-take-le}
+use Rattle.std.proofs.Common.{◌≡◌, ℕ, suc, ◌+◌, ◌≤◌, nat_lt, Bool, true, false, not, List, [], ◌∷◌, map, length, take, zip, Option, Some, None, is_none, Result, Ok, Err, pos, refl, ap, sym, ◌∙◌, arith, append-nil, zero}
 use Rattle.std.specs.Prelude.{IsOk, option_map}
 use Rattle.std.specs.Option.{option_or}
 use Rattle.std.specs.Result.{result_unwrap_or}
@@ -18,7 +18,7 @@ use Rattle.fq_column.specs.Lists.{zip_with, before_missing, first_missing, numbe
 use Rattle.fq_column.specs.Refusal.{and_then, first_refusal, refuse_if, unless_refused}
 use Rattle.fq_column.specs.Schema.{kind_named}
 use Rattle.fq_column.specs.SchemaLaws.{same_kind_decides}
-use Rattle.fq_column.specs.Stream.{Stream, done, then_stream, ended_as, one_by_one, rename_fault, step_on}
+use Rattle.fq_column.specs.Stream.{Stream, done, then_stream, ended_as, one_by_one, rename_fault}
 use Rattle.fq_column.proofs.PutLemmas.{position-cons}
 use Rattle.fq_expr.specs.Expression.{Step}
 use Rattle.fq_expr.specs.Front.{fault_at}
@@ -26,7 +26,7 @@ use Rattle.fq_expr.specs.Kinds.{step_schema, steps_schema}
 use Rattle.fq_expr.specs.Steps.{apply_steps, fields_after, fields_after_all}
 use Rattle.fq_expr.specs.declared.fronts.RowFault.{RowFault}
 use Rattle.fq_expr.proofs.StepLemmas.{apply_steps-then}
-use Rattle.fq_ops.specs.Roll.{roll_rows, roll_schema, roll_stream, rolled, rolled_at, is_from_to, with_sum}
+use Rattle.fq_ops.specs.Roll.{roll_schema, rolled, rolled_at, is_from_to, with_sum}
 use Rattle.fq_ops.proofs.RefusalLemmas.{accepted, none-first}
 use Rattle.fq_run.specs.Sources.{row_fault}
 use Rattle.fq_run.specs.declared.faults.Fault.{Fault}

@@ -1,6 +1,6 @@
 -- What a parser adds to the rule of an argument.
 use Rattle.std.proofs.Common.{◌≡◌, ◌∙◌, Option, Some, ap}
-use Rattle.clap.specs.Words.{Rule, rule_of}
+use Rattle.clap.specs.Words.{rule_of}
 use Rattle.clap.specs.declared.builder.arg.Arg.{Arg}
 use Rattle.clap.specs.declared.builder.value_parser.ValueParser.{ValueParser}
 

@@ -1,5 +1,5 @@
 -- What the command of a run answers, by the arguments alone.
-use Rattle.std.proofs.Common.{◌≡◌, ◌∙◌, Bool, true, List, [], Result, Ok, Err, IfOk, inl, inr, refl, sym, ap, subst}
+use Rattle.std.proofs.Common.{◌≡◌, true, List, [], Result, Ok, Err, IfOk, inl, inr, refl, ap, subst}
 use Rattle.std.specs.Prelude.{MatchResult}
 use Rattle.clap.specs.Walk.{is_empty}
 use Rattle.clap.specs.Words.{App, FailsBy, HasKind, HasMatchesOf, IsAmong, Kinds, Text, fault_of, found_of, is_simple, is_simple_and_free, kind_of, rows_of}
@@ -7,7 +7,7 @@ use Rattle.clap.specs.declared.error.Error.{Error}
 use Rattle.clap.specs.declared.error.kind.ErrorKind.TheVariants.{OutOfMemory}
 use Rattle.clap.specs.declared.parser.matches.ArgMatches.{ArgMatches}
 use Rattle.clap.proofs.SimpleLemmas.{is_nil}
-use Rattle.fq_shell.specs.Arguments.{Names, is_run, names_in, names_of, run_app}
+use Rattle.fq_shell.specs.Arguments.{is_run, names_in, names_of, run_app}
 
 is-free : is_simple_and_free run_app ≡ true
 unfolding run_app

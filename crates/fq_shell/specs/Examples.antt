@@ -1,7 +1,7 @@
 -- Worked examples: the arguments of runs, and the files that they name.
 use Rattle.std.specs.Prelude.{◌≡◌, true, false, List, [], ◌∷◌, codes, Option, Some, None}
 use Rattle.clap.specs.Words.{Text}
-use Rattle.fq_shell.specs.Arguments.{Names, is_run, names_of, reads_input_twice}
+use Rattle.fq_shell.specs.Arguments.{is_run, names_of, reads_input_twice}
 
 -- these are the arguments of a run, which name this plan, these files and this output
 abbrev pub NamesThese : List Text → Text → List Text → Option Text → Type 0

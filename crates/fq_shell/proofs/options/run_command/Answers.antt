@@ -1,8 +1,8 @@
-use Rattle.std.proofs.Common.{◌≡◌, ◌∙◌, Bool, true, codes, rules, refl, ap, ap₂}
+use Rattle.std.proofs.Common.{◌≡◌, ◌∙◌, true, codes, rules, ap, ap₂}
 use Rattle.std.proofs.lemmas.Result.{IfOk-weaker}
 use Rattle.clap.specs.Simple.{app_of_fields, on_top}
-use Rattle.clap.specs.Words.{App, Rule, Shape, app_of, new_app, rule_of, with_rule}
-use Rattle.fq_shell.specs.Arguments.{file_rule, flag_rule, number_rule, option_rule, output_rule, required, run_app}
+use Rattle.clap.specs.Words.{App, Shape, app_of, new_app, rule_of, with_rule}
+use Rattle.fq_shell.specs.Arguments.{file_rule, option_rule, required, run_app}
 use Rattle.fq_shell.proofs.options.run_command.Goals as goal
 
 -- the command with no argument yet

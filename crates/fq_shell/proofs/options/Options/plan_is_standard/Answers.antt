@@ -1,4 +1,4 @@
-use Rattle.std.proofs.Common.{◌≡◌, ◌∙◌, List, ℕ, Option, false, ap}
+use Rattle.std.proofs.Common.{◌∙◌, List, ℕ, Option, false, ap}
 use Rattle.std.specs.Option.{option_map_or}
 use Rattle.fq_shell.specs.Arguments.{is_standard}
 use Rattle.fq_shell.proofs.options.Options.plan_is_standard.Goals as goal
