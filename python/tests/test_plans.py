@@ -285,9 +285,9 @@ class Steps(unittest.TestCase):
         self.assertIn("ORDER BY frame.`row`", query)
         with self.assertRaises(ValueError):
             frame().sql("cobol")
-        script = frame(a=INT).filter(C("a") > 1).sql_setup(tables=[("reports", "numbers")], program="/opt/frameq")
+        script = frame(a=INT).filter(C("a") > 1).sql_setup(tables=[("reports", "numbers")], program="bin/frameq")
         self.assertIn('CREATE TABLE "reports"."numbers" (', script)
-        self.assertIn("| /opt/frameq --details --plan - ", script)
+        self.assertIn("| bin/frameq --details --plan - ", script)
 
     def test_unique(self):
         """Rows that are equal, in all columns or in some."""
