@@ -1,7 +1,8 @@
 //! Plans.
-ghost use Rattle.std.specs.Prelude.{◌≡◌, ◌≤◌, ◌⊎◌, ◌↔◌, None, Err, IfOk, IsOk, length, map, sum_by};
+ghost use Rattle.std.specs.Prelude.{◌≡◌, ◌<◌, ◌≤◌, ◌⊎◌, ◌↔◌, None, Err, IfOk, IfSome, IsOk, length, map, option_map, slice_get, sum_by};
+ghost use Rattle.fq_csv.specs.Sources.{layout_of};
 ghost use Rattle.fq_language.specs.Spelling.{read_as_plan};
-ghost use Rattle.fq_language.specs.Plan.{IsWithinLimits, files_wanted};
+ghost use Rattle.fq_language.specs.Plan.{IsWithinLimits, file_layouts, files_wanted};
 ghost use Rattle.fq_language.specs.View.{field_of, plan_step_of, source_data};
 
 use crate::faults::PlanFault;
@@ -103,6 +104,21 @@ impl Plan {
         ensures { map source_data result.now ≡ self.now.sources }
     {
         self.sources.as_slice()
+    }
+
+    /// The source of the file of this number, in argument order; none if the plan wants fewer files.
+    pub fn source_of(&self, file: u16) -> Option<&Source>
+        ensures source { option_map (λ source. layout_of (source_data source.now)) result ≡ slice_get (file_layouts self.now) file }
+        ensures few { IfSome result (λ _. file < MAX_FILES) }
+    {
+        let (sources, mut left) = (self.sources.as_slice(), file);
+        for source in sources {
+            if left < source.files() {
+                return Some(source);
+            }
+            left -= source.files();
+        }
+        None
     }
 
     /// The sources and the steps, in order.

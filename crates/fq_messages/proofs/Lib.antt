@@ -1,2 +1,3 @@
+pub mod ReviewLemmas
 pub mod InputLemmas
 pub mod EndingLemmas

@@ -1,5 +1,6 @@
 //! Why the program ends without a frame, and what it says then.
-ghost use Rattle.std.specs.Prelude.{◌≡◌};
+ghost use Rattle.std.specs.Prelude.{◌≡◌, OnOk};
+ghost use Rattle.std.specs.Io.KnownBytes.{Keeps};
 ghost use Rattle.fq_messages.specs.Ending.{code_of, status_of, status_of_fault};
 ghost use Rattle.fq_messages.specs.declared.failures.Failure.TheVariants as failure;
 ghost use Rattle.fq_run.specs.declared.faults.Fault.TheVariants as fault;
@@ -87,7 +88,8 @@ fn status_of_run(fault: Fault) -> Status
 
 /// The exit status of an ending. A failure is reported in one line on `err`; a failed write of that line changes nothing.
 pub fn report<E: Write>(ending: Result<(), Failure>, err: &mut E) -> u8
-    ensures { result ≡ code_of ending }
+    ensures code { result ≡ code_of ending }
+    ensures quiet { OnOk ending (Keeps (E.contents err.old) (E.contents err.new)) }
 {
     match ending {
         Ok(()) => Status::Done as u8,

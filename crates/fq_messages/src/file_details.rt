@@ -22,15 +22,8 @@ impl<'a> FileDetails<'a> {
     /// The file of this number among those of a plan, which have these names.
     pub fn of(plan: &'a Plan, names: &[&'a str], file: u16) -> Option<FileDetails<'a>> {
         let name: &'a str = names.get(usize::from(file))?;
-        let mut after = 0u16;
-        for source in plan.sources() {
-            after = after.saturating_add(source.files());
-            if file < after {
-                let columns = source.columns();
-                return Some(FileDetails { name, columns });
-            }
-        }
-        None
+        let columns = plan.source_of(file)?.columns();
+        Some(FileDetails { name, columns })
     }
 
     /// Writes where the header differs from the plan's names.

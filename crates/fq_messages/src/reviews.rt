@@ -1,6 +1,14 @@
 //! A check of the data files before a run, and a draft of a plan for them.
-ghost use Rattle.std.specs.Prelude.{◌≢◌, IfErr};
+ghost use Rattle.std.specs.Prelude.{◌≡◌, ◌≢◌, ◌⊎◌, ◌==◌, ◌&&◌, ℕ, List, Ok, Some, IfErr, OnOk, length, map};
+ghost use Rattle.fq_csv.specs.Sources.{layout_of};
+ghost use Rattle.fq_language.specs.Plan.{file_layouts, files_wanted};
+ghost use Rattle.fq_language.specs.View.{source_data};
+ghost use Rattle.fq_review.specs.Checked.{are_clean, is_clean};
+ghost use Rattle.fq_run.specs.Run.{Tell};
 ghost use Rattle.fq_run.specs.declared.faults.Fault.TheVariants as fault;
+ghost use Rattle.fq_shell.specs.Arguments.{named_by};
+ghost use Rattle.fq_messages.specs.Ending.{IsOutside};
+ghost use Rattle.fq_messages.specs.Reviewed.{IsVerdict};
 ghost use Rattle.fq_messages.specs.declared.failures.Failure.TheVariants as failure;
 
 use crate::failures::Failure;
@@ -25,17 +33,12 @@ pub fn check_files<O: Opener, E: Write>(
     err: &mut E,
 ) -> Result<(), Failure>
     ensures failed { IfErr result (λ f. f ≢ failure.Run fault.Write) }
+    ensures judged { (inputs : List (List ℕ)) → Tell (O.bytes_of files.old) (named_by options.now).files inputs → length inputs ≡ files_wanted plan.now →
+        IsVerdict (are_clean (file_layouts plan.now) inputs) result }
 {
     write_warnings(alloc, plan, options.plan().unwrap_or_default(), err)?;
     let mut check = Check::new(alloc, options.limit());
-    let mut names = options.files().iter();
-    let mut number = 0u16;
-    for source in plan.sources() {
-        for name in names.by_ref().take(usize::from(source.files())) {
-            check_file(alloc, &mut check, source, number, name, files, err)?;
-            number = number.saturating_add(1);
-        }
-    }
+    read_files(alloc, plan, options.files(), &mut check, files, err)?;
     if check.problems() == 0 {
         return Ok(());
     }
@@ -56,6 +59,31 @@ fn write_warnings<E: Write>(
     Ok(())
 }
 
+// Checks each of the files by its source.
+fn read_files<O: Opener, E: Write>(
+    alloc: Global,
+    plan: &Plan,
+    names: &[&str],
+    check: &mut Check,
+    files: &mut O,
+    err: &mut E,
+) -> Result<(), Failure>
+    ensures failed { IfErr result IsOutside }
+    ensures device { IfErr result (λ f. f ≢ failure.Run fault.Write) }
+    ensures judged { OnOk result ((inputs : List (List ℕ)) → Tell (O.bytes_of files.old) (map (λ name. name.now) names.now) inputs → length inputs ≡ files_wanted plan.now →
+        (check.new.problems == 0) ≡ ((check.old.problems == 0) && are_clean (file_layouts plan.now) inputs)) }
+{
+    let mut number = 0u16;
+    for name in names {
+        let Some(source) = plan.source_of(number) else {
+            return Ok(());
+        };
+        check_file(alloc, check, source, number, name, files, err)?;
+        number += 1;
+    }
+    Ok(())
+}
+
 // Checks a file of a source.
 fn check_file<O: Opener, E: Write>(
     alloc: Global,
@@ -66,26 +94,39 @@ fn check_file<O: Opener, E: Write>(
     files: &mut O,
     err: &mut E,
 ) -> Result<(), Failure>
-    ensures failed { IfErr result (λ f. f ≢ failure.Run fault.Write) }
+    ensures same { O.bytes_of files.new ≡ O.bytes_of files.old }
+    ensures failed { IfErr result IsOutside }
+    ensures device { IfErr result (λ f. f ≢ failure.Run fault.Write) }
+    ensures judged { OnOk result ((bytes : List ℕ) → O.bytes_of files.old name.now ≡ Some bytes →
+        (check.new.problems == 0) ≡ ((check.old.problems == 0) && is_clean number (layout_of (source_data source.now)) bytes)) }
 {
     let failure = Failure::Run(Fault::Read { file: number });
     let expected = Expected {
         columns: source.columns(),
         nulls: source.nulls(),
     };
-    let answer = match files.reader_again(name) {
+    match files.reader_again(name) {
         Ok(again) => {
             let reader = open(files, name, failure)?;
-            check.read_file(number, name, expected, reader, again, err)
+            let read = check.read_file(number, name, expected, reader, again, err);
+            answer_to(read, failure)
         }
         Err(Unread::Once) => {
             let bytes = read_whole(alloc, open(files, name, failure)?, failure)?;
             let bytes = bytes.as_slice();
-            check.read_file(number, name, expected, bytes, bytes, err)
+            let read = check.read_file(number, name, expected, bytes, bytes, err);
+            answer_to(read, failure)
         }
-        Err(cause) => Err(cause),
-    };
-    match answer {
+        Err(cause) => answer_to(Err(cause), failure),
+    }
+}
+
+// What is answered where a file was read or not: this failure, if it is not one of memory.
+fn answer_to(read: Result<(), Unread>, failure: Failure) -> Result<(), Failure>
+    ensures done { OnOk result (read ≡ Ok tt) }
+    ensures failed { IfErr result (λ f. (f ≡ failure) ⊎ (f ≡ Failure.MEMORY)) }
+{
+    match read {
         Ok(()) => Ok(()),
         Err(Unread::Memory) => Err(Failure::MEMORY),
         Err(_) => Err(failure),

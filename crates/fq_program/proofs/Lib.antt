@@ -1,3 +1,4 @@
+pub mod CheckLemmas
 pub mod ClauseLemmas
 pub mod NamedLemmas
 pub mod OpeningLemmas

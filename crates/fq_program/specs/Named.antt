@@ -1,14 +1,15 @@
--- A run of the files that arguments name: what it comes to, by the text of its plan and the bytes of its files in their order.
-use Rattle.std.specs.Prelude.{◌≡◌, ◌⊎◌, ◌==◌, ℕ, true, List, length, Option, Some, None, option_and_then, Result, Ok, Err, OnOk, IfErr, if◌then◌else◌}
+-- A run and a check of the files that arguments name: what they come to, by the text of the plan and the bytes of the files in their order.
+use Rattle.std.specs.Prelude.{◌≡◌, ◌⊎◌, ◌==◌, not, ℕ, true, false, List, length, Option, Some, None, option_and_then, Result, Ok, Err, OnOk, IfErr, IsOk, MatchResult, if◌then◌else◌}
 use Rattle.std.specs.Io.KnownBytes.{Appends}
 use Rattle.fq_column.specs.Frame.{Frame}
 use Rattle.fq_csv.specs.Printed.{printed}
-use Rattle.fq_language.specs.Plan.{files_wanted}
+use Rattle.fq_language.specs.Plan.{PlanData, file_layouts, files_wanted}
+use Rattle.fq_review.specs.Checked.{are_clean}
 use Rattle.fq_run.specs.declared.faults.Fault.TheVariants.{Inputs}
-use Rattle.fq_shell.specs.Arguments.{Names, is_run, names_of, reads_input_twice}
+use Rattle.fq_shell.specs.Arguments.{Names, is_check, is_run, names_of, names_to_check, reads_input_twice}
 use Rattle.fq_messages.specs.Ending.{bad_device, no_memory, IsOutside}
 use Rattle.fq_messages.specs.declared.failures.Failure.{Failure}
-use Rattle.fq_messages.specs.declared.failures.Failure.TheVariants.{InputTwice, Run}
+use Rattle.fq_messages.specs.declared.failures.Failure.TheVariants.{InputTwice, Problems, Run}
 use Rattle.fq_program.specs.Program.{checked_plan, frame_of}
 
 -- the text of the plan, if it is known
@@ -36,11 +37,33 @@ outcome_of names text files =
     if reads_input_twice names then Err InputTwice
     else elim (checked_plan text) [ Err failure ↦ Err failure | Ok plan ↦ frame_of plan files ]
 
--- ---- what a run answers
+-- these are the arguments of a check, and not of a run, and this is the text of the plan that they name
+pub record IsCheck (bytes_of : List ℕ → Option (List ℕ)) (arguments : List (List ℕ)) (text : List ℕ) : Type 0 where
+  pub other : is_run arguments ≡ false
+  pub taken : is_check arguments ≡ true
+  pub plan : plan_text bytes_of (names_to_check arguments) ≡ Some text
+
+-- a check of a plan's files: the wrong number of files, or whether anything is wrong in one of them, each read by its own source
+abbrev pub review_of : PlanData → List (List ℕ) → Result (Unit {0}) Failure
+review_of plan files =
+    if not (length files == files_wanted plan) then Err (Run (Inputs (files_wanted plan) (length files)))
+    else (if are_clean (file_layouts plan) files then Ok tt else Err Problems)
+
+-- a check of named files
+unfoldable pub check_of : Names → List ℕ → List (List ℕ) → Result (Unit {0}) Failure
+check_of names text files =
+    if reads_input_twice names then Err InputTwice
+    else elim (checked_plan text) [ Err failure ↦ Err failure | Ok plan ↦ review_of plan files ]
+
+-- ---- what a run answers, and a check
 
 -- the status is this one, or that of a device or an allocation that failed
 abbrev pub EndsAt : ℕ → ℕ → Type 0
 EndsAt code status = (status ≡ code) ⊎ ((status ≡ bad_device) ⊎ (status ≡ no_memory))
+
+-- a result is this outcome, or the failure of a device or an allocation
+abbrev pub ComesTo : {X Y : Type 0} → Result X Failure → Result Y Failure → Type 0
+ComesTo outcome result = MatchResult result (λ _. IsOk outcome) (λ failure. (outcome ≡ Err failure) ⊎ IsOutside failure)
 
 -- at a good end the outcome is a frame, which was appended to the output, unless a file takes it
 abbrev pub Prints : {X : Type 0} → Result Frame Failure → Option (List ℕ) → Option (List ℕ) → Option (List ℕ) → Result X Failure → Type 0

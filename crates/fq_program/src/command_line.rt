@@ -6,11 +6,11 @@ ghost use Rattle.fq_csv.specs.Printed.{printed};
 ghost use Rattle.fq_language.specs.Plan.{files_wanted};
 ghost use Rattle.fq_run.specs.declared.faults.Fault.TheVariants as fault;
 ghost use Rattle.fq_run.specs.Run.{Tell};
-ghost use Rattle.fq_shell.specs.Arguments.{is_run, names_of, named_by};
+ghost use Rattle.fq_shell.specs.Arguments.{is_run, names_of, names_to_check, named_by};
 ghost use Rattle.fq_messages.specs.Ending.{done, bad_device, code_of, number_of, status_of, IsOutside};
 ghost use Rattle.fq_messages.specs.declared.failures.Failure.TheVariants as failure;
 ghost use Rattle.fq_program.specs.Program.{checked_plan as checked_plan_of, frame_of};
-ghost use Rattle.fq_program.specs.Named.{early_failure, outcome_of, plan_text, EndsAt, FailsAs, IsRun, Prints};
+ghost use Rattle.fq_program.specs.Named.{check_of, early_failure, outcome_of, plan_text, review_of, ComesTo, EndsAt, FailsAs, IsCheck, IsRun, Prints};
 
 use crate::program::{checked_plan, run_over};
 use clap::error::ErrorKind;
@@ -53,6 +53,9 @@ pub fn with_words<T: Threads + Wait + Sync, O: Opener, W: Write, E: Write>(
     ensures elsewhere { let arguments = map string_bytes words.items in is_run arguments ≡ true → IsSome (names_of arguments).output →
         Keeps (W.contents out.old.writer) (W.contents out.new.writer) }
     ensures unwritten { result ≢ done → result ≢ bad_device → Keeps (W.contents out.old.writer) (W.contents out.new.writer) }
+    ensures quiet { let arguments = map string_bytes words.items in is_run arguments ≡ true → result ≡ done → Keeps (E.contents err.old) (E.contents err.new) }
+    ensures checked { let arguments = map string_bytes words.items in (text : List ℕ) (inputs : List (List ℕ)) → IsCheck (O.bytes_of files.old) arguments text →
+        Tell (O.bytes_of files.old) (names_to_check arguments).files inputs → EndsAt (code_of (check_of (names_to_check arguments) text inputs)) result }
 {
     match Options::of_run(alloc, words.as_slice()) {
         Ok(options) => answer_run(rt, alloc, &options, files, out, err),
@@ -81,6 +84,7 @@ fn answer_run<T: Threads + Wait + Sync, O: Opener, W: Write, E: Write>(
         (frame : Frame) × (outcome_of (named_by options.now) text inputs ≡ Ok frame) × Appends (W.contents out.old.writer) (W.contents out.new.writer) (printed frame) }
     ensures elsewhere { IsSome (named_by options.now).output → Keeps (W.contents out.old.writer) (W.contents out.new.writer) }
     ensures unwritten { result ≢ done → result ≢ bad_device → Keeps (W.contents out.old.writer) (W.contents out.new.writer) }
+    ensures quiet { result ≡ done → Keeps (E.contents err.old) (E.contents err.new) }
 {
     let mut learned = Learned::new(alloc);
     let ending = run_named(rt, alloc, options, files, out, &mut learned);
@@ -97,7 +101,8 @@ fn answer_ending<O: Opener, E: Write>(
     files: &mut O,
     err: &mut E,
 ) -> u8
-    ensures { result ≡ code_of ending }
+    ensures code { result ≡ code_of ending }
+    ensures quiet { OnOk ending (Keeps (E.contents err.old) (E.contents err.new)) }
 {
     let status = report(ending, err);
     if let Err(failure) = ending
@@ -108,8 +113,45 @@ fn answer_ending<O: Opener, E: Write>(
     status
 }
 
-// Does what arguments ask for that are not only those of a run, or says what is wrong with them.
+// Checks the data files by the plan of the plan file, or does what else the arguments ask for.
 fn answer_other<T: Threads + Wait + Sync, O: Opener, W: Write, E: Write>(
+    rt: &T,
+    alloc: Global,
+    words: &[String],
+    files: &mut O,
+    out: &mut Noted<W>,
+    err: &mut E,
+) -> u8
+    ensures unwritten { result ≢ done → result ≢ bad_device → Keeps (W.contents out.old.writer) (W.contents out.new.writer) }
+    ensures checked { let arguments = map string_bytes words.now in (text : List ℕ) (inputs : List (List ℕ)) → IsCheck (O.bytes_of files.old) arguments text →
+        Tell (O.bytes_of files.old) (names_to_check arguments).files inputs → EndsAt (code_of (check_of (names_to_check arguments) text inputs)) result }
+{
+    match Options::of_check(alloc, words) {
+        Ok(options) => answer_check(alloc, &options, files, err),
+        Err(refusal) => match refusal.kind() {
+            ErrorKind::OutOfMemory => report(Err(Failure::MEMORY), err),
+            _ => answer_rest(rt, alloc, words, files, out, err),
+        },
+    }
+}
+
+// Checks the data files by the plan of the plan file, and says on `err` what is wrong in them.
+fn answer_check<O: Opener, E: Write>(
+    alloc: Global,
+    options: &Options<'_>,
+    files: &mut O,
+    err: &mut E,
+) -> u8
+    ensures { (text : List ℕ) (inputs : List (List ℕ)) → plan_text (O.bytes_of files.old) (named_by options.now) ≡ Some text →
+        Tell (O.bytes_of files.old) (named_by options.now).files inputs → EndsAt (code_of (check_of (named_by options.now) text inputs)) result }
+{
+    let mut learned = Learned::new(alloc);
+    let ending = check_named(alloc, options, files, err, &mut learned);
+    answer_ending(alloc, ending, options, &learned, files, err)
+}
+
+// Does what arguments ask for that are not only those of a run or of a check, or says what is wrong with them.
+fn answer_rest<T: Threads + Wait + Sync, O: Opener, W: Write, E: Write>(
     rt: &T,
     alloc: Global,
     words: &[String],
@@ -178,6 +220,9 @@ fn run_options<T: Threads + Wait + Sync, O: Opener, W: Write, E: Write>(
 ) -> Result<(), Failure>
     ensures unwritten { IfErr result (λ f. f ≢ failure.Run fault.Write → Keeps (W.contents out.old) (W.contents out.new)) }
 {
+    if options.check() {
+        return check_named(alloc, options, files, err, learned);
+    }
     if options.reads_input_twice() {
         return Err(Failure::InputTwice);
     }
@@ -185,12 +230,46 @@ fn run_options<T: Threads + Wait + Sync, O: Opener, W: Write, E: Write>(
         return draft_plan(alloc, options, files, out, err);
     }
     let plan = read_plan_file(alloc, options, files, learned)?;
-    if options.check() {
-        count_files(&plan, options.files())?;
-        let plan = read_plan(alloc, learned.plan.as_slice())?;
-        return check_files(alloc, &plan, options, files, err);
-    }
     explain_or_run(rt, alloc, &plan, options, files, out, learned)
+}
+
+// Checks the data files by the plan of the plan file, and writes on `err` what is wrong in them.
+fn check_named<O: Opener, E: Write>(
+    alloc: Global,
+    options: &Options<'_>,
+    files: &mut O,
+    err: &mut E,
+    learned: &mut Learned,
+) -> Result<(), Failure>
+    ensures device { IfErr result (λ f. f ≢ failure.Run fault.Write) }
+    ensures judged { (text : List ℕ) (inputs : List (List ℕ)) → plan_text (O.bytes_of files.old) (named_by options.now) ≡ Some text →
+        Tell (O.bytes_of files.old) (named_by options.now).files inputs → ComesTo (check_of (named_by options.now) text inputs) result }
+{
+    if options.reads_input_twice() {
+        return Err(Failure::InputTwice);
+    }
+    match read_plan_file(alloc, options, files, learned) {
+        Ok(plan) => check_counted(alloc, &plan, options, files, err, learned.plan.as_slice()),
+        Err(failure) => Err(failure),
+    }
+}
+
+// Checks the data files by a plan of this text.
+fn check_counted<O: Opener, E: Write>(
+    alloc: Global,
+    plan: &Checked,
+    options: &Options<'_>,
+    files: &mut O,
+    err: &mut E,
+    text: &[u8],
+) -> Result<(), Failure>
+    ensures device { IfErr result (λ f. f ≢ failure.Run fault.Write) }
+    ensures judged { (inputs : List (List ℕ)) → Tell (O.bytes_of files.old) (named_by options.now).files inputs → checked_plan_of text.now ≡ Ok plan.now →
+        ComesTo (review_of plan.now inputs) result }
+{
+    count_files(plan, options.files())?;
+    let plan = read_plan(alloc, text)?;
+    check_files(alloc, &plan, options, files, err)
 }
 
 // The plan of the plan file, whose text is learned.
@@ -203,6 +282,7 @@ fn read_plan_file<O: Opener>(
     ensures same { O.bytes_of files.new ≡ O.bytes_of files.old }
     ensures read { (text : List ℕ) → plan_text (O.bytes_of files.old) (named_by options.now) ≡ Some text →
         MatchResult result (λ plan. checked_plan_of text ≡ Ok plan) (λ f. (checked_plan_of text ≡ Err f) ⊎ IsOutside f) }
+    ensures learned { IfOk result (λ plan. checked_plan_of learned.new.plan.items ≡ Ok plan) }
 {
     match read_plan_text(alloc, options, files) {
         Ok(text) => {

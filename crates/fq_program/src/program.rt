@@ -35,6 +35,7 @@ pub fn one_input<T: Threads + Wait + Sync, R: Read + Drop, W: Write, E: Write>(
     ensures output { (bytes : List ℕ) → R.remaining input ≡ Some bytes → result ≡ done →
         (frame : Frame) × (program bytes ≡ Ok frame) × Appends (W.contents out.old) (W.contents out.new) (printed frame) }
     ensures unwritten { result ≢ done → result ≢ bad_device → Keeps (W.contents out.old) (W.contents out.new) }
+    ensures quiet { result ≡ done → Keeps (E.contents err.old) (E.contents err.new) }
 {
     report(run_input(rt, alloc, input, out), err)
 }

@@ -22,7 +22,7 @@ use Rattle.fq_places.specs.Marks.{marks_of}
 use Rattle.fq_places.specs.Records.{flaws_of}
 use Rattle.fq_places.specs.declared.marks.Flaw.{Flaw}
 use Rattle.fq_places.specs.declared.marks.Mark.{Mark}
-use Rattle.fq_review.specs.Checked.{are_rows, is_clean, is_flawless, is_row, layout_of, names_in}
+use Rattle.fq_review.specs.Checked.{are_clean_from, are_rows, is_clean, is_flawless, is_row, layout_of, names_in}
 
 -- ---- truth values
 
@@ -242,3 +242,21 @@ other-width [] [] e = absurd (cc)
 other-width [] (x ∷ r) e = refl
 other-width (n ∷ names) [] e = refl
 other-width (n ∷ names) (x ∷ r) e = ap (λ b. same_name n x && b) (other-width names r (let f : (length r == length names) ≡ false = grind (arith, nat_tests, e) in f)) ∙ and-false (same_name n x)
+
+-- one file more, read by its own layout
+pub clean-more : (n i : ℕ) (layouts : List Layout) (files : List (List ℕ)) (layout : Layout) (bytes : List ℕ) → slice_get layouts i ≡ Some layout → slice_get files i ≡ Some bytes →
+    are_clean_from n (take (i + 1) layouts) (take (i + 1) files) ≡ (are_clean_from n (take i layouts) (take i files) && is_clean (n + i) layout bytes)
+clean-more n i layouts files layout bytes a b =
+    ap (λ k. are_clean_from n (take k layouts) (take k files)) (let e : i + 1 ≡ suc i = omega arith in e) ∙ go n i layouts files a b
+  where
+    go : (n i : ℕ) (layouts : List Layout) (files : List (List ℕ)) → slice_get layouts i ≡ Some layout → slice_get files i ≡ Some bytes →
+        are_clean_from n (take (suc i) layouts) (take (suc i) files) ≡ (are_clean_from n (take i layouts) (take i files) && is_clean (n + i) layout bytes)
+    go n i [] files a b = absurd (cc)
+    go n i (l ∷ layouts) [] a b = absurd (cc)
+    go n zero (l ∷ layouts) (f ∷ files) a b =
+        let first : l ≡ layout = cc in
+        let second : f ≡ bytes = cc in
+        and-true (is_clean n l f) ∙ (λ k. is_clean n (first k) (second k)) ∙ ap (λ m. is_clean m layout bytes) (let e : n ≡ n + 0 = omega arith in e)
+    go n (suc i) (l ∷ layouts) (f ∷ files) a b =
+        ap (λ c. is_clean n l f && c) (go (n + 1) i layouts files a b ∙ ap (λ m. are_clean_from (n + 1) (take i layouts) (take i files) && is_clean m layout bytes) (let e : n + 1 + i ≡ n + suc i = omega arith in e))
+        ∙ sym (and-assoc (is_clean n l f) (are_clean_from (n + 1) (take i layouts) (take i files)) (is_clean (n + suc i) layout bytes))

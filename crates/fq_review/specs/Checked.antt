@@ -1,5 +1,5 @@
 -- What a check finds in a file: that it reads without a fault by the columns of a plan, and that it is written as RFC 4180 says.
-use Rattle.std.specs.Prelude.{◌==◌, ◌&&◌, Bool, true, false, ℕ, List, [], ◌∷◌, length, map, nat_le, is_none, is_some, string_bytes, zip, String}
+use Rattle.std.specs.Prelude.{◌+◌, ◌==◌, ◌&&◌, Bool, true, false, ℕ, List, [], ◌∷◌, length, map, nat_le, is_none, is_some, string_bytes, zip, String}
 use Rattle.std.specs.Global.{Global}
 use Rattle.std.specs.List.{list_all}
 use Rattle.fq_column.specs.declared.cells.Kind.{Kind}
@@ -35,3 +35,12 @@ is_flawless marks = elim (flaws_of marks) [ [] ↦ true | mark ∷ more ↦ fals
 -- whether nothing is wrong in a file: its stream has no fault, and no flaw shows in it
 abbrev pub is_clean : ℕ → Layout → List ℕ → Bool
 is_clean file layout bytes = is_none (file_stream file layout MAX_ROWS bytes).fault && is_flawless (marks_of bytes)
+
+-- whether nothing is wrong in files, each of which is read by its own layout; the first has this number
+abbrev pub are_clean_from : ℕ → List Layout → List (List ℕ) → Bool
+are_clean_from n [] files = true
+are_clean_from n (layout ∷ layouts) [] = true
+are_clean_from n (layout ∷ layouts) (bytes ∷ files) = is_clean n layout bytes && are_clean_from (n + 1) layouts files
+
+abbrev pub are_clean : List Layout → List (List ℕ) → Bool
+are_clean layouts files = are_clean_from 0 layouts files

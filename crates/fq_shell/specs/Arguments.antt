@@ -1,5 +1,5 @@
--- The arguments of a run: `--plan PLAN [--batch N] [--workers N] [--output OUT] [--details] [--progress] FILE..`, as the crate clap reads
--- them (https://docs.rs/clap), and the files that they name.
+-- The arguments of a run, `--plan PLAN [--batch N] [--workers N] [--output OUT] [--details] [--progress] FILE..`, and of a check of files,
+-- `--plan PLAN --check [--limit N] [--details] FILE..`, as the crate clap reads them (https://docs.rs/clap), and the files that they name.
 use Rattle.std.specs.Prelude.{true, false, ℕ, ◌+◌, Bool, List, [], ◌∷◌, codes, count_by, nat_lt, pos, Option, Some, None, option_and_then, unwrap_or, if◌then◌else◌}
 use Rattle.std.specs.Option.{option_map_or}
 use Rattle.std.specs.Str.{bytes_eq}
@@ -8,10 +8,10 @@ use Rattle.clap.specs.Walk.{is_empty}
 use Rattle.clap.specs.Simple.{new_shape}
 use Rattle.clap.specs.Words.{App, Row, Rule, Text, all_of, fault_of, first_of, found_of, matches_of, new_rule, rows_of}
 use Rattle.clap.specs.declared.builder.action.ArgAction.TheVariants.{Set, SetTrue, Append}
-use Rattle.clap.specs.declared.builder.value_parser.ValueParser.TheVariants.{Signed}
+use Rattle.clap.specs.declared.builder.value_parser.ValueParser.TheVariants.{Signed, Unsigned}
 use Rattle.fq_shell.specs.declared.options.Options.{Options}
 
--- ---- what a run takes
+-- ---- what a run takes, and what a check
 
 -- --NAME VALUE
 abbrev pub option_rule : Text → Rule
@@ -20,6 +20,10 @@ option_rule name = record (new_rule name) { long = Some name; value_names = 1; a
 -- --NAME N, from 1 to `most`; without it, as if it were `default`
 abbrev pub number_rule : Text → ℕ → Text → Rule
 number_rule name most default = record (new_rule name) { long = Some name; value_names = 1; parser = Some (Signed (pos 1) (pos most)); defaults = default ∷ [] }
+
+-- --limit N, of 64 bits
+abbrev pub limit_rule : Rule
+limit_rule = record (new_rule (codes "limit")) { long = Some (codes "limit"); value_names = 1; parser = Some (Unsigned 0 18446744073709551615); defaults = codes "100" ∷ [] }
 
 -- --NAME
 abbrev pub flag_rule : Text → Rule
@@ -47,9 +51,23 @@ run_app = record {
   subs = [];
 }
 
+unfoldable pub check_app : App
+check_app = record {
+  top = record (new_shape (codes "frameq")) {
+    rules = required (option_rule (codes "plan")) ∷ required (flag_rule (codes "check")) ∷ limit_rule ∷ flag_rule (codes "details") ∷ required file_rule ∷ [];
+    no_binary_name = true;
+    disable_help_flag = true;
+  };
+  subs = [];
+}
+
 -- whether these are the arguments of a run: clap finds no fault in them
 unfoldable pub is_run : List Text → Bool
 is_run arguments = is_empty (fault_of run_app arguments)
+
+-- whether they are those of a check
+unfoldable pub is_check : List Text → Bool
+is_check arguments = is_empty (fault_of check_app arguments)
 
 -- ---- what arguments name
 
@@ -76,6 +94,10 @@ names_in rows = record {
 -- what the arguments of a run name
 unfoldable pub names_of : List Text → Names
 names_of arguments = names_in (matches_of run_app arguments)
+
+-- what those of a check name
+unfoldable pub names_to_check : List Text → Names
+names_to_check arguments = names_in (matches_of check_app arguments)
 
 -- what options name that were read
 unfoldable pub named_by : Options → Names

@@ -1,7 +1,7 @@
--- Worked examples: the arguments of runs, and the files that they name.
+-- Worked examples: the arguments of runs and of checks, and the files that they name.
 use Rattle.std.specs.Prelude.{◌≡◌, true, false, List, [], ◌∷◌, codes, Option, Some, None}
 use Rattle.clap.specs.Words.{Text}
-use Rattle.fq_shell.specs.Arguments.{is_run, names_of, reads_input_twice}
+use Rattle.fq_shell.specs.Arguments.{is_check, is_run, names_of, names_to_check, reads_input_twice}
 
 -- these are the arguments of a run, which name this plan, these files and this output
 abbrev pub NamesThese : List Text → Text → List Text → Option Text → Type 0
@@ -39,3 +39,14 @@ abbrev pub Twice : Type 0
 Twice = (reads_input_twice (names_of (codes "--plan=-" ∷ codes "a" ∷ codes "-" ∷ [])) ≡ true)
     × (reads_input_twice (names_of (codes "--plan=p" ∷ codes "-" ∷ codes "-" ∷ [])) ≡ true)
     × (reads_input_twice (names_of (codes "--plan=p" ∷ codes "a" ∷ codes "-" ∷ [])) ≡ false)
+
+-- a check names a plan and files, as a run does; what runs is no check, and a check needs both
+abbrev pub Checks : Type 0
+Checks = (is_check (codes "--plan=p" ∷ codes "--check" ∷ codes "1" ∷ codes "0" ∷ []) ≡ true)
+    × (names_to_check (codes "--plan=p" ∷ codes "--check" ∷ codes "1" ∷ codes "0" ∷ []) ≡ record { plan = Some (codes "p"); files = codes "1" ∷ codes "0" ∷ []; output = None })
+    × (is_check (codes "a" ∷ codes "--limit" ∷ codes "0" ∷ codes "--check" ∷ codes "--details" ∷ codes "--plan" ∷ codes "p" ∷ []) ≡ true)
+    × (is_check (codes "--plan=p" ∷ codes "a" ∷ []) ≡ false)
+    × (is_check (codes "--plan=p" ∷ codes "--check" ∷ []) ≡ false)
+    × (is_check (codes "--check" ∷ codes "a" ∷ []) ≡ false)
+    × (is_check (codes "--plan=p" ∷ codes "--check" ∷ codes "--limit=x" ∷ codes "a" ∷ []) ≡ false)
+    × (is_check (codes "--plan=p" ∷ codes "--check" ∷ codes "-o" ∷ codes "out" ∷ codes "a" ∷ []) ≡ false)

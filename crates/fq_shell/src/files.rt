@@ -58,7 +58,10 @@ pub trait Opener {
 
     /// A second reader of the file of this name, from its start: before the first, for a check or a draft, or after a run, for details.
     /// `Once` if the bytes come only once; a check or a draft then reads them into memory. An opener may have no second reader.
-    fn reader_again(&mut self, _name: &str) -> Result<Self::Reader, Unread> {
+    fn reader_again(&mut self, _name: &str) -> Result<Self::Reader, Unread>
+        ensures same { bytes_of self.new ≡ bytes_of self.old }
+        ensures told { (bytes : List ℕ) → bytes_of self.old _name.now ≡ Some bytes → IfOk result (λ reader. Self.Reader.remaining reader ≡ Some bytes) }
+    {
         Err(Unread::Once)
     }
 

@@ -2,7 +2,7 @@
 ghost use Rattle.std.specs.Prelude.{◌≡◌, ◌≤◌, true, false, codes, map, option_map, string_bytes, count_by, IfOk, IfErr};
 ghost use Rattle.std.specs.Option.{option_map_or};
 ghost use Rattle.clap.specs.Words.{app_of, kind_of, rule_of};
-ghost use Rattle.fq_shell.specs.Arguments.{option_rule, number_rule, flag_rule, output_rule, file_rule, run_app, is_run, is_standard, names_of, named_by, reads_input_twice};
+ghost use Rattle.fq_shell.specs.Arguments.{option_rule, number_rule, limit_rule, flag_rule, output_rule, file_rule, run_app, check_app, is_run, is_check, is_standard, names_of, names_to_check, named_by, reads_input_twice};
 
 use crate::files::{STANDARD_INPUT, STANDARD_OUTPUT};
 use clap::error::ErrorKind;
@@ -35,6 +35,15 @@ impl<'a> Options<'a> {
         ensures refused { IfErr result (λ refusal. is_run (map string_bytes words.now) ≡ true → kind_of refusal ≡ ErrorKind.OutOfMemory) }
     {
         Ok(Options(run_command(alloc)?.try_get_matches_from(words)?))
+    }
+
+    /// The options of a check of files, if the arguments are those of one; the program's own name is not among these. Other arguments are
+    /// refused, as by [`Options::of_run`].
+    pub fn of_check(alloc: Global, words: &'a [String]) -> Result<Options<'a>, Error>
+        ensures taken { IfOk result (λ options. (is_check (map string_bytes words.now) ≡ true) × (named_by options ≡ names_to_check (map string_bytes words.now))) }
+        ensures refused { IfErr result (λ refusal. is_check (map string_bytes words.now) ≡ true → kind_of refusal ≡ ErrorKind.OutOfMemory) }
+    {
+        Ok(Options(check_command(alloc)?.try_get_matches_from(words)?))
     }
 
     /// The options that the arguments give; the program's own name is not among these. A request for help or for the version is an
@@ -183,7 +192,22 @@ fn run_command<'a>(alloc: Global) -> Result<Command<'a>, AllocError>
     command.arg(file(alloc).required(true))
 }
 
-// The whole command line, and its help, in whose order the arguments stand. Those of a run are the same as above, with rules on the others.
+// The command line of a check of files, with an exact contract as that of a run.
+fn check_command<'a>(alloc: Global) -> Result<Command<'a>, AllocError>
+    ensures { IfOk result (λ command. app_of command ≡ check_app) }
+{
+    let command = Command::new(alloc, "frameq")
+        .no_binary_name(true)
+        .disable_help_flag(true);
+    let command = command.arg(plan(alloc).required(true))?;
+    let command = command.arg(check(alloc).required(true))?;
+    let command = command.arg(limit(alloc))?;
+    let command = command.arg(details(alloc))?;
+    command.arg(file(alloc).required(true))
+}
+
+// The whole command line, and its help, in whose order the arguments stand. Those of a run and of a check are the same as above, with rules
+// on the others.
 fn command<'a>(alloc: Global) -> Result<Command<'a>, AllocError> {
     let command = Command::new(alloc, "frameq")
         .no_binary_name(true)
@@ -206,8 +230,12 @@ fn with_run<'a>(alloc: Global, command: Command<'a>) -> Result<Command<'a>, Allo
 
 // Adds the arguments with which no plan is run.
 fn with_reviews<'a>(alloc: Global, command: Command<'a>) -> Result<Command<'a>, AllocError> {
-    let command = command.arg(explain(alloc))?.arg(check(alloc)?)?;
-    let command = command.arg(limit(alloc)?)?;
+    let check = check(alloc).conflicts_with("explain")?;
+    let command = command
+        .arg(explain(alloc))?
+        .arg(check.conflicts_with("output")?)?;
+    let limit = limit(alloc).overrides_with("limit")?;
+    let command = command.arg(limit.requires_arg("check")?)?;
     let command = command.arg(draft(alloc)?)?;
     command.arg(null_values(alloc)?)
 }
@@ -271,24 +299,26 @@ fn explain<'a>(alloc: Global) -> Arg<'a> {
         .help("Print what each step of the plan leaves and where it runs; no data is read")
 }
 
-fn check<'a>(alloc: Global) -> Result<Arg<'a>, AllocError> {
+fn check<'a>(alloc: Global) -> Arg<'a>
+    ensures rule { rule_of result ≡ flag_rule (codes "check") }
+    ensures local { result.global ≡ false }
+{
     Arg::new(alloc, "check")
         .long("check")
         .action(ArgAction::SetTrue)
         .help("Say what is wrong in the files by the columns of the plan; no step is run")
-        .conflicts_with("explain")?
-        .conflicts_with("output")
 }
 
-fn limit<'a>(alloc: Global) -> Result<Arg<'a>, AllocError> {
+fn limit<'a>(alloc: Global) -> Arg<'a>
+    ensures rule { rule_of result ≡ limit_rule }
+    ensures local { result.global ≡ false }
+{
     Arg::new(alloc, "limit")
         .long("limit")
         .value_name("N")
         .value_parser(value_parser!(u64))
         .default_value("100")
         .help("Lines that --check writes of problems, or 0 for all")
-        .overrides_with("limit")?
-        .requires_arg("check")
 }
 
 fn draft<'a>(alloc: Global) -> Result<Arg<'a>, AllocError> {

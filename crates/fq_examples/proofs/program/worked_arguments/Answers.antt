@@ -21,3 +21,7 @@ returns-clause-others c = (refl, refl, refl, refl, refl, refl, refl)
 pub returns-clause-twice : goal.returns-clause-twice
 unfolding arguments_on_literals
 returns-clause-twice c = (refl, refl, refl)
+
+pub returns-clause-checks : goal.returns-clause-checks
+unfolding arguments_on_literals
+returns-clause-checks c = (refl, refl, refl, refl, refl, refl, refl, refl)

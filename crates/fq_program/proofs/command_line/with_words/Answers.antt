@@ -36,7 +36,16 @@ returns-in-Ok-clause-elsewhere g c run there =
     c.answer_run.ensures.elsewhere (subst (λ (names : Names). IsSome names.output) (sym named) there)
 
 pub returns-in-OutOfMemory-clause-early : goal.returns-in-OutOfMemory-clause-early
-returns-in-OutOfMemory-clause-early g c text run = any-early _ _ (λ code. inr (inr c.report.ensures))
+returns-in-OutOfMemory-clause-early g c text run = any-early _ _ (λ code. inr (inr c.report.ensures.code))
 
 pub returns-in-OutOfMemory-clause-status : goal.returns-in-OutOfMemory-clause-status
-returns-in-OutOfMemory-clause-status g c text inputs run tell = inr (inr c.report.ensures)
+returns-in-OutOfMemory-clause-status g c text inputs run tell = inr (inr c.report.ensures.code)
+
+pub returns-in-Ok-clause-checked : goal.returns-in-Ok-clause-checked
+returns-in-Ok-clause-checked g c text inputs check tell =
+    let ran = rw c.as_slice.ensures.value at c.in-Ok.ensures.taken.0 in
+    let other = check.other in
+    absurd (cc)
+
+pub returns-in-OutOfMemory-clause-checked : goal.returns-in-OutOfMemory-clause-checked
+returns-in-OutOfMemory-clause-checked g c text inputs check tell = inr (inr c.report.ensures.code)
