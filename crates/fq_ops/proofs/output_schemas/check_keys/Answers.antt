@@ -1,4 +1,4 @@
-use Rattle.std.proofs.Common.{Err, String, Global, map, string_bytes, sym, ap, ◌∙◌, arith}
+use Rattle.std.proofs.Common.{Err, String, Global, string_bytes, sym, ap, ◌∙◌, arith}
 use Rattle.std.proofs.lemmas.Result.{err_from_is_err_and}
 use Rattle.fq_column.specs.Schema.{kind_named}
 use Rattle.fq_column.proofs.SchemaLemmas.{slice_get-at}
