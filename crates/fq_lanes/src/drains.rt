@@ -19,6 +19,32 @@ use crate::feeds::MAX_FEEDS;
 use crate::worker_lanes::WorkerLanes;
 use std::sync::Wait;
 
+/// Takes and drops what still comes, until every feed has ended and no job is outstanding. Of this fault and those of the feeds
+/// and of the work, answers the one that takes precedence.
+pub(crate) fn drain_all<R: Wait, X: Drop, O: Drop>(
+    rt: &R,
+    lanes: &mut Vec<FeedLane<'_, X>>,
+    workers: &mut Vec<WorkerLanes<'_, X, O>>,
+    fault: RunFault,
+) -> RunFault
+    requires few { length lanes.old.items ≤ MAX_FEEDS }
+    ensures size { length lanes.new.items ≡ length lanes.old.items }
+    ensures lanes { feed_names lanes.new.items ≡ feed_names lanes.old.items }
+    ensures workers { worker_names workers.new.items ≡ worker_names workers.old.items }
+    ensures told { Grows IsPrefix (told_in (feed_views lanes.old.items)) (told_in (feed_views lanes.new.items)) }
+    ensures answered { Grows WorkerGrows (worker_views workers.old.items) (worker_views workers.new.items) }
+    ensures ended { All (λ lane. lane.ended ≡ true) lanes.new.items }
+    ensures idle { All (λ d. d.outstanding.items ≡ []) workers.new.items }
+    ensures given { Precedes result fault }
+    ensures theirs { (file : ℕ) (old new : Lane X) → slice_get lanes.old.items file ≡ Some old → slice_get lanes.new.items file ≡ Some new → old.ended ≡ false →
+        (end : Option FeedFault) × Tells (told_of new) (End end) × IfSome end (λ e. Precedes result (fault_at e file)) }
+    ensures refused { any_refused (worker_views workers.old.items) (worker_views workers.new.items) ≡ true → result ≡ run_fault.Memory }
+    ensures blames { BlamesTold (told_in (feed_views lanes.old.items)) fault → BlamesTold (told_in (feed_views lanes.new.items)) result }
+{
+    let of_feeds = drain_lanes(rt, lanes, fault);
+    drain_workers(rt, workers, of_feeds)
+}
+
 /// Takes and drops until every feed has ended. Of this fault and theirs, answers the one that takes precedence.
 pub(crate) fn drain_lanes<R: Wait, X: Drop>(
     rt: &R,
@@ -43,9 +69,9 @@ pub(crate) fn drain_lanes<R: Wait, X: Drop>(
     first
 }
 
-/// Takes and drops until no job is outstanding. Answers `Memory` if the work on one of them did, and otherwise the fault
-/// that was known.
-pub(crate) fn drain_workers<R: Wait, X, O: Drop>(
+// Takes and drops until no job is outstanding. Answers `Memory` if the work on one of them did, and otherwise the fault
+// that was known.
+fn drain_workers<R: Wait, X, O: Drop>(
     rt: &R,
     workers: &mut Vec<WorkerLanes<'_, X, O>>,
     fault: RunFault,

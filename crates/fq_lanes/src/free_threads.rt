@@ -1,5 +1,5 @@
 //! The engine by free threads.
-ghost use Rattle.std.specs.Prelude.{◌≡◌, ◌≤◌, ◌+◌, List, [], All, IfOk, IfErr, OnOk, OnErr, length};
+ghost use Rattle.std.specs.Prelude.{◌≡◌, ◌≤◌, ◌+◌, List, [], All, IfOk, IfErr, OnOk, OnErr, true, length};
 ghost use Rattle.std.specs.Vec.Iter.{into_iter_items};
 ghost use Rattle.fq_lanes.specs.WorkerLanes.{worker_names, worker_views, AreNewWorkers};
 ghost use Rattle.fq_lanes.specs.Engine.{Finishes, StopsEarly, BlamesFeed};
@@ -11,7 +11,7 @@ ghost use Rattle.fq_lanes.specs.HubView.{WorkerView, AllReplied};
 ghost use Rattle.fq_lanes.specs.Turns.{RunDone};
 ghost use Rattle.fq_lanes.specs.declared.messages.FromFeed.{FromFeed};
 
-use crate::drains::{drain_lanes, drain_workers};
+use crate::drains::drain_all;
 use crate::faults::{Memory, RunFault};
 use crate::feed_lane::FeedLane;
 use crate::feeds::{Feed, MAX_FEEDS};
@@ -57,14 +57,12 @@ where
     ensures lanes { feed_names lanes.new.items ≡ feed_names lanes.old.items }
     ensures workers { worker_names workers.new.items ≡ worker_names workers.old.items }
     ensures done { RunDone S.takes S.refuses hub.old.tail (tolds_of lanes.new.items) (worker_views workers.new.items) hub.new result }
+    ensures ended { OnErr result (All (λ lane. lane.ended ≡ true) lanes.new.items) }
+    ensures idle { OnErr result (All (λ d. d.outstanding.items ≡ []) workers.new.items) }
 {
     match run_turns(rt, parker, lanes, workers, hub) {
         Ok(()) => Ok(()),
-        Err(fault) => {
-            let of_feeds = drain_lanes(rt, lanes, fault);
-            let of_all = drain_workers(rt, workers, of_feeds);
-            Err(of_all)
-        }
+        Err(fault) => Err(drain_all(rt, lanes, workers, fault)),
     }
 }
 

@@ -1,6 +1,6 @@
 -- Refusals of checks, one after another.
-use Rattle.std.proofs.Common.{◌≡◌, ℕ, zero, suc, ◌+◌, ◌<◌, ◌≤◌, get_or, nat_lt, Bool, true, false, not, ◌&&◌, List, [], ◌∷◌, ◌++◌, map, filter, cond, length, take, Option, Some, None, Result, Ok, Err, refl, sym, ap, subst, ◌∙◌, arith, if◌then◌else◌, inl, inr, ◌⊎◌, ◌||◌, ℤ, pos}
-use Rattle.std.specs.Prelude.{slice_get, IsOk, IsTrue, is_ok}
+use Rattle.std.proofs.Common.{◌≡◌, ℕ, zero, suc, ◌+◌, ◌<◌, ◌≤◌, get_or, nat_lt, Bool, true, false, not, ◌&&◌, List, [], ◌∷◌, ◌++◌, map, filter, cond, length, take, Option, Some, None, Result, Ok, Err, refl, sym, ap, subst, ◌∙◌, arith, if◌then◌else◌, inl, inr, ◌⊎◌, ◌||◌, ℤ, pos, length-append}
+use Rattle.std.specs.Prelude.{slice_get, IfErr, IsOk, IsTrue, is_ok}
 use Rattle.std.specs.Bool.{◌==◌}
 use Rattle.std.specs.List.{flat_map, AllPass}
 use Rattle.std.proofs.lemmas.Bool.Decides.{nat_tests}
@@ -18,7 +18,7 @@ use Rattle.fq_column.specs.Refusal.{first_refusal, refuse_if, unless_refused, an
 use Rattle.fq_column.specs.Schema.{kind_named, schema_checks}
 use Rattle.fq_ops.specs.Aggregate.{Output}
 use Rattle.fq_ops.specs.declared.joins.How.{How}
-use Rattle.fq_ops.specs.Join.{join_schema, joined_fields, renamed, key_checks, kinds_differ, right_name, taken}
+use Rattle.fq_ops.specs.Join.{join_schema, joined_fields, renamed, key_checks, kinds_differ, right_name, taken, without_keys}
 use Rattle.fq_ops.specs.Fields.{Judged, refusals, settled, with_kind}
 use Rattle.fq_ops.specs.Roll.{roll_schema, is_from_to}
 use Rattle.std.specs.Option.{option_map}
@@ -60,6 +60,15 @@ pub refusal-judged : {X : Type 0} (expected answer : Result X StepFault) (f g : 
 refusal-judged expected answer f g a e (inl h) = inl (a ∙ ap Err e ∙ sym h)
 refusal-judged expected answer f g a e (inr h) = inr (a ∙ ap Err (e ∙ h))
 
+-- an answer that is the judgement has its refusal
+pub has-refusal : {X : Type 0} (expected answer : Result X StepFault) → answer ≡ expected → IfErr expected (λ f. answer ≡ Err f)
+has-refusal (Ok x) answer e = tt
+has-refusal (Err f) answer e = e
+
+pub has-refusal-or : {X : Type 0} (expected answer : Result X StepFault) (Other : StepFault → Type 0) → answer ≡ expected → IfErr expected (λ f. (answer ≡ Err f) ⊎ Other f)
+has-refusal-or (Ok x) answer Other e = tt
+has-refusal-or (Err f) answer Other e = inl e
+
 pub suc-nonzero : (n : ℕ) → (suc n == 0) ≡ false
 suc-nonzero n = grind (arith, nat_tests)
 
@@ -96,6 +105,28 @@ module _ (fields : Fields) (keys : List Name) (outputs : List Output) where
 
     pub group-aggregate_refused : (f : StepFault) → first_refusal (refusals key_judged) ≡ None → first_refusal (refusals aggregate_judged) ≡ Some f → group_schema fields keys outputs ≡ Err f
     group-aggregate_refused f n e = begun ∙ unless-refused ((refusals key_judged ++ refusals aggregate_judged) ++ ending) (grouped_fields fields keys outputs) f (first_refusal-here (refusals key_judged ++ refusals aggregate_judged) ending f (first_refusal-past (refusals key_judged) (refusals aggregate_judged) n ∙ e))
+
+    module _ (known : first_refusal (refusals key_judged) ≡ None) (computed : first_refusal (refusals aggregate_judged) ≡ None) where
+      columns-begun : group_schema fields keys outputs ≡ unless_refused ending (grouped_fields fields keys outputs)
+      columns-begun =
+          begun ∙ unless-past (refusals key_judged ++ refusals aggregate_judged) ending (grouped_fields fields keys outputs) (first_refusal-past (refusals key_judged) (refusals aggregate_judged) known ∙ computed)
+
+      abbrev columns-ended : Bool → Bool → Result Fields StepFault
+      columns-ended many distinct = unless_refused (refuse_if many TooMany ∷ refuse_if (not distinct) DoubleName ∷ []) (grouped_fields fields keys outputs)
+
+      pub group-many : nat_lt MAX_COLUMNS (length (grouped_names keys outputs)) ≡ true → group_schema fields keys outputs ≡ Err TooMany
+      group-many m = columns-begun ∙ ap (λ b. columns-ended b (is_distinct same_name (grouped_names keys outputs))) m
+
+      group-double : (many distinct : Bool) (answer : Result Fields StepFault) → many ≡ false → IfErr (columns-ended many distinct) (λ f. (answer ≡ Err f) ⊎ (f ≡ DoubleName))
+      group-double true distinct answer m = absurd (cc)
+      group-double false true answer m = tt
+      group-double false false answer m = inr refl
+
+      -- past all that is judged before the first allocation, only a double name is left
+      pub group-late : nat_lt MAX_COLUMNS (length (grouped_names keys outputs)) ≡ false → (answer : Result Fields StepFault) → IfErr (group_schema fields keys outputs) (λ f. (answer ≡ Err f) ⊎ (f ≡ DoubleName))
+      group-late m answer =
+          subst (λ r. IfErr r (λ f. (answer ≡ Err f) ⊎ (f ≡ DoubleName))) (sym columns-begun)
+          (group-double (nat_lt MAX_COLUMNS (length (grouped_names keys outputs))) (is_distinct same_name (grouped_names keys outputs)) answer m)
 
     names-grouped : names_of (grouped_fields fields keys outputs) ≡ grouped_names keys outputs
     names-grouped =
@@ -169,6 +200,33 @@ renamed-more left on fs i n k e =
     let rename : Field → Field = λ f. (right_name left f.0, f.1) in
     ap (renamed left on) (take-more fs i (n, k) e) ∙ ap (map rename) (filter-append other (take i fs) ((n, k) ∷ [])) ∙ map-append rename (filter other (take i fs)) (filter other ((n, k) ∷ []))
 
+-- one more right column, if it is no key
+module _ (on : List Name) where
+  others-next : (fs : Fields) (i : ℕ) (n : Name) (k : Kind) → slice_get fs i ≡ Some (n, k) →
+      length (without_keys on (take (i + 1) fs)) ≡ length (without_keys on (take i fs)) + length (filter (λ (p : Field). not (has_name on p.0)) ((n, k) ∷ []))
+  others-next fs i n k e =
+      let other : Field → Bool = λ p. not (has_name on p.0) in
+      let one : Field = (n, k) in
+      ap (λ gs. length (without_keys on gs)) (take-more fs i one e) ∙ ap length (filter-append other (take i fs) (one ∷ []))
+      ∙ length-append (filter other (take i fs)) (filter other (one ∷ []))
+
+  kind-beside : (fs : Fields) (i : ℕ) (n : Name) → slice_get (names_of fs) i ≡ Some n → (k : Kind) × (slice_get fs i ≡ Some (n, k))
+  kind-beside [] i n e = absurd (cc)
+  kind-beside (f ∷ fs) zero n e = let s : f.0 ≡ n = cc in (f.1, λ i. Some (s i, f.1))
+  kind-beside (f ∷ fs) (suc i) n e = kind-beside fs i n e
+
+  pub others-more : (fs : Fields) (i : ℕ) (n : Name) → slice_get (names_of fs) i ≡ Some n → has_name on n ≡ false → length (without_keys on (take (i + 1) fs)) ≡ length (without_keys on (take i fs)) + 1
+  others-more fs i n e h =
+      let beside = kind-beside fs i n e in
+      let one : Field = (n, beside.0) in
+      others-next fs i n beside.0 beside.1 ∙ ap (λ b. length (without_keys on (take i fs)) + length (cond (not b) (one ∷ []) [])) h
+
+  pub others-same : (fs : Fields) (i : ℕ) (n : Name) → slice_get (names_of fs) i ≡ Some n → has_name on n ≡ true → length (without_keys on (take (i + 1) fs)) ≡ length (without_keys on (take i fs))
+  others-same fs i n e h =
+      let beside = kind-beside fs i n e in
+      let one : Field = (n, beside.0) in
+      omega (arith, others-next fs i n beside.0 beside.1 ∙ ap (λ b. length (without_keys on (take i fs)) + length (cond (not b) (one ∷ []) [])) h)
+
 -- ---- the schema of a join
 
 module _ (how : How) (left right : Fields) (on : List Name) where
@@ -184,7 +242,7 @@ module _ (how : How) (left right : Fields) (on : List Name) where
         unless-next (length on == 0) NoColumn (flat_map (key_checks left right) on ++ join_ending) output_fields some
         ∙ unless-refused (flat_map (key_checks left right) on ++ join_ending) output_fields f (first_refusal-here (flat_map (key_checks left right) on) join_ending f e)
 
-    module _ (none : first_refusal (flat_map (key_checks left right) on) ≡ None) (column : (length left == 0) ≡ false) where
+    module _ (none : first_refusal (flat_map (key_checks left right) on) ≡ None) where
       join-begun : join_schema how left right on ≡ unless_refused join_ending output_fields
       join-begun =
           unless-next (length on == 0) NoColumn (flat_map (key_checks left right) on ++ join_ending) output_fields some
@@ -193,35 +251,40 @@ module _ (how : How) (left right : Fields) (on : List Name) where
       abbrev ended : Bool → Bool → Bool → Result Fields StepFault
       ended many once distinct = unless_refused (refuse_if many TooMany ∷ refuse_if (not (once && distinct)) DoubleName ∷ []) output_fields
 
-      some_column : (xs ys : Fields) → (length xs == 0) ≡ false → (length (names_of (xs ++ ys)) == 0) ≡ false
-      some_column [] ys e = absurd (cc)
-      some_column (x ∷ xs) ys e = suc-nonzero (length (names_of (xs ++ ys)))
+      pub join-many : nat_lt MAX_COLUMNS (length output_fields) ≡ true → join_schema how left right on ≡ Err TooMany
+      join-many m = join-begun ∙ ap (λ b. ended b (is_distinct same_name on) (is_distinct same_name (names_of output_fields))) m
 
-      -- the judgement of the output's columns
-      columns-judged : unless_refused (schema_checks (names_of output_fields)) output_fields ≡ ended (nat_lt MAX_COLUMNS (length output_fields)) true (is_distinct same_name (names_of output_fields))
-      columns-judged =
-          schema-checked output_fields (names_of output_fields) refl (some_column left (renamed left on (taken how right)) column)
-          ∙ ap (λ n. unless_refused (refuse_if (nat_lt MAX_COLUMNS n) TooMany ∷ refuse_if (not (is_distinct same_name (names_of output_fields))) DoubleName ∷ []) output_fields) (length-map output_fields (λ f. f.0))
+      module _ (few : nat_lt MAX_COLUMNS (length output_fields) ≡ false) where
+        pub join-twice : is_distinct same_name on ≡ false → join_schema how left right on ≡ Err DoubleName
+        join-twice o = join-begun ∙ (λ i. ended (few i) (o i) (is_distinct same_name (names_of output_fields)))
 
-      past-keys : (many once distinct : Bool) (f : StepFault) → ended many true distinct ≡ Err f → ended many once distinct ≡ Err f
-      past-keys true once distinct f e = e
-      past-keys false true distinct f e = e
-      past-keys false false true f e = absurd (cc)
-      past-keys false false false f e = e
+        module _ (once : is_distinct same_name on ≡ true) where
+          late : (many distinct : Bool) (answer : Result Fields StepFault) → many ≡ false →
+              IfErr (ended many true distinct) (λ f. (answer ≡ Err f) ⊎ ((f ≡ DoubleName) × (is_distinct same_name on ≡ true)))
+          late true distinct answer m = absurd (cc)
+          late false true answer m = tt
+          late false false answer m = inr (refl, once)
 
-      pub join-columns_refused : (f : StepFault) → unless_refused (schema_checks (names_of output_fields)) output_fields ≡ Err f → join_schema how left right on ≡ Err f
-      join-columns_refused f e = join-begun ∙ past-keys (nat_lt MAX_COLUMNS (length output_fields)) (is_distinct same_name on) (is_distinct same_name (names_of output_fields)) f (sym columns-judged ∙ e)
+          judged-once : join_schema how left right on ≡ ended (nat_lt MAX_COLUMNS (length output_fields)) true (is_distinct same_name (names_of output_fields))
+          judged-once = join-begun ∙ ap (λ b. ended (nat_lt MAX_COLUMNS (length output_fields)) b (is_distinct same_name (names_of output_fields))) once
 
-      doubled : (many once distinct : Bool) (s : Fields) → once ≡ false → ended many true distinct ≡ Ok s → ended many once distinct ≡ Err DoubleName
-      doubled true once distinct s o e = absurd (cc)
-      doubled false true distinct s o e = absurd (cc)
-      doubled false false distinct s o e = refl
+          -- past all that is judged before the first allocation, only a double name is left
+          pub join-late : (answer : Result Fields StepFault) → IfErr (join_schema how left right on) (λ f. (answer ≡ Err f) ⊎ ((f ≡ DoubleName) × (is_distinct same_name on ≡ true)))
+          join-late answer =
+              subst (λ r. IfErr r (λ f. (answer ≡ Err f) ⊎ ((f ≡ DoubleName) × (is_distinct same_name on ≡ true)))) (sym judged-once)
+              (late (nat_lt MAX_COLUMNS (length output_fields)) (is_distinct same_name (names_of output_fields)) answer few)
 
-      pub join-keys_double : (s : Fields) → is_distinct same_name on ≡ false → unless_refused (schema_checks (names_of output_fields)) output_fields ≡ Ok s → join_schema how left right on ≡ Err DoubleName
-      join-keys_double s o e = join-begun ∙ doubled (nat_lt MAX_COLUMNS (length output_fields)) (is_distinct same_name on) (is_distinct same_name (names_of output_fields)) s o (sym columns-judged ∙ e)
+          module _ (column : (length left == 0) ≡ false) where
+            some_column : (xs ys : Fields) → (length xs == 0) ≡ false → (length (names_of (xs ++ ys)) == 0) ≡ false
+            some_column [] ys e = absurd (cc)
+            some_column (x ∷ xs) ys e = suc-nonzero (length (names_of (xs ++ ys)))
 
-      pub join-accepted : (s : Fields) → is_distinct same_name on ≡ true → unless_refused (schema_checks (names_of output_fields)) output_fields ≡ Ok s → join_schema how left right on ≡ Ok s
-      join-accepted s o e = join-begun ∙ ap (λ b. ended (nat_lt MAX_COLUMNS (length output_fields)) b (is_distinct same_name (names_of output_fields))) o ∙ sym columns-judged ∙ e
+            -- the judgement of the output's columns is that of the join
+            pub join-judged : unless_refused (schema_checks (names_of output_fields)) output_fields ≡ join_schema how left right on
+            join-judged =
+                schema-checked output_fields (names_of output_fields) refl (some_column left (renamed left on (taken how right)) column)
+                ∙ ap (λ n. unless_refused (refuse_if (nat_lt MAX_COLUMNS n) TooMany ∷ refuse_if (not (is_distinct same_name (names_of output_fields))) DoubleName ∷ []) output_fields) (length-map output_fields (λ f. f.0))
+                ∙ sym judged-once
 
 -- ---- the schema of a rolling sum
 
@@ -304,6 +367,55 @@ roll-judged fs column name k window min_samples e w in_window in_samples d =
     ended : (b : Bool) (fs : Fields) → unless_refused (refuse_if b TooMany ∷ refuse_if (not true) DoubleName ∷ []) fs ≡ unless_refused (refuse_if b TooMany ∷ []) fs
     ended true fs = refl
     ended false fs = refl
+
+-- all that is judged before the first allocation is all
+roll-accepted : (fs : Fields) (column name : Name) (k : Kind) (window min_samples : ℤ) → kind_named fs column ≡ Ok k → same_kind k Whole ≡ true →
+    is_from_to (pos 1) (pos MAX_WINDOW) window ≡ true → is_from_to (pos 1) window min_samples ≡ true → nat_lt MAX_COLUMNS (length (put_named fs (name, Whole))) ≡ false →
+    roll_schema fs column window min_samples name ≡ Ok (put_named fs (name, Whole))
+roll-accepted fs column name k window min_samples e w in_window in_samples few =
+    let out = put_named fs (name, Whole) in
+    let judge : Result Kind StepFault → Result Fields StepFault = λ r. and_then r (λ k. unless_refused
+    (refuse_if (not (same_kind k Whole)) WrongKind ∷ refuse_if (not (is_from_to (pos 1) (pos MAX_WINDOW) window)) Window ∷ refuse_if (not (is_from_to (pos 1) window min_samples)) Samples ∷ refuse_if (nat_lt MAX_COLUMNS (length out)) TooMany ∷ []) out) in
+    let judged : Bool → Bool → Bool → Bool → Result Fields StepFault = λ whole windows samples many. unless_refused
+    (refuse_if (not whole) WrongKind ∷ refuse_if (not windows) Window ∷ refuse_if (not samples) Samples ∷ refuse_if many TooMany ∷ []) out in
+    ap judge e ∙ (λ i. judged (w i) (in_window i) (in_samples i) (few i))
+
+pub roll-late : (fs : Fields) (column name : Name) (k : Kind) (window min_samples : ℤ) → kind_named fs column ≡ Ok k → same_kind k Whole ≡ true →
+    is_from_to (pos 1) (pos MAX_WINDOW) window ≡ true → is_from_to (pos 1) window min_samples ≡ true → nat_lt MAX_COLUMNS (length (put_named fs (name, Whole))) ≡ false →
+    (answer : Result Fields StepFault) → IfErr (roll_schema fs column window min_samples name) (λ f. answer ≡ Err f)
+roll-late fs column name k window min_samples e w in_window in_samples few answer =
+    subst (λ (r : Result Fields StepFault). IfErr r (λ f. answer ≡ Err f)) (sym (roll-accepted fs column name k window min_samples e w in_window in_samples few)) tt
+
+-- and a name that is new to 64 columns is one too many
+pub roll-many : (fs : Fields) (column name : Name) (k : Kind) (window min_samples : ℤ) → kind_named fs column ≡ Ok k → same_kind k Whole ≡ true →
+    is_from_to (pos 1) (pos MAX_WINDOW) window ≡ true → is_from_to (pos 1) window min_samples ≡ true → nat_lt MAX_COLUMNS (length (put_named fs (name, Whole))) ≡ true →
+    roll_schema fs column window min_samples name ≡ Err TooMany
+roll-many fs column name k window min_samples e w in_window in_samples many =
+    let out = put_named fs (name, Whole) in
+    let judge : Result Kind StepFault → Result Fields StepFault = λ r. and_then r (λ k. unless_refused
+    (refuse_if (not (same_kind k Whole)) WrongKind ∷ refuse_if (not (is_from_to (pos 1) (pos MAX_WINDOW) window)) Window ∷ refuse_if (not (is_from_to (pos 1) window min_samples)) Samples ∷ refuse_if (nat_lt MAX_COLUMNS (length out)) TooMany ∷ []) out) in
+    let judged : Bool → Bool → Bool → Bool → Result Fields StepFault = λ whole windows samples many. unless_refused
+    (refuse_if (not whole) WrongKind ∷ refuse_if (not windows) Window ∷ refuse_if (not samples) Samples ∷ refuse_if many TooMany ∷ []) out in
+    ap judge e ∙ (λ i. judged (w i) (in_window i) (in_samples i) (many i))
+
+-- how many columns there are with one under a name
+pub put_named-length : (fs : Fields) (n : Name) (k : Kind) (i : ℕ) → position_of n (names_of fs) ≡ Some i → length (put_named fs (n, k)) ≡ length fs
+put_named-length fs n k i e = ap length (put_named-at fs n i k e) ∙ by i fs
+  where
+    by : (i : ℕ) (fs : Fields) → length (with_kind i k fs) ≡ length fs
+    by i [] = refl
+    by zero (f ∷ fs) = refl
+    by (suc i) (f ∷ fs) = ap suc (by i fs)
+
+pub put_named-longer : (fs : Fields) (n : Name) (k : Kind) → position_of n (names_of fs) ≡ None → length (put_named fs (n, k)) ≡ length fs + 1
+put_named-longer fs n k e = ap length (put_named-last fs n k (unnamed fs n e)) ∙ length-append fs ((n, k) ∷ [])
+
+-- whether these are too many columns
+pub over-many : (n : ℕ) → MAX_COLUMNS < n → nat_lt MAX_COLUMNS n ≡ true
+over-many n h = grind (arith, nat_tests)
+
+pub not-many : (n : ℕ) → n ≤ MAX_COLUMNS → nat_lt MAX_COLUMNS n ≡ false
+not-many n h = grind (arith, nat_tests)
 
 -- ---- what holds if nothing is refused
 

@@ -1,11 +1,13 @@
 //! Schemas after joins, groupings and rolling sums.
-ghost use Rattle.std.specs.Prelude.{◌≡◌, ◌⊎◌, ◌++◌, None, Some, map, string_bytes, IfOk, IfErr, OnOk};
-ghost use Rattle.fq_column.specs.Frame.{has_name};
+ghost use Rattle.std.specs.Prelude.{◌≡◌, ◌⊎◌, ◌++◌, ◌≤◌, true, None, Some, Err, map, length, string_bytes, IfOk, IfErr, OnOk};
+ghost use Rattle.fq_column.specs.declared.cells.Kind.TheVariants.{Whole};
+ghost use Rattle.fq_column.specs.Frame.{has_name, put_named, same_name};
+ghost use Rattle.fq_column.specs.Lists.{is_distinct};
 ghost use Rattle.fq_column.specs.Refusal.{first_refusal, IsJudgement};
 ghost use Rattle.fq_column.specs.Schema.{kind_named};
 ghost use Rattle.fq_ops.specs.Fields.{refusals, settled};
 ghost use Rattle.fq_ops.specs.Group.{group_schema as judged_grouping, aggregate_kind};
-ghost use Rattle.fq_ops.specs.Join.{join_schema as judged_join, key_checks, renamed, right_name, taken};
+ghost use Rattle.fq_ops.specs.Join.{join_schema as judged_join, joined_fields, key_checks, renamed, right_name, taken, without_keys};
 ghost use Rattle.fq_ops.specs.AggregateData.{aggregate_of, outputs_of};
 ghost use Rattle.fq_ops.specs.Roll.{roll_schema as judged_roll};
 
@@ -13,7 +15,7 @@ use crate::aggregates::{Agg, What};
 use crate::field_lists::{FieldList, copy_name};
 use crate::joins::How;
 use crate::rolls::MAX_WINDOW;
-use fq_column::{Kind, Schema, StepFault, has_double};
+use fq_column::{Kind, MAX_COLUMNS, Schema, StepFault, has_double};
 use std::alloc::Global;
 
 /// The schema after a join on these names: the left columns, then, of an inner or a left join, the right ones without the
@@ -22,7 +24,7 @@ use std::alloc::Global;
 /// A right column whose name is among the left names gets the suffix `_right`. Refused, in this order: `NoColumn` if no
 /// key is named; for each key `NoSuchColumn` if it is not on the left or not on the right, `WrongKind` if its kinds
 /// differ; `TooMany` if there would be more than 64 columns; `DoubleName` if a key is named twice or two names of the
-/// output are equal. `Memory` if an allocation failed.
+/// output are equal. `Memory` if an allocation failed; only two equal names of the output are found after the first.
 pub fn join_schema(
     alloc: Global,
     left: &Schema,
@@ -30,7 +32,8 @@ pub fn join_schema(
     on: &[String],
     how: How,
 ) -> Result<Schema, StepFault>
-    ensures { IsJudgement (judged_join how left.now right.now (map string_bytes on.now)) result }
+    ensures judged { IsJudgement (judged_join how left.now right.now (map string_bytes on.now)) result }
+    ensures early { IfErr (judged_join how left.now right.now (map string_bytes on.now)) (λ fault. (result ≡ Err fault) ⊎ ((fault ≡ StepFault.DoubleName) × (is_distinct same_name (map string_bytes on.now) ≡ true))) }
 {
     if on.is_empty() {
         return Err(StepFault::NoColumn);
@@ -38,30 +41,39 @@ pub fn join_schema(
     for name in on {
         check_key(left, right, name.as_str())?;
     }
-    let mut fields = FieldList::copy_of(alloc, left)?;
-    add_taken(alloc, &mut fields, left, right, on, how)?;
-    let schema = fields.into_schema()?;
+    if joined_len(left, right, on, how) > MAX_COLUMNS {
+        return Err(StepFault::TooMany);
+    }
     if has_double(on) {
         return Err(StepFault::DoubleName);
     }
-    Ok(schema)
+    let mut fields = FieldList::copy_of(alloc, left)?;
+    add_taken(alloc, &mut fields, left, right, on, how)?;
+    fields.into_schema()
 }
 
 /// The schema after a grouping: the keys' columns, then one for each aggregate.
 ///
 /// Refused, in this order: `NoColumn` if no key is named; for each key `NoSuchColumn`; for each aggregate
 /// `NoSuchColumn`, and `WrongKind` for a sum of a column that is not of whole numbers; `TooMany` if there would be more
-/// than 64 columns; `DoubleName` if two names of the output are equal. `Memory` if an allocation failed.
+/// than 64 columns; `DoubleName` if two names of the output are equal. `Memory` if an allocation failed; only two equal
+/// names are found after the first.
 pub fn group_schema(
     alloc: Global,
     schema: &Schema,
     keys: &[String],
     aggs: &[Agg],
 ) -> Result<Schema, StepFault>
-    ensures { IsJudgement (judged_grouping schema.now (map string_bytes keys.now) (outputs_of aggs.now)) result }
+    ensures judged { IsJudgement (judged_grouping schema.now (map string_bytes keys.now) (outputs_of aggs.now)) result }
+    ensures early { IfErr (judged_grouping schema.now (map string_bytes keys.now) (outputs_of aggs.now)) (λ fault. (result ≡ Err fault) ⊎ (fault ≡ StepFault.DoubleName)) }
 {
     if keys.is_empty() {
         return Err(StepFault::NoColumn);
+    }
+    check_keys(schema, keys)?;
+    check_aggregates(schema, aggs)?;
+    if keys.len() + aggs.len() > MAX_COLUMNS {
+        return Err(StepFault::TooMany);
     }
     let mut fields = FieldList::new(alloc);
     add_keys(alloc, &mut fields, schema, keys)?;
@@ -73,7 +85,7 @@ pub fn group_schema(
 ///
 /// Refused, in this order: `NoSuchColumn`; `WrongKind` if the column is not of whole numbers; `Window` if the window is
 /// not from 1 to 65,536; `Samples` if `min_samples` is not from 1 to the window; `TooMany` if a new name would make more
-/// than 64 columns. `Memory` if an allocation failed.
+/// than 64 columns. All of these come before the first allocation. `Memory` if one failed.
 pub fn roll_schema(
     alloc: Global,
     schema: &Schema,
@@ -82,7 +94,8 @@ pub fn roll_schema(
     min_samples: i64,
     name: &str,
 ) -> Result<Schema, StepFault>
-    ensures { IsJudgement (judged_roll schema.now column.now window min_samples name.now) result }
+    ensures judged { IsJudgement (judged_roll schema.now column.now window min_samples name.now) result }
+    ensures early { IfErr (judged_roll schema.now column.now window min_samples name.now) (λ fault. result ≡ Err fault) }
 {
     if schema.kind_of(column)? != Kind::Whole {
         return Err(StepFault::WrongKind);
@@ -93,12 +106,25 @@ pub fn roll_schema(
     if min_samples < 1 || min_samples > window {
         return Err(StepFault::Samples);
     }
+    if put_len(schema, name) > MAX_COLUMNS {
+        return Err(StepFault::TooMany);
+    }
     let mut fields = FieldList::copy_of(alloc, schema)?;
     match schema.position(name) {
         Some(i) => fields.set_kind(i, Kind::Whole),
         None => fields.push(copy_name(alloc, name)?, Kind::Whole)?,
     }
     fields.into_schema()
+}
+
+// How many columns there are with one under a name.
+fn put_len(schema: &Schema, name: &str) -> usize
+    ensures { result ≡ length (put_named schema.now (name.now, Whole)) }
+{
+    match schema.position(name) {
+        Some(_) => schema.len(),
+        None => schema.len() + 1,
+    }
 }
 
 // The kind of an aggregate.
@@ -109,6 +135,28 @@ fn kind_of_aggregate(schema: &Schema, what: &What) -> Result<Kind, StepFault>
         What::Len => Ok(Kind::Whole),
         What::Of(function, name) => function.kind_over(schema.kind_of(name.as_str())?),
     }
+}
+
+// The first refusal of a key of a grouping.
+fn check_keys(schema: &Schema, keys: &[String]) -> Result<(), StepFault>
+    ensures ok { OnOk result (first_refusal (refusals (map (λ k. (string_bytes k, kind_named schema.now (string_bytes k))) keys.now)) ≡ None) }
+    ensures err { IfErr result (λ fault. first_refusal (refusals (map (λ k. (string_bytes k, kind_named schema.now (string_bytes k))) keys.now)) ≡ Some fault) }
+{
+    for key in keys {
+        schema.kind_of(key.as_str())?;
+    }
+    Ok(())
+}
+
+// The first refusal of an aggregate.
+fn check_aggregates(schema: &Schema, aggs: &[Agg]) -> Result<(), StepFault>
+    ensures ok { OnOk result (first_refusal (refusals (map (λ a. (string_bytes a.name, aggregate_kind schema.now (aggregate_of a.what))) aggs.now)) ≡ None) }
+    ensures err { IfErr result (λ fault. first_refusal (refusals (map (λ a. (string_bytes a.name, aggregate_kind schema.now (aggregate_of a.what))) aggs.now)) ≡ Some fault) }
+{
+    for agg in aggs {
+        kind_of_aggregate(schema, &agg.what)?;
+    }
+    Ok(())
 }
 
 // Adds the fields of keys, up to the first that is refused.
@@ -160,6 +208,31 @@ fn check_key(left: &Schema, right: &Schema, name: &str) -> Result<(), StepFault>
         return Err(StepFault::WrongKind);
     }
     Ok(())
+}
+
+// How many columns a join's output has.
+fn joined_len(left: &Schema, right: &Schema, on: &[String], how: How) -> usize
+    ensures { result ≡ length (joined_fields how left.now right.now (map string_bytes on.now)) }
+{
+    match how {
+        How::Inner | How::Left => left.len() + count_others(right, on),
+        How::Semi | How::Anti => left.len(),
+    }
+}
+
+// How many columns are not keys.
+fn count_others(right: &Schema, on: &[String]) -> usize
+    ensures others { result ≡ length (without_keys (map string_bytes on.now) right.now) }
+    ensures bound { result ≤ MAX_COLUMNS }
+{
+    let mut count = 0;
+    for i in 0..right.len() {
+        let name = right.name(i);
+        if !contains(on, name) {
+            count += 1;
+        }
+    }
+    count
 }
 
 // Adds the right columns that a join's output takes.

@@ -14,7 +14,7 @@ use Rattle.fq_lanes.specs.Engine.{IsWorked}
 use Rattle.fq_lanes.specs.Beside.{Each}
 use Rattle.fq_lanes.specs.Numbering.{numbered, numbered_file, numbers}
 use Rattle.fq_lanes.specs.TailTaking.{Took}
-use Rattle.fq_run.specs.Feeding.{Feeding, MayCome, end_item, runs_from, scanned_items}
+use Rattle.fq_run.specs.Feeding.{AllTextItems, Feeding, MayCome, end_item, runs_from, scanned_items}
 use Rattle.fq_run.specs.Kept.{Takes}
 use Rattle.fq_run.specs.Physical.{Physical, side_files, main_fields}
 use Rattle.fq_run.specs.EngineRun.{items_of_files, leading_steps, opened, records_of_files, rows_of_files}
@@ -33,16 +33,16 @@ use Rattle.fq_run.proofs.GatheringLemmas.{Answer, AllFit, Fits, Head, all_taken,
 use Rattle.fq_run.proofs.FileItemLemmas.{done-length, file-worked}
 
 -- feeds that tell their items gave those
-pub each-known : (feeds : List Feeding) (items known : List (List FileItem)) → Each MayCome feeds items → map (λ (f : Feeding). f.items) feeds ≡ map Some known → items ≡ known
-each-known [] [] [] h e = refl
-each-known [] [] (k ∷ ks) h e = absurd (cc e)
-each-known [] (x ∷ xs) known h e = absurd h
-each-known (f ∷ fs) [] known h e = absurd h
-each-known (f ∷ fs) (x ∷ xs) [] h e = absurd (cc e)
-each-known (f ∷ fs) (x ∷ xs) (k ∷ ks) h e =
+pub each-known : (feeds : List Feeding) (items known : List (List FileItem)) → Each MayCome feeds items → map (λ (f : Feeding). f.items) feeds ≡ map Some known → AllTextItems known → items ≡ known
+each-known [] [] [] h e t = refl
+each-known [] [] (k ∷ ks) h e t = absurd (cc e)
+each-known [] (x ∷ xs) known h e t = absurd h
+each-known (f ∷ fs) [] known h e t = absurd h
+each-known (f ∷ fs) (x ∷ xs) [] h e t = absurd (cc e)
+each-known (f ∷ fs) (x ∷ xs) (k ∷ ks) h e t =
     let one : f.items ≡ Some k = cc e in
     let rest : map (λ (f : Feeding). f.items) fs ≡ map Some ks = cc e in
-    ap (λ y. y ∷ xs) (h.0 k one) ∙ ap (λ ys. k ∷ ys) (each-known fs xs ks h.1 rest)
+    ap (λ y. y ∷ xs) (h.0.1 k one t.0) ∙ ap (λ ys. k ∷ ys) (each-known fs xs ks h.1 rest t.1)
 
 -- the log's files and worked items
 abbrev pub answers_in : List (ℕ × ℕ × Worked) → List Answer

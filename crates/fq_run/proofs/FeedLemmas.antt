@@ -1,15 +1,15 @@
 -- What a feed has still to give, call by call.
-use Rattle.std.proofs.Common.{◌≡◌, ◌≢◌, ◌+◌, ◌<◌, inl, inr, ℕ, Bool, false, List, [], ◌∷◌, ◌++◌, length, take, Option, Some, None, option_map, Ok, Err, refl, ap, sym, ◌∙◌, arith, length-take}
+use Rattle.std.proofs.Common.{◌≡◌, ◌≢◌, ◌+◌, ◌<◌, inl, inr, ℕ, Bool, false, List, [], ◌∷◌, ◌++◌, length, take, Option, Some, None, option_map, Ok, Err, refl, ap, sym, subst, ◌∙◌, arith, length-take}
 use Rattle.std.proofs.lemmas.Option.{none-some, same_Some}
 use Rattle.fq_csv.specs.File.{Record}
 use Rattle.fq_csv.specs.RecordScan.{HandsOutRun, IsNextRun, RecordScanning}
-use Rattle.fq_csv.specs.Records.{IsFailure}
+use Rattle.fq_csv.specs.Records.{IsFailure, IsOfText}
 use Rattle.fq_csv.specs.Taking.{FieldRun, RecordStream, over, without_records}
 use Rattle.fq_csv.specs.declared.faults.ScanFault.{ScanFault}
 use Rattle.fq_csv.specs.declared.layouts.Layout.{Layout}
-use Rattle.fq_csv.specs.declared.faults.ScanFault.TheVariants.{Read, Memory}
+use Rattle.fq_csv.specs.declared.faults.ScanFault.TheVariants.{Header, Width, BadCell, TooLong, Read, Memory}
 use Rattle.fq_csv.proofs.HandedOutLemmas.{pieces-more, pieces-none}
-use Rattle.fq_run.specs.Feeding.{Feeding, MayCome, end_item, feeding_of, runs_from, scanned_items}
+use Rattle.fq_run.specs.Feeding.{AreTextItems, Feeding, MayCome, end_item, feeding_of, runs_from, scanned_items}
 use Rattle.fq_run.specs.declared.file_feeds.FileItem.{FileItem}
 use Rattle.fq_run.specs.declared.file_feeds.FileItem.TheVariants.{Run, Ended}
 
@@ -40,38 +40,57 @@ pub next-run : (old new : RecordScanning) (ended : Bool) (f : Feeding) (run : Fi
     → IsNextRun old run new
     → ((u : RecordStream) → old.upcoming ≡ Some u → HandsOutRun old.file old.run_size u (Ok (Some run)) new.upcoming)
     → MayCome (feeding_of new ended) xs → MayCome f (Run run ∷ xs)
-next-run old new ended f run xs v n form out h known e =
-    let told = comes old ended f known v n e in
-    let u : RecordStream = told.0 in
-    let o : (run.records ≡ take old.run_size u.records) × (new.upcoming ≡ Some (without_records old.run_size u)) = out u told.1 in
-    let some : 0 < length u.records = omega (arith, form.some, ap length o.0, length-take old.run_size u.records) in
-    let size : 0 < old.run_size = omega (arith, form.some, form.fits) in
-    let rest : xs ≡ scanned_items new.file new.layout new.run_size new.taken (without_records old.run_size u) =
-    h _ (ap (λ over. (feeding_of new over).items) n ∙ ap (option_map (scanned_items new.file new.layout new.run_size new.taken)) o.1) in
-    let is : run ≡ record { file = old.file; layout = old.layout; before = old.taken; records = take old.run_size u.records } = λ i. record { file = form.number i; layout = form.layout i; before = form.place i; records = o.0 i } in
-    ap (λ ys. Run run ∷ ys) (rest ∙ (λ i. scanned_items (form.same.file i) (form.same.layout i) (form.same.size i) (form.counted i) (without_records old.run_size u)))
-    ∙ sym (scanned_items-next old.file old.layout old.run_size old.taken u run size some is)
-    ∙ told.2
+next-run old new ended f run xs v n form out h = ((tt, h.0), same)
+  where
+    same : (known : List FileItem) → f.items ≡ Some known → AreTextItems known → Run run ∷ xs ≡ known
+    same known e text =
+        let told = comes old ended f known v n e in
+        let u : RecordStream = told.0 in
+        let o : (run.records ≡ take old.run_size u.records) × (new.upcoming ≡ Some (without_records old.run_size u)) = out u told.1 in
+        let some : 0 < length u.records = omega (arith, form.some, ap length o.0, length-take old.run_size u.records) in
+        let size : 0 < old.run_size = omega (arith, form.some, form.fits) in
+        let is : run ≡ record { file = old.file; layout = old.layout; before = old.taken; records = take old.run_size u.records } = λ i. record { file = form.number i; layout = form.layout i; before = form.place i; records = o.0 i } in
+        let left : scanned_items new.file new.layout new.run_size new.taken (without_records old.run_size u) ≡ scanned_items old.file old.layout old.run_size (old.taken + length run.records) (without_records old.run_size u) =
+        λ i. scanned_items (form.same.file i) (form.same.layout i) (form.same.size i) (form.counted i) (without_records old.run_size u) in
+        let whole : Run run ∷ scanned_items new.file new.layout new.run_size new.taken (without_records old.run_size u) ≡ known =
+        ap (λ ys. Run run ∷ ys) left ∙ sym (scanned_items-next old.file old.layout old.run_size old.taken u run size some is) ∙ told.2 in
+        let rest : xs ≡ scanned_items new.file new.layout new.run_size new.taken (without_records old.run_size u) =
+        h.1 _ (ap (λ over. (feeding_of new over).items) n ∙ ap (option_map (scanned_items new.file new.layout new.run_size new.taken)) o.1) (subst AreTextItems (sym whole) text).1 in
+        ap (λ ys. Run run ∷ ys) rest ∙ whole
 
 -- no record is left
 pub no-run : (old new : RecordScanning) (ended : Bool) (f : Feeding) → f ≡ feeding_of old ended → ended ≡ false
     → ((u : RecordStream) → old.upcoming ≡ Some u → HandsOutRun old.file old.run_size u (Ok None) new.upcoming)
     → MayCome f []
-no-run old new ended f v n out known e =
-    let told = comes old ended f known v n e in
-    let o = out told.0 told.1 in
-    sym (scanned_items-over old.file old.layout old.run_size old.taken None) ∙ ap (scanned_items old.file old.layout old.run_size old.taken) (sym o.0) ∙ told.2
+no-run old new ended f v n out = (tt, same)
+  where
+    same : (known : List FileItem) → f.items ≡ Some known → AreTextItems known → [] ≡ known
+    same known e text =
+        let told = comes old ended f known v n e in
+        let o = out told.0 told.1 in
+        sym (scanned_items-over old.file old.layout old.run_size old.taken None) ∙ ap (scanned_items old.file old.layout old.run_size old.taken) (sym o.0) ∙ told.2
 
 pub next-fault : (old new : RecordScanning) (ended : Bool) (f : Feeding) (fault : ScanFault) (xs : List FileItem) → f ≡ feeding_of old ended → ended ≡ false
     → ((u : RecordStream) → old.upcoming ≡ Some u → HandsOutRun old.file old.run_size u (Err fault) new.upcoming)
     → ((number : ℕ) → fault ≢ Read number) → fault ≢ Memory → xs ≡ [] → MayCome f (Ended fault ∷ xs)
-next-fault old new ended f fault xs v n out not_read not_memory none known e =
-    let told = comes old ended f known v n e in
-    elim (out told.0 told.1) [
-      | inl o ↦ ap (λ ys. Ended fault ∷ ys) none ∙ sym (scanned_items-over old.file old.layout old.run_size old.taken (Some fault)) ∙ ap (scanned_items old.file old.layout old.run_size old.taken) (sym o.0) ∙ told.2
-      | inr failed ↦ absurd (go failed)
-    ]
+next-fault old new ended f fault xs v n out not_read not_memory none = ((text-fault fault not_read not_memory, subst AreTextItems (sym none) tt), same)
   where
+    text-fault : (fault : ScanFault) → ((number : ℕ) → fault ≢ Read number) → fault ≢ Memory → IsOfText (Some fault)
+    text-fault (Header file) r m = tt
+    text-fault (Width file row) r m = tt
+    text-fault (BadCell file row column) r m = tt
+    text-fault (TooLong file) r m = tt
+    text-fault (Read file) r m = absurd (r file refl)
+    text-fault Memory r m = absurd (m refl)
+
     go : IsFailure old.file fault → ⊥
     go (inl q) = not_read old.file q
     go (inr q) = not_memory q
+
+    same : (known : List FileItem) → f.items ≡ Some known → AreTextItems known → Ended fault ∷ xs ≡ known
+    same known e text =
+        let told = comes old ended f known v n e in
+        elim (out told.0 told.1) [
+          | inl o ↦ ap (λ ys. Ended fault ∷ ys) none ∙ sym (scanned_items-over old.file old.layout old.run_size old.taken (Some fault)) ∙ ap (scanned_items old.file old.layout old.run_size old.taken) (sym o.0) ∙ told.2
+          | inr failed ↦ absurd (go failed)
+        ]

@@ -28,6 +28,7 @@ use Rattle.fq_run.proofs.LogLemmas.{InOrder, StandsFor, Takes-one, in-order, too
 use Rattle.fq_run.proofs.RunOutcomeLemmas.{ran-gives}
 use Rattle.fq_run.proofs.StageOutcomeLemmas.{before_main, fit-over, main_one, sound-nothing}
 use Rattle.fq_run.proofs.KeptSourceLemmas.{sound-kept}
+use Rattle.fq_run.proofs.TextItemLemmas.{each-text, log-text, numbered-text}
 use Rattle.fq_run.proofs.RunStartLemmas.{side-file-count, length-opened, nothing-is, plan, ran-over, wanted-is}
 
 each-length : {A B : Type 0} (R : A → B → Type 0) (xs : List A) (ys : List B) → Each R xs ys → length ys ≡ length xs
@@ -80,6 +81,7 @@ module _ (sources : List SourceFiles) (front : NumberedSteps) (stages : List Sta
         fits = stood.fits;
         stands = stood.stands;
         sound = subst AreSound stood.sources (sound-kept at_first log taken (took-sources log at_first)
+            (log-text front (inputs - main.files) (numbered 0 items) log finished.2.1 (numbered-text 0 items (each-text feeds items finished.1)))
             (subst AreSound (sym (nothing-is sources front stages inputs c sides main parts)) (sound-nothing (plan sources front stages inputs c))));
         outcome = λ files tell. (gives files tell).outcome stood.sides stood.main stood.sources;
         trace = λ files tell ok. (gives files tell).trace ok;

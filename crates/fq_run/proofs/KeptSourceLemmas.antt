@@ -1,16 +1,18 @@
--- What a run keeps of its sources: their files and columns, and that no fault of theirs is one of starting or writing.
+-- What a run keeps of its sources: their files and columns, and that each fault of theirs is one of a file's text or of a step.
 use Rattle.std.proofs.Common.{◌≡◌, ℕ, ◌+◌, ◌-◌, Bool, true, false, nat_lt, cond, List, [], ◌∷◌, ◌++◌, map, length, is_some, Option, Some, None, Result, Ok, Err, refl, ap, sym, ◌∙◌, subst}
 use Rattle.std.specs.Prelude.{option_map, slice_index_or, string_bytes}
 use Rattle.std.proofs.lemmas.List.{length-map}
 use Rattle.fq_column.specs.Frame.{Fields, Frame, Name, Row}
 use Rattle.fq_column.specs.Schema.{same_fields}
 use Rattle.fq_column.specs.Stream.{Stream, done, faulted, one_by_one, then_stream, rename_fault, step_on, whole_on}
+use Rattle.fq_csv.specs.Records.{IsOfText}
 use Rattle.fq_csv.specs.declared.faults.ScanFault.{ScanFault}
 use Rattle.fq_csv.specs.declared.faults.ScanFault.TheVariants as scan
 use Rattle.fq_expr.specs.Expression.{Step}
 use Rattle.fq_expr.specs.Steps.{apply_step, apply_steps, fields_after, rows_after}
 use Rattle.fq_expr.specs.declared.fronts.RowFault.{RowFault}
 use Rattle.fq_column.specs.declared.pieces.Piece.{Piece}
+use Rattle.fq_lanes.specs.Numbering.{AllNumbered}
 use Rattle.fq_lanes.specs.TailTaking.{Took}
 use Rattle.fq_ops.specs.AggregateData.{outputs_of}
 use Rattle.fq_ops.specs.Group.{group_stream, grouped}
@@ -19,7 +21,7 @@ use Rattle.fq_ops.specs.Roll.{roll_rows, roll_stream}
 use Rattle.fq_ops.specs.Table.{Table}
 use Rattle.fq_run.specs.Gathering.{added_piece, added_stream, gathered, gathered_stream, taken_in}
 use Rattle.fq_run.specs.Kept.{shape, Takes, IsSound, AreSound}
-use Rattle.fq_run.specs.Run.{IsRunFault}
+use Rattle.fq_run.specs.Run.{IsOfMeaning}
 use Rattle.fq_run.specs.Sources.{first_fault, row_fault, scan_fault}
 use Rattle.fq_run.specs.Starting.{nothing, transform_of, transforms_of}
 use Rattle.fq_run.specs.declared.operators.joining.TheConstants.{MAX_JOINED_ROWS}
@@ -33,6 +35,7 @@ use Rattle.fq_run.specs.declared.leading_steps.Worked.TheVariants as worked
 use Rattle.fq_run.specs.declared.operators.Operator.{Operator}
 use Rattle.fq_run.specs.declared.operators.Operator.TheVariants.{Rows, Join, GroupBy, RollingSum}
 use Rattle.fq_run.specs.declared.stages.Stage.{Stage}
+use Rattle.fq_run.proofs.TextItemLemmas.{IsTextWork}
 use Rattle.fq_run.proofs.TransformLemmas.{group-whole, join-whole, roll-whole, steps-whole}
 
 -- ---- files and columns
@@ -69,15 +72,15 @@ sound-then u v = go u.fault refl
     go None e s t = subst (λ (b : Bool). IsSound (cond b u (record { rows = u.rows ++ v.rows; fault = v.fault })).fault) (sym (ap is_some e)) t
     go (Some f) e s t = subst (λ (b : Bool). IsSound (cond b u (record { rows = u.rows ++ v.rows; fault = v.fault })).fault) (sym (ap is_some e)) s
 
-sound-scan : (f : ScanFault) → IsRunFault (scan_fault f)
-sound-scan (scan.Header file) = tt
-sound-scan (scan.Width file row) = tt
-sound-scan (scan.BadCell file row column) = tt
-sound-scan (scan.TooLong file) = tt
-sound-scan (scan.Read file) = tt
-sound-scan scan.Memory = tt
+sound-scan : (f : ScanFault) → IsOfText (Some f) → IsOfMeaning (scan_fault f)
+sound-scan (scan.Header file) t = tt
+sound-scan (scan.Width file row) t = tt
+sound-scan (scan.BadCell file row column) t = tt
+sound-scan (scan.TooLong file) t = tt
+sound-scan (scan.Read file) t = t
+sound-scan scan.Memory t = t
 
-sound-named : {G : Type 0} (name : G → Fault) → ((g : G) → IsRunFault (name g)) → (o : Option G) → IsSound (option_map name o)
+sound-named : {G : Type 0} (name : G → Fault) → ((g : G) → IsOfMeaning (name g)) → (o : Option G) → IsSound (option_map name o)
 sound-named name h None = tt
 sound-named name h (Some g) = h g
 
@@ -88,26 +91,26 @@ sound-piece fields p = go (same_fields p.batch.fields fields)
     go true = sound-named row_fault (λ f. tt) p.fault
     go false = tt
 
-sound-added : (fields : Fields) (out : Worked) → IsSound (added_stream fields out).fault
-sound-added fields (worked.Piece p) = sound-piece fields p
-sound-added fields (worked.Cut p f) = sound-then (added_piece fields p) (faulted (scan_fault f)) (sound-piece fields p) (sound-scan f)
-sound-added fields (worked.Ended f) = sound-scan f
+sound-added : (fields : Fields) (out : Worked) → IsTextWork out → IsSound (added_stream fields out).fault
+sound-added fields (worked.Piece p) t = sound-piece fields p
+sound-added fields (worked.Cut p f) t = sound-then (added_piece fields p) (faulted (scan_fault f)) (sound-piece fields p) (sound-scan f t)
+sound-added fields (worked.Ended f) t = sound-scan f t
 
-sound-gathered : (g : SideSource) (out : Worked) → IsSound g.fault → IsSound (gathered g out).fault
-sound-gathered g out s = sound-then (gathered_stream g) (added_stream g.batch.fields out) s (sound-added g.batch.fields out)
+sound-gathered : (g : SideSource) (out : Worked) → IsTextWork out → IsSound g.fault → IsSound (gathered g out).fault
+sound-gathered g out t s = sound-then (gathered_stream g) (added_stream g.batch.fields out) s (sound-added g.batch.fields out t)
 
-sound-taken : (file : ℕ) (out : Worked) (gs : List SideSource) → AreSound gs → AreSound (taken_in file out gs)
-sound-taken file out [] s = tt
-sound-taken file out (g ∷ gs) s = go (nat_lt file g.files) (sound-taken (file - g.files) out gs s.1)
+sound-taken : (file : ℕ) (out : Worked) (gs : List SideSource) → IsTextWork out → AreSound gs → AreSound (taken_in file out gs)
+sound-taken file out [] t s = tt
+sound-taken file out (g ∷ gs) t s = go (nat_lt file g.files) (sound-taken (file - g.files) out gs t s.1)
   where
     go : (b : Bool) → AreSound (taken_in (file - g.files) out gs) → AreSound (cond b (gathered g out ∷ gs) (g ∷ taken_in (file - g.files) out gs))
-    go true rest = (sound-gathered g out s.0, s.1)
+    go true rest = (sound-gathered g out t s.0, s.1)
     go false rest = (s.0, rest)
 
-pub sound-kept : (first : List SideSource) (log : List (ℕ × ℕ × Worked)) (last : List SideSource) → Took Takes first log last → AreSound first → AreSound last
-sound-kept first [] last t s = subst AreSound (sym t) s
-sound-kept first (e ∷ log) last t s =
-    sound-kept t.0 log last t.2 (subst AreSound (sym t.1) (sound-taken e.0 e.2 first s))
+pub sound-kept : (first : List SideSource) (log : List (ℕ × ℕ × Worked)) (last : List SideSource) → Took Takes first log last → AllNumbered (λ _ _ out. IsTextWork out) log → AreSound first → AreSound last
+sound-kept first [] last t texts s = subst AreSound (sym t) s
+sound-kept first (e ∷ log) last t texts s =
+    sound-kept t.0 log last t.2 texts.1 (subst AreSound (sym t.1) (sound-taken e.0 e.2 first texts.0 s))
 
 pub sound-first : (gs : List SideSource) → AreSound gs → IsSound (first_fault (map gathered_stream gs))
 sound-first [] s = tt
@@ -117,10 +120,10 @@ sound-first (g ∷ gs) s = go g.fault s.0 (sound-first gs s.1)
     go None s rest = rest
     go (Some f) s rest = s
 
-sound-step_on : {G : Type 0} (rows_step : List Row → Stream G) (name : G → Fault) → ((g : G) → IsRunFault (name g)) → (u : Stream Fault) → IsSound u.fault → IsSound (step_on rows_step name u).fault
+sound-step_on : {G : Type 0} (rows_step : List Row → Stream G) (name : G → Fault) → ((g : G) → IsOfMeaning (name g)) → (u : Stream Fault) → IsSound u.fault → IsSound (step_on rows_step name u).fault
 sound-step_on rows_step name h u s = sound-then (rename_fault name (rows_step u.rows)) (record { rows = []; fault = u.fault }) (sound-named name h (rows_step u.rows).fault) s
 
-sound-whole_on : {G : Type 0} (rows_step : List Row → Result (List Row) G) (name : G → Fault) → ((g : G) → IsRunFault (name g)) → (u : Stream Fault) → IsSound u.fault → IsSound (whole_on rows_step name u).fault
+sound-whole_on : {G : Type 0} (rows_step : List Row → Result (List Row) G) (name : G → Fault) → ((g : G) → IsOfMeaning (name g)) → (u : Stream Fault) → IsSound u.fault → IsSound (whole_on rows_step name u).fault
 sound-whole_on {G} rows_step name h u s = go u.fault s
   where
     inner : (r : Result (List Row) G) → IsSound (elim r as (λ _. Stream Fault) [ Ok rows ↦ done rows | Err g ↦ faulted (name g) ]).fault

@@ -3,6 +3,7 @@ pub mod LeadingStepLemmas
 pub mod TailLemmas
 pub mod StageLemmas
 pub mod SourceFaultLemmas
+pub mod TextItemLemmas
 pub mod KeptSourceLemmas
 pub mod FeedLemmas
 pub mod GatheringLemmas

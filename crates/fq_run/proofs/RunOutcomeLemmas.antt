@@ -127,7 +127,7 @@ ran-gives p b ws front sides feeds first last trace ran =
     let given : List (List FileItem) = ran.finished.0 in
     let log = ran.finished.2.0 in
     let items : List (List FileItem) = items_of_files b 0 (file_layouts p) ws in
-    let known : given ≡ items = each-known feeds given items ran.finished.1 ran.told in
+    let known : given ≡ items = each-known feeds given items ran.finished.1 ran.told ran.of_text in
     let answers : answers_in log ≡ answers_to (leading_steps p) (side_files p) (numbered 0 items) =
     log-answers front sides (numbered 0 given) log ran.finished.2.1
     ∙ ap (λ f. answers_to f sides (numbered 0 given)) ran.steps

@@ -18,6 +18,7 @@ use Rattle.fq_run.specs.Stages.{physical_of, IsRunnable}
 use Rattle.fq_run.specs.Working.{work_on}
 use Rattle.fq_run.specs.declared.gathering.SideSource.{SideSource}
 use Rattle.fq_csv.specs.declared.sources.SourceFiles.{SourceFiles}
+use Rattle.fq_run.proofs.TextItemLemmas.{files-text}
 use Rattle.fq_run.specs.declared.stages.Stage.{Stage}
 use Rattle.fq_run.proofs.SourceOfFileLemmas.{length-layouts}
 use Rattle.fq_run.proofs.EngineLemmas.{opened-told}
@@ -131,6 +132,7 @@ module _ (sources : List SourceFiles) (front : NumberedSteps) (stages : List Sta
           steps = leading-is;
           side_count = side-count;
           told = ap (map (λ (f : Feeding). f.items)) (feeds-are ∙ ap (λ fss. opened remaining b 0 fss readers) layouts-are) ∙ opened-told remaining b 0 (file_layouts plan) readers files tell;
+          of_text = files-text b 0 (file_layouts plan) files;
           nothing = nothing ∙ nothing-is;
           finished = finished;
         }

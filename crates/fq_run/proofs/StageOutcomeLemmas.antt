@@ -1,4 +1,4 @@
--- What the stages make of what a run gathered is a frame or a fault of a run, and the stages fit what it starts from.
+-- What the stages make of what a run gathered is a frame or a fault of the meaning, and the stages fit what it starts from.
 use Rattle.std.proofs.Common.{◌≡◌, ◌∙◌, ◌-◌, ℕ, suc, List, [], ◌∷◌, ◌++◌, ap, arith, get_or, length, map, Option, Some, None, Result, Ok, Err, sym, subst}
 use Rattle.std.proofs.lemmas.List.{get_or_default}
 use Rattle.std.specs.Prelude.{IfErr}
@@ -11,7 +11,7 @@ use Rattle.fq_run.specs.Gathering.{gathered_stream}
 use Rattle.fq_run.specs.Kept.{IsSound, AreSound}
 use Rattle.fq_run.specs.Outcome.{columns_after, frame_or_fault, outcome, outcome_of_stages}
 use Rattle.fq_run.specs.Physical.{Physical, front_fields, side_fields}
-use Rattle.fq_run.specs.Run.{IsRunFault}
+use Rattle.fq_run.specs.Run.{IsOfMeaning}
 use Rattle.fq_csv.specs.Sources.{Source, but_last, last_or}
 use Rattle.fq_run.specs.Sources.{first_fault}
 use Rattle.fq_run.specs.Stages.{Fit, IsRunnable}
@@ -38,14 +38,14 @@ sound-rows (s ∷ ss) files fields = (tt, sound-rows ss files fields)
 pub sound-nothing : (p : Physical) → AreSound (nothing_taken p)
 sound-nothing p = sound-rows (but_last p.sources) (main_files p) (front_fields p)
 
-sound-frame : (fields : Fields) (u : Stream Fault) → IsSound u.fault → IfErr (frame_or_fault fields u) IsRunFault
+sound-frame : (fields : Fields) (u : Stream Fault) → IsSound u.fault → IfErr (frame_or_fault fields u) IsOfMeaning
 sound-frame fields u s = go u.fault s
   where
-    go : (o : Option Fault) → IsSound o → IfErr (elim o as (λ _. Result Frame Fault) [ None ↦ Ok (record { fields = fields; rows = u.rows }) | Some f ↦ Err f ]) IsRunFault
+    go : (o : Option Fault) → IsSound o → IfErr (elim o as (λ _. Result Frame Fault) [ None ↦ Ok (record { fields = fields; rows = u.rows }) | Some f ↦ Err f ]) IsOfMeaning
     go None s = tt
     go (Some f) s = s
 
-pub sound-outcome : (stages : List Stage) (sides : List SideSource) (main : SideSource) → AreSound (sides ++ main ∷ []) → IfErr (outcome_of_stages stages sides main) IsRunFault
+pub sound-outcome : (stages : List Stage) (sides : List SideSource) (main : SideSource) → AreSound (sides ++ main ∷ []) → IfErr (outcome_of_stages stages sides main) IsOfMeaning
 sound-outcome stages sides main s = go (first_fault (map gathered_stream sides)) (sound-first sides both.0)
   where
     both : AreSound sides × IsSound main.fault
@@ -55,7 +55,7 @@ sound-outcome stages sides main s = go (first_fault (map gathered_stream sides))
     batches = map (λ (g : SideSource). g.batch) sides
 
     go : (o : Option Fault) → IsSound o →
-        IfErr (elim o as (λ _. Result Frame Fault) [ Some f ↦ Err f | None ↦ outcome (map (λ (g : SideSource). g.batch) sides) main.batch.fields stages (gathered_stream main) ]) IsRunFault
+        IfErr (elim o as (λ _. Result Frame Fault) [ Some f ↦ Err f | None ↦ outcome (map (λ (g : SideSource). g.batch) sides) main.batch.fields stages (gathered_stream main) ]) IsOfMeaning
     go None t =
         sound-frame (columns_after main.batch.fields (transforms_of batches main.batch.fields stages)) (whole_all (transforms_of batches main.batch.fields stages) (gathered_stream main))
         (sound-stages batches main.batch.fields stages (gathered_stream main) both.1)

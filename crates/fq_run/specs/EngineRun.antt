@@ -7,7 +7,7 @@ use Rattle.fq_csv.specs.declared.faults.ScanFault.{ScanFault}
 use Rattle.fq_csv.specs.declared.layouts.Layout.{Layout}
 use Rattle.fq_expr.specs.Front.{NumberedSteps}
 use Rattle.fq_lanes.specs.Engine.{Finishes}
-use Rattle.fq_run.specs.Feeding.{Feeding, MayCome, scanned_items}
+use Rattle.fq_run.specs.Feeding.{AllTextItems, Feeding, MayCome, scanned_items}
 use Rattle.fq_run.specs.Kept.{Takes}
 use Rattle.fq_run.specs.Outcome.{outcome_of_stages}
 use Rattle.fq_run.specs.Physical.{Physical, file_layouts, files_wanted, front_fields, side_files, main_fields, outcome_of_run}
@@ -67,6 +67,7 @@ pub record RanOver (p : Physical) (batch_size : ℕ) (ws : List RecordStream) (f
   pub steps : front ≡ leading_steps p
   pub side_count : sides ≡ side_files p
   pub told : map (λ f. f.items) feeds ≡ map Some (items_of_files batch_size 0 (file_layouts p) ws)
+  pub of_text : AllTextItems (items_of_files batch_size 0 (file_layouts p) ws)
   pub nothing : first ≡ nothing_taken p
   pub finished : Finishes MayCome (λ file item out. out ≡ work_on front sides file item) Takes feeds first trace last
 

@@ -1,8 +1,8 @@
--- What a run keeps of its sources: their files and columns, and that no fault of theirs is one of starting or of writing.
+-- What a run keeps of its sources: their files and columns, and that each fault of theirs is one of a file's text or of a step.
 use Rattle.std.specs.Prelude.{◌≡◌, ℕ, List, [], ◌∷◌, Option, Some, None}
 use Rattle.fq_column.specs.Frame.{Fields}
 use Rattle.fq_run.specs.Gathering.{taken_in}
-use Rattle.fq_run.specs.Run.{IsRunFault}
+use Rattle.fq_run.specs.Run.{IsOfMeaning}
 use Rattle.fq_run.specs.declared.faults.Fault.{Fault}
 use Rattle.fq_run.specs.declared.gathering.SideSource.{SideSource}
 use Rattle.fq_run.specs.declared.leading_steps.Worked.{Worked}
@@ -15,10 +15,10 @@ shape g = (g.files, g.batch.fields)
 abbrev pub Takes : List SideSource → ℕ → ℕ → Worked → List SideSource → Type 0
 Takes old file serial out new = new ≡ taken_in file out old
 
--- no fault, or one of a run that has started, up to its writing
+-- no fault, or one of a file's text or of a step
 abbrev pub IsSound : Option Fault → Type 0
 IsSound None = Unit {0}
-IsSound (Some f) = IsRunFault f
+IsSound (Some f) = IsOfMeaning f
 
 abbrev pub AreSound : List SideSource → Type 0
 AreSound [] = Unit {0}

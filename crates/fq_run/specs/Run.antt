@@ -1,5 +1,5 @@
 -- What a run answers.
-use Rattle.std.specs.Prelude.{◌≡◌, ◌≢◌, ℕ, Bool, ◌==◌, not, ◌&&◌, nat_le, ⊤, List, map, length, zip, flat_map, Option, Some, None, Result, Ok, Err, IfErr, IfOk, IsOk, OnOk, if◌then◌else◌}
+use Rattle.std.specs.Prelude.{◌≡◌, ◌≢◌, ◌<◌, ℕ, Bool, ◌==◌, not, ◌&&◌, nat_le, ⊤, List, map, length, zip, flat_map, Option, Some, None, Result, Ok, Err, IfErr, IfOk, IsOk, OnOk, if◌then◌else◌}
 use Rattle.std.specs.Io.KnownBytes.{Appends, Keeps}
 use Rattle.fq_column.specs.Frame.{Frame}
 use Rattle.fq_column.specs.Lists.{numbers, pieces}
@@ -57,6 +57,11 @@ abbrev pub engine_fault : RunFault → Fault
 engine_fault engine.Memory = Memory
 engine_fault (engine.Read file) = Read file
 
+-- a failed read is of one of so many files
+abbrev pub NamesFile : ℕ → Fault → Type 0
+NamesFile files (Read file) = file < files
+NamesFile files _ = ⊤
+
 -- each reader tells its bytes
 abbrev pub Tell : {R : Type 0} → (R → Option (List ℕ)) → List R → List (List ℕ) → Type 0
 Tell remaining readers files = map remaining readers ≡ map Some files
@@ -80,6 +85,8 @@ module _ (wanted given batch_size workers : ℕ) (Told : List (List ℕ) → Typ
     pub trace : (files : List (List ℕ)) → Told files → IfOk result (λ report. report.trace.items ≡ trace_of batch_size (streams files))
     -- a fault of the files or of the steps is the outcome
     pub fault : (files : List (List ℕ)) → Told files → IfErr result (λ f. IsOfMeaning f → outcome (streams files) ≡ Err f)
+    -- a failed read names one of the files that were given, whatever their readers tell
+    pub read : IfErr result (NamesFile given)
     -- a failed write is answered only if the outcome is a frame
     pub write : (files : List (List ℕ)) → Told files → result ≡ Err Write → IsOk (outcome (streams files))
     pub unwritten : IfErr result (λ f. f ≢ Write → Keeps before after)

@@ -5,7 +5,7 @@ ghost use Rattle.fq_csv.specs.Printed.{printed};
 ghost use Rattle.fq_run.specs.GatheredRun.{HasGathered};
 ghost use Rattle.fq_run.specs.Physical.{file_streams, files_wanted, last_columns, outcome_of_run};
 ghost use Rattle.fq_run.specs.PrintedText.{text_of};
-ghost use Rattle.fq_run.specs.Run.{IsAnswer, IsEngineFault, IsOfMeaning, IsRunFault, Tell, trace_of};
+ghost use Rattle.fq_run.specs.Run.{IsAnswer, IsEngineFault, IsOfMeaning, IsRunFault, NamesFile, Tell, trace_of};
 
 use crate::faults::Fault;
 use crate::leading_steps::Worked;
@@ -85,6 +85,7 @@ impl PhysicalPlan {
         ensures fault { (files : List (List ℕ)) → Tell R.remaining inputs.items files → IfErr result
             (λ f. IsOfMeaning f → outcome_of_run self.now (file_streams self.now files) ≡ Err f) }
         ensures kind { IfErr result IsRunFault }
+        ensures read { IfErr result (NamesFile (vec_len inputs)) }
     {
         let press = PrintSettings {
             rt,
@@ -129,6 +130,7 @@ impl PhysicalPlan {
         requires workers { (1 ≤ workers) × (workers ≤ MAX_WORKERS) }
         ensures gathered { IfOk result (λ r. S.has sink (last_columns self.entry.now) [] → HasGathered S.has R.remaining inputs.items self.entry.now batch_size r.0 r.1.trace.items) }
         ensures fault { IfErr result IsEngineFault }
+        ensures read { IfErr result (NamesFile (vec_len inputs)) }
     {
         let sides = self.sides.as_slice();
         let layouts = file_layouts(alloc, sides, &self.main)?;

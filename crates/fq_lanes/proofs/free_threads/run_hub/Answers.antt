@@ -24,9 +24,9 @@ returns-in-Err-clause-done g c =
     let begins = turn_begins g.S.Tail.takes c.args.lanes.now.items c.args.workers.now.items c.args.hub.now c.requires.lanes c.requires.workers c.requires.files c.requires.accepted c.requires.trace in
     let halts = c.in-Err.ensures.done c.args.hub.now.tail [] begins in
     let ns = c.run_turns.new.lanes.items in
-    let ns' = c.drain_lanes-of_feeds.new.lanes.items in
+    let ns' = c.drain_all.new.lanes.items in
     let size : length (told_in (feed_views ns')) ≡ length (told_in (feed_views ns)) =
-    (sizes (feed_views ns')).0 ∙ length-map ns' feed_view ∙ c.drain_lanes-of_feeds.ensures.size ∙ sym (length-map ns feed_view) ∙ sym (sizes (feed_views ns)).0 in
-    subst (λ l. Halts g.S.Tail.takes g.S.Tail.refuses c.args.hub.now.tail l (worker_views c.drain_workers-of_all.new.workers.items) c.run_turns.new.hub.tail c.drain_workers-of_all.result) (tolds_feed_views ns')
-    (halts_on g.S.Tail.takes g.S.Tail.refuses c.args.hub.now.tail (told_in (feed_views ns)) (told_in (feed_views ns')) (worker_views c.run_turns.new.workers.items) (worker_views c.drain_workers-of_all.new.workers.items)
-    c.run_turns.new.hub.tail c.in-Err.fault c.drain_workers-of_all.result size c.drain_lanes-of_feeds.ensures.grows c.drain_workers-of_all.ensures.grows (λ b. c.drain_workers-of_all.ensures.blames (told_in (feed_views ns')) (c.drain_lanes-of_feeds.ensures.blames b)) halts)
+    (sizes (feed_views ns')).0 ∙ length-map ns' feed_view ∙ c.drain_all.ensures.size ∙ sym (length-map ns feed_view) ∙ sym (sizes (feed_views ns)).0 in
+    subst (λ l. Halts g.S.Tail.takes g.S.Tail.refuses c.args.hub.now.tail l (worker_views c.drain_all.new.workers.items) c.run_turns.new.hub.tail c.drain_all.result) (tolds_feed_views ns')
+    (halts_on g.S.Tail.takes g.S.Tail.refuses c.args.hub.now.tail (told_in (feed_views ns)) (told_in (feed_views ns')) (worker_views c.run_turns.new.workers.items) (worker_views c.drain_all.new.workers.items)
+    c.run_turns.new.hub.tail c.in-Err.fault c.drain_all.result size c.drain_all.ensures.told c.drain_all.ensures.answered c.drain_all.ensures.blames halts)

@@ -32,7 +32,7 @@ invariant_of-result c =
     let fields = c.args.schema in
     let keys = map string_bytes c.args.keys.now in
     let outputs = outputs_of c.args.aggs.now in
-    let out = judged (group_schema fields keys outputs) c.in-Ok.output (grouped_fields fields keys outputs) (group-output fields keys outputs c.requires) c.in-Ok.ensures in
+    let out = judged (group_schema fields keys outputs) c.in-Ok.output (grouped_fields fields keys outputs) (group-output fields keys outputs c.requires) c.in-Ok.ensures.judged in
     let places = length-places fields keys c.in_ok-places.places.items c.in_ok-places.ensures.at in
     let count : length c.in_ok-accumulators.accumulators.items ≡ length outputs = ap length c.in_ok-accumulators.ensures.made ∙ length-map outputs (fresh fields) in
     record {
@@ -50,7 +50,7 @@ pub returns-clause-output : goal.returns-clause-output
 returns-clause-output c =
     let keys = map string_bytes c.args.keys.now in
     let outputs = outputs_of c.args.aggs.now in
-    judged (group_schema c.args.schema keys outputs) c.in-Ok.output (grouped_fields c.args.schema keys outputs) (group-output c.args.schema keys outputs c.requires) c.in-Ok.ensures
+    judged (group_schema c.args.schema keys outputs) c.in-Ok.output (grouped_fields c.args.schema keys outputs) (group-output c.args.schema keys outputs c.requires) c.in-Ok.ensures.judged
 
 pub returns-clause-taken : goal.returns-clause-taken
 returns-clause-taken c =
@@ -58,7 +58,7 @@ returns-clause-taken c =
     let outputs = outputs_of c.args.aggs.now in
     record {
       accepted = c.requires;
-      output = judged (group_schema c.args.schema keys outputs) c.in-Ok.output (grouped_fields c.args.schema keys outputs) (group-output c.args.schema keys outputs c.requires) c.in-Ok.ensures;
+      output = judged (group_schema c.args.schema keys outputs) c.in-Ok.output (grouped_fields c.args.schema keys outputs) (group-output c.args.schema keys outputs c.requires) c.in-Ok.ensures.judged;
       taken = refl;
       fit = λ k d low. absurd (omega (arith, low));
       places = c.in_ok-places.ensures.at;

@@ -58,7 +58,7 @@ new-requires-clause-kinds c =
     let on = map string_bytes c.self.inside.on.items in
     let is = subst (λ (t : Table). IsProbeOf t c.args.probe) (sym c.self.view_is) c.requires in
     let names : map string_bytes c.as_slice-on.result.now ≡ on = ap (map string_bytes) c.as_slice-on.ensures.value in
-    let out = judged how left.fields right.fields on c.schema.result.now c.schema-2.result.now (map string_bytes c.as_slice-on.result.now) c.in-Ok.schema c.schema.ensures c.schema-2.ensures names is.0 c.in-Ok.ensures in
+    let out = judged how left.fields right.fields on c.schema.result.now c.schema-2.result.now (map string_bytes c.as_slice-on.result.now) c.in-Ok.schema c.schema.ensures c.schema-2.ensures names is.0 c.in-Ok.ensures.judged in
     let columns = c.in_ok-columns-in-At-2.ensures left c.in_ok-columns-in-At.ensures ∙ ap (λ os. columns_of (join_picks how left right os) c.in_ok-pairs.pairs) names in
     part-kinds how left right on c.in_ok-pairs.ensures.frame c.self.invariant.frame c.in-Ok.schema out c.in_ok-pairs.pairs c.in_ok-columns-in-At-2.columns.items columns
 
@@ -70,7 +70,7 @@ new-requires-clause-lengths c =
     let on = map string_bytes c.self.inside.on.items in
     let is = subst (λ (t : Table). IsProbeOf t c.args.probe) (sym c.self.view_is) c.requires in
     let names : map string_bytes c.as_slice-on.result.now ≡ on = ap (map string_bytes) c.as_slice-on.ensures.value in
-    let out = judged how left.fields right.fields on c.schema.result.now c.schema-2.result.now (map string_bytes c.as_slice-on.result.now) c.in-Ok.schema c.schema.ensures c.schema-2.ensures names is.0 c.in-Ok.ensures in
+    let out = judged how left.fields right.fields on c.schema.result.now c.schema-2.result.now (map string_bytes c.as_slice-on.result.now) c.in-Ok.schema c.schema.ensures c.schema-2.ensures names is.0 c.in-Ok.ensures.judged in
     let columns = c.in_ok-columns-in-At-2.ensures left c.in_ok-columns-in-At.ensures ∙ ap (λ os. columns_of (join_picks how left right os) c.in_ok-pairs.pairs) names in
     part-lengths how left right on c.in_ok-pairs.ensures.frame c.self.invariant.frame c.in-Ok.schema out c.in_ok-pairs.pairs c.in_ok-columns-in-At-2.columns.items columns
 
@@ -82,7 +82,7 @@ returns-in-At-clause-fields c =
     let on = map string_bytes c.self.inside.on.items in
     let is = subst (λ (t : Table). IsProbeOf t c.args.probe) (sym c.self.view_is) c.requires in
     let names : map string_bytes c.as_slice-on.result.now ≡ on = ap (map string_bytes) c.as_slice-on.ensures.value in
-    let out = judged how left.fields right.fields on c.schema.result.now c.schema-2.result.now (map string_bytes c.as_slice-on.result.now) c.in-Ok.schema c.schema.ensures c.schema-2.ensures names is.0 c.in-Ok.ensures in
+    let out = judged how left.fields right.fields on c.schema.result.now c.schema-2.result.now (map string_bytes c.as_slice-on.result.now) c.in-Ok.schema c.schema.ensures c.schema-2.ensures names is.0 c.in-Ok.ensures.judged in
     let columns = c.in_ok-columns-in-At-2.ensures left c.in_ok-columns-in-At.ensures ∙ ap (λ os. columns_of (join_picks how left right os) c.in_ok-pairs.pairs) names in
     ap (λ (f : Frame). f.fields) c.new.ensures ∙ out ∙ ap (λ (t : Table). joined_fields how left.fields t.fields t.on) c.self.view_is
 
@@ -94,7 +94,7 @@ returns-in-At-clause-few c =
     let on = map string_bytes c.self.inside.on.items in
     let is = subst (λ (t : Table). IsProbeOf t c.args.probe) (sym c.self.view_is) c.requires in
     let names : map string_bytes c.as_slice-on.result.now ≡ on = ap (map string_bytes) c.as_slice-on.ensures.value in
-    let out = judged how left.fields right.fields on c.schema.result.now c.schema-2.result.now (map string_bytes c.as_slice-on.result.now) c.in-Ok.schema c.schema.ensures c.schema-2.ensures names is.0 c.in-Ok.ensures in
+    let out = judged how left.fields right.fields on c.schema.result.now c.schema-2.result.now (map string_bytes c.as_slice-on.result.now) c.in-Ok.schema c.schema.ensures c.schema-2.ensures names is.0 c.in-Ok.ensures.judged in
     let columns = c.in_ok-columns-in-At-2.ensures left c.in_ok-columns-in-At.ensures ∙ ap (λ os. columns_of (join_picks how left right os) c.in_ok-pairs.pairs) names in
     let t : Table = record { fields = right.fields; rows = right.rows; on = on; nulls_equal = c.self.inside.nulls_equal } in
     let places = c.in_ok-places.places.items in
@@ -120,7 +120,7 @@ returns-in-At-clause-rows c =
     let on = map string_bytes c.self.inside.on.items in
     let is = subst (λ (t : Table). IsProbeOf t c.args.probe) (sym c.self.view_is) c.requires in
     let names : map string_bytes c.as_slice-on.result.now ≡ on = ap (map string_bytes) c.as_slice-on.ensures.value in
-    let out = judged how left.fields right.fields on c.schema.result.now c.schema-2.result.now (map string_bytes c.as_slice-on.result.now) c.in-Ok.schema c.schema.ensures c.schema-2.ensures names is.0 c.in-Ok.ensures in
+    let out = judged how left.fields right.fields on c.schema.result.now c.schema-2.result.now (map string_bytes c.as_slice-on.result.now) c.in-Ok.schema c.schema.ensures c.schema-2.ensures names is.0 c.in-Ok.ensures.judged in
     let columns = c.in_ok-columns-in-At-2.ensures left c.in_ok-columns-in-At.ensures ∙ ap (λ os. columns_of (join_picks how left right os) c.in_ok-pairs.pairs) names in
     let t : Table = record { fields = right.fields; rows = right.rows; on = on; nulls_equal = c.self.inside.nulls_equal } in
     let places = c.in_ok-places.places.items in
@@ -147,7 +147,7 @@ new-requires-in-End-clause-kinds c =
     let on = map string_bytes c.self.inside.on.items in
     let is = subst (λ (t : Table). IsProbeOf t c.args.probe) (sym c.self.view_is) c.requires in
     let names : map string_bytes c.as_slice-on.result.now ≡ on = ap (map string_bytes) c.as_slice-on.ensures.value in
-    let out = judged how left.fields right.fields on c.schema.result.now c.schema-2.result.now (map string_bytes c.as_slice-on.result.now) c.in-Ok.schema c.schema.ensures c.schema-2.ensures names is.0 c.in-Ok.ensures in
+    let out = judged how left.fields right.fields on c.schema.result.now c.schema-2.result.now (map string_bytes c.as_slice-on.result.now) c.in-Ok.schema c.schema.ensures c.schema-2.ensures names is.0 c.in-Ok.ensures.judged in
     let columns = c.in_ok-columns-in-End-2.ensures left c.in_ok-columns-in-End.ensures ∙ ap (λ os. columns_of (join_picks how left right os) c.in_ok-pairs.pairs) names in
     part-kinds how left right on c.in_ok-pairs.ensures.frame c.self.invariant.frame c.in-Ok.schema out c.in_ok-pairs.pairs c.in_ok-columns-in-End-2.columns.items columns
 
@@ -159,7 +159,7 @@ new-requires-in-End-clause-lengths c =
     let on = map string_bytes c.self.inside.on.items in
     let is = subst (λ (t : Table). IsProbeOf t c.args.probe) (sym c.self.view_is) c.requires in
     let names : map string_bytes c.as_slice-on.result.now ≡ on = ap (map string_bytes) c.as_slice-on.ensures.value in
-    let out = judged how left.fields right.fields on c.schema.result.now c.schema-2.result.now (map string_bytes c.as_slice-on.result.now) c.in-Ok.schema c.schema.ensures c.schema-2.ensures names is.0 c.in-Ok.ensures in
+    let out = judged how left.fields right.fields on c.schema.result.now c.schema-2.result.now (map string_bytes c.as_slice-on.result.now) c.in-Ok.schema c.schema.ensures c.schema-2.ensures names is.0 c.in-Ok.ensures.judged in
     let columns = c.in_ok-columns-in-End-2.ensures left c.in_ok-columns-in-End.ensures ∙ ap (λ os. columns_of (join_picks how left right os) c.in_ok-pairs.pairs) names in
     part-lengths how left right on c.in_ok-pairs.ensures.frame c.self.invariant.frame c.in-Ok.schema out c.in_ok-pairs.pairs c.in_ok-columns-in-End-2.columns.items columns
 
@@ -171,7 +171,7 @@ returns-clause-fields c =
     let on = map string_bytes c.self.inside.on.items in
     let is = subst (λ (t : Table). IsProbeOf t c.args.probe) (sym c.self.view_is) c.requires in
     let names : map string_bytes c.as_slice-on.result.now ≡ on = ap (map string_bytes) c.as_slice-on.ensures.value in
-    let out = judged how left.fields right.fields on c.schema.result.now c.schema-2.result.now (map string_bytes c.as_slice-on.result.now) c.in-Ok.schema c.schema.ensures c.schema-2.ensures names is.0 c.in-Ok.ensures in
+    let out = judged how left.fields right.fields on c.schema.result.now c.schema-2.result.now (map string_bytes c.as_slice-on.result.now) c.in-Ok.schema c.schema.ensures c.schema-2.ensures names is.0 c.in-Ok.ensures.judged in
     let columns = c.in_ok-columns-in-End-2.ensures left c.in_ok-columns-in-End.ensures ∙ ap (λ os. columns_of (join_picks how left right os) c.in_ok-pairs.pairs) names in
     ap (λ (f : Frame). f.fields) c.new-in-End.ensures ∙ out ∙ ap (λ (t : Table). joined_fields how left.fields t.fields t.on) c.self.view_is
 
@@ -183,7 +183,7 @@ returns-clause-few c =
     let on = map string_bytes c.self.inside.on.items in
     let is = subst (λ (t : Table). IsProbeOf t c.args.probe) (sym c.self.view_is) c.requires in
     let names : map string_bytes c.as_slice-on.result.now ≡ on = ap (map string_bytes) c.as_slice-on.ensures.value in
-    let out = judged how left.fields right.fields on c.schema.result.now c.schema-2.result.now (map string_bytes c.as_slice-on.result.now) c.in-Ok.schema c.schema.ensures c.schema-2.ensures names is.0 c.in-Ok.ensures in
+    let out = judged how left.fields right.fields on c.schema.result.now c.schema-2.result.now (map string_bytes c.as_slice-on.result.now) c.in-Ok.schema c.schema.ensures c.schema-2.ensures names is.0 c.in-Ok.ensures.judged in
     let columns = c.in_ok-columns-in-End-2.ensures left c.in_ok-columns-in-End.ensures ∙ ap (λ os. columns_of (join_picks how left right os) c.in_ok-pairs.pairs) names in
     let t : Table = record { fields = right.fields; rows = right.rows; on = on; nulls_equal = c.self.inside.nulls_equal } in
     let places = c.in_ok-places.places.items in
@@ -209,7 +209,7 @@ returns-clause-rows c =
     let on = map string_bytes c.self.inside.on.items in
     let is = subst (λ (t : Table). IsProbeOf t c.args.probe) (sym c.self.view_is) c.requires in
     let names : map string_bytes c.as_slice-on.result.now ≡ on = ap (map string_bytes) c.as_slice-on.ensures.value in
-    let out = judged how left.fields right.fields on c.schema.result.now c.schema-2.result.now (map string_bytes c.as_slice-on.result.now) c.in-Ok.schema c.schema.ensures c.schema-2.ensures names is.0 c.in-Ok.ensures in
+    let out = judged how left.fields right.fields on c.schema.result.now c.schema-2.result.now (map string_bytes c.as_slice-on.result.now) c.in-Ok.schema c.schema.ensures c.schema-2.ensures names is.0 c.in-Ok.ensures.judged in
     let columns = c.in_ok-columns-in-End-2.ensures left c.in_ok-columns-in-End.ensures ∙ ap (λ os. columns_of (join_picks how left right os) c.in_ok-pairs.pairs) names in
     let t : Table = record { fields = right.fields; rows = right.rows; on = on; nulls_equal = c.self.inside.nulls_equal } in
     let places = c.in_ok-places.places.items in

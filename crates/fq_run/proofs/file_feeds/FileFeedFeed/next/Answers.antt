@@ -24,4 +24,4 @@ returns-in-Ok-None-clause-gives g c =
 
 pub returns-in_default-clause-gives : goal.returns-in_default-clause-gives
 returns-in_default-clause-gives g c xs h =
-    next-fault c.self.inside.records c.next_run.new.self c.self.inside.ended c.args.self.now c.in-Err.fault xs (sym c.self.view_is) c.if-self.false c.in-Err.ensures.stream c.in_default.not-Read c.in_default.not-Memory (h [] refl)
+    next-fault c.self.inside.records c.next_run.new.self c.self.inside.ended c.args.self.now c.in-Err.fault xs (sym c.self.view_is) c.if-self.false c.in-Err.ensures.stream c.in_default.not-Read c.in_default.not-Memory (h.1 [] refl tt)

@@ -3,10 +3,11 @@ use denote.Param.Send.{IsSync, sendable}
 use Rattle.std.proofs.Crossing.{crosses}
 use Rattle.fq_expr.proofs.expressions.Expr.TheLaws.TheKnot as knot
 use Rattle.fq_run.specs.contracts.leading_steps.LeadingSteps.{the_row}
-use Rattle.std.specs.Prelude.{All, IfOk}
+use Rattle.std.specs.Prelude.{All, IfErr, IfOk, vec_len}
+use Rattle.std.proofs.lemmas.Option.{slice_get_within}
 use Rattle.fq_column.specs.Frame.{Fields}
 use Rattle.fq_expr.specs.Steps.{fields_after_all}
-use Rattle.fq_lanes.specs.Engine.{Finishes}
+use Rattle.fq_lanes.specs.Engine.{BlamesFeed, Finishes}
 use Rattle.fq_lanes.specs.declared.faults.RunFault.{RunFault}
 use Rattle.fq_lanes.specs.declared.faults.RunFault.TheVariants as engine
 use Rattle.fq_lanes.specs.declared.reports.Report.{Report}
@@ -14,7 +15,7 @@ use Rattle.fq_run.specs.EngineRun.{no_rows, opened}
 use Rattle.fq_run.specs.Feeding.{Feeding, MayCome}
 use Rattle.fq_run.specs.GatheredRun.{HasGathered}
 use Rattle.fq_run.specs.Physical.{Physical, files_wanted, front_fields, last_columns, side_fields}
-use Rattle.fq_run.specs.Run.{IsEngineFault, engine_fault}
+use Rattle.fq_run.specs.Run.{IsEngineFault, NamesFile, engine_fault}
 use Rattle.fq_run.specs.Stages.{physical_of, Fit}
 use Rattle.fq_run.specs.Standing.{TailTakes, Waits}
 use Rattle.fq_run.specs.Working.{work_on}
@@ -108,3 +109,20 @@ engine-fault (engine.Read file) = tt
 
 pub returns-in-Err-clause-fault : goal.returns-in-Err-clause-fault
 returns-in-Err-clause-fault g c = rw c.into.ensures (engine-fault c.in-Err.fault)
+
+-- the feed that it blames is one of the files'
+names-file : (files : ℕ) (feeds : List Feeding) (f : RunFault) → length feeds ≤ files → BlamesFeed (λ (_ : Feeding). Unit {0}) feeds f → NamesFile files (engine_fault f)
+names-file files feeds engine.Memory e h = tt
+names-file files feeds (engine.Read file) e h = omega (arith, e, slice_get_within feeds file h.0 h.1)
+
+pub returns-in-Err-clause-read : goal.returns-in-Err-clause-read
+returns-in-Err-clause-read g c =
+    rw c.into.ensures (names-file (vec_len c.args.inputs) c.in_ok-feeds.feeds.items c.in-Err.fault
+    (omega (
+      arith,
+      ap length c.in_ok-feeds.ensures,
+      length-opened (g.R.Read.remaining) c.args.batch_size 0 c.in_ok-layouts.layouts.items c.args.inputs.items,
+      c.args.inputs.ok.0,
+      c.in_ok-layouts.layouts.ok.0,
+    ))
+    (subst (λ (r : Result Report RunFault). IfErr r (BlamesFeed (λ (_ : Feeding). Unit {0}) c.in_ok-feeds.feeds.items)) c.in-Err.is c.run_lanes-tail.ensures.fault))
