@@ -1,3 +1,4 @@
+pub mod AgreementLemmas
 pub mod ArrayLemmas
 pub mod BatchLemmas
 pub mod ColumnLemmas

@@ -1,3 +1,4 @@
+pub mod Agreement
 pub mod Batch
 pub mod Cell
 pub mod Column

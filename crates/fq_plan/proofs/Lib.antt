@@ -5,3 +5,4 @@ pub mod CheckLemmas
 pub mod SplitLemmas
 pub mod PreparedLemmas
 pub mod FileCutLemmas
+pub mod NeededLemmas
