@@ -5,6 +5,7 @@ pub mod ColumnLemmas
 pub mod FaultLemmas
 pub mod KindLemmas
 pub mod ListLemmas
+pub mod MaskedLemmas
 pub mod NameLemmas
 pub mod PieceLemmas
 pub mod SchemaLemmas

@@ -6,6 +6,7 @@ pub mod Examples
 pub mod Frame
 pub mod Hashed
 pub mod Lists
+pub mod Masked
 pub mod Refusal
 pub mod Schema
 pub mod SchemaLaws

@@ -3,7 +3,7 @@ use Rattle.std.proofs.Common.{◌≡◌, ℕ, zero, suc, ◌+◌, ◌<◌, ◌�
 use Rattle.std.specs.Prelude.{All, IsOk, option_map, slice_get, slice_index_or}
 use Rattle.std.specs.Bool.{◌==◌}
 use Rattle.std.specs.Result.{result_map_both, result_unwrap_or}
-use Rattle.std.proofs.lemmas.List.{drop-map, drop-take, take-map, take-take}
+use Rattle.std.proofs.lemmas.List.{drop-map, drop-take, length-map, take-map, take-take}
 use Rattle.std.proofs.lemmas.List.Elements.{All-append, All-head, All-nil, All-tail}
 use Rattle.std.proofs.lemmas.List.Sums.{sum_by-cons}
 use Rattle.std.proofs.lemmas.Option.{slice_get-map}
@@ -15,10 +15,12 @@ use Rattle.fq_column.specs.declared.schemas.TheConstants.{MAX_COLUMNS}
 use Rattle.fq_column.specs.Agreement.{marked, AllAgreeOn, StreamsAgreeOn}
 use Rattle.fq_column.specs.Frame.{Fields, Frame, Name, Row, names_of, put_named, same_name}
 use Rattle.fq_column.specs.Lists.{is_distinct}
+use Rattle.fq_column.specs.Masked.{masked}
 use Rattle.fq_column.specs.Refusal.{first_refusal, refuse_if}
 use Rattle.fq_column.specs.Schema.{kind_named, schema_checks}
 use Rattle.fq_column.specs.Stream.{Stream, done, rename_fault, then_stream}
 use Rattle.fq_column.proofs.AgreementLemmas.{agree-all, all-agree-append, streams-equal}
+use Rattle.fq_column.proofs.MaskedLemmas.{all-agree-masked}
 use Rattle.fq_column.proofs.PutLemmas.{is_distinct-put_named}
 use Rattle.fq_csv.specs.declared.faults.ScanFault.{ScanFault}
 use Rattle.fq_csv.specs.Sources.{Source, but_last, last_or}
@@ -34,7 +36,7 @@ use Rattle.fq_ops.proofs.NeededLemmas.{group_stream-same, join_stream-agree, rol
 use Rattle.fq_ops.proofs.RefusalLemmas.{join-output}
 use Rattle.fq_plan.specs.Meaning.{apply_plan_step, apply_plan_steps, meaning, meaning_of_sources, outcome}
 use Rattle.fq_plan.proofs.StageMeaning.{columns-of-frames, length-sources}
-use Rattle.fq_plan.specs.Needed.{AllStreamsAgreeOn, AreWide, DifferInUnneeded, needed_before_step, needed_before_steps, needed_columns}
+use Rattle.fq_plan.specs.Needed.{AllStreamsAgreeOn, AreWide, DifferInUnneeded, needed_alone, needed_before_step, needed_before_steps, needed_columns}
 use Rattle.fq_run.specs.declared.faults.Fault.{Fault}
 use Rattle.fq_run.specs.declared.faults.Fault.TheVariants.{Overflow, JoinRows, RollRange, SumRange}
 use Rattle.fq_run.specs.declared.operators.joining.TheConstants.{MAX_JOINED_ROWS}
@@ -252,3 +254,38 @@ module _ (p : PlanData) (accepted : IsOk (judged p)) where
       ∙ sources-same (streams us) (length-sources sides (renamed us)) (frames-wide scan_fault sides us h.wide) (concat_streams (renamed (drop n us))) (concat_streams (renamed (drop n vs))) main
       ∙ ap (λ ws. meaning_of_sources p (streams us) (concat_streams ws)) (sym (drop-map (rename_fault scan_fault) n vs))
       ∙ ap (λ ss. meaning_of_sources p ss (concat_streams (drop n (renamed vs)))) same
+
+-- ---- files with null in the place of each cell that is not needed
+
+module _ {X : Type 0} (f : X → X) where
+  taken-before : (n : ℕ) (xs : List X) → take n (take n xs ++ map f (drop n xs)) ≡ take n xs
+  taken-before zero xs = refl
+  taken-before (suc n) [] = refl
+  taken-before (suc n) (x ∷ xs) = ap (λ ys. x ∷ ys) (taken-before n xs)
+
+  dropped-before : (n : ℕ) (xs : List X) → drop n (take n xs ++ map f (drop n xs)) ≡ map f (drop n xs)
+  dropped-before zero xs = refl
+  dropped-before (suc n) [] = refl
+  dropped-before (suc n) (x ∷ xs) = dropped-before n xs
+
+all-masked : {F : Type 0} (marks : List Bool) (us : List (Stream F)) → All (λ u. All (λ row. length row ≡ length marks) u.rows) us →
+    AllStreamsAgreeOn marks us (map (λ u. record u { rows = map (masked marks) u.rows }) us)
+all-masked marks [] w = tt
+all-masked {F} marks (u ∷ us) w = (
+  record { rows = all-agree-masked marks u.rows (All-head (λ (u : Stream F). All (λ row. length row ≡ length marks) u.rows) u us w); fault = refl },
+  all-masked marks us (All-tail (λ (u : Stream F). All (λ row. length row ≡ length marks) u.rows) u us w),
+)
+
+pub alone-same : (p : PlanData) → IsOk (judged p) → (us : List (Stream ScanFault)) → AreWide (but_last p.sources) us →
+    All (λ u. All (λ row. length row ≡ length (main_fields p)) u.rows) (drop (side_files p) us) → meaning p us ≡ meaning p (needed_alone p us)
+alone-same p accepted us sides main =
+    let marks = needed_columns p in
+    let n = side_files p in
+    let f : Stream ScanFault → Stream ScanFault = λ u. record u { rows = map (masked marks) u.rows } in
+    let count : length marks ≡ length (main_fields p) = length-map (names_of (main_fields p)) _ ∙ length-map (main_fields p) (λ f. f.0) in
+    let wide = subst (λ (k : ℕ). All (λ (u : Stream ScanFault). All (λ row. length row ≡ k) u.rows) (drop n us)) (sym count) main in
+    needed-same p accepted us (needed_alone p us) (record {
+      sides = sym (taken-before f n us);
+      wide = sides;
+      main = subst (λ (vs : List (Stream ScanFault)). AllStreamsAgreeOn marks (drop n us) vs) (sym (dropped-before f n us)) (all-masked marks (drop n us) wide);
+    })

@@ -1,9 +1,10 @@
 -- The columns of its main source that a plan needs, backwards from its last step, after which all columns are needed, as they are printed
--- (Polars, "projection pushdown"; the live variables of a compiler), and files that differ in the other columns alone.
-use Rattle.std.specs.Prelude.{◌≡◌, All, Bool, List, [], ◌∷◌, length, take, drop}
+-- (Polars, "projection pushdown"; the live variables of a compiler), files that differ in the other columns alone, and files without these.
+use Rattle.std.specs.Prelude.{◌≡◌, All, Bool, List, [], ◌∷◌, ◌++◌, length, map, take, drop}
 use Rattle.std.specs.Result.{result_unwrap_or}
 use Rattle.fq_column.specs.Agreement.{StreamsAgreeOn, marked}
 use Rattle.fq_column.specs.Frame.{Fields, Name, names_of}
+use Rattle.fq_column.specs.Masked.{masked}
 use Rattle.fq_column.specs.Stream.{Stream}
 use Rattle.fq_csv.specs.Sources.{Source, but_last}
 use Rattle.fq_expr.specs.Needed.{needed_before}
@@ -45,3 +46,7 @@ module _ {F : Type 0} where
     pub sides : take (side_files p) us ≡ take (side_files p) vs
     pub wide : AreWide (but_last p.sources) us
     pub main : AllStreamsAgreeOn (needed_columns p) (drop (side_files p) us) (drop (side_files p) vs)
+
+  -- the files with null in the place of each cell of the main source that the plan does not need
+  abbrev pub needed_alone : PlanData → List (Stream F) → List (Stream F)
+  needed_alone p us = take (side_files p) us ++ map (λ u. record u { rows = map (masked (needed_columns p)) u.rows }) (drop (side_files p) us)
