@@ -49,7 +49,7 @@ values-agree names fields (x ∷ items) reads row other h =
     let rest = values-agree names fields items (λ n k. reads n (has_name-right (names_read x.1) (names_read_by items) n k)) row other h in
     λ i. first i ∷ rest i
 
-length-all_or_missing : {X : Type 0} (xs : List (Option X)) (ys : List X) → all_or_missing xs ≡ Ok ys → length ys ≡ length xs
+pub length-all_or_missing : {X : Type 0} (xs : List (Option X)) (ys : List X) → all_or_missing xs ≡ Ok ys → length ys ≡ length xs
 length-all_or_missing [] ys e = ap length (let f : ys ≡ [] = cc in f)
 length-all_or_missing (None ∷ xs) ys e = absurd (cc)
 length-all_or_missing (Some x ∷ xs) ys e = go (all_or_missing xs) (λ zs f. length-all_or_missing xs zs f) e

@@ -15,7 +15,6 @@ use Rattle.fq_column.specs.declared.schemas.TheConstants.{MAX_COLUMNS}
 use Rattle.fq_column.specs.Agreement.{marked, AllAgreeOn, StreamsAgreeOn}
 use Rattle.fq_column.specs.Frame.{Fields, Frame, Name, Row, names_of, put_named, same_name}
 use Rattle.fq_column.specs.Lists.{is_distinct}
-use Rattle.fq_column.specs.Masked.{masked}
 use Rattle.fq_column.specs.Refusal.{first_refusal, refuse_if}
 use Rattle.fq_column.specs.Schema.{kind_named, schema_checks}
 use Rattle.fq_column.specs.Stream.{Stream, done, rename_fault, then_stream}
@@ -36,7 +35,7 @@ use Rattle.fq_ops.proofs.NeededLemmas.{group_stream-same, join_stream-agree, rol
 use Rattle.fq_ops.proofs.RefusalLemmas.{join-output}
 use Rattle.fq_plan.specs.Meaning.{apply_plan_step, apply_plan_steps, meaning, meaning_of_sources, outcome}
 use Rattle.fq_plan.proofs.StageMeaning.{columns-of-frames, length-sources}
-use Rattle.fq_plan.specs.Needed.{AllStreamsAgreeOn, AreWide, DifferInUnneeded, needed_alone, needed_before_step, needed_before_steps, needed_columns}
+use Rattle.fq_plan.specs.Needed.{AllStreamsAgreeOn, AreWide, DifferInUnneeded, masked_stream, needed_alone, needed_before_step, needed_before_steps, needed_columns}
 use Rattle.fq_run.specs.declared.faults.Fault.{Fault}
 use Rattle.fq_run.specs.declared.faults.Fault.TheVariants.{Overflow, JoinRows, RollRange, SumRange}
 use Rattle.fq_run.specs.declared.operators.joining.TheConstants.{MAX_JOINED_ROWS}
@@ -269,7 +268,7 @@ module _ {X : Type 0} (f : X → X) where
   dropped-before (suc n) (x ∷ xs) = dropped-before n xs
 
 all-masked : {F : Type 0} (marks : List Bool) (us : List (Stream F)) → All (λ u. All (λ row. length row ≡ length marks) u.rows) us →
-    AllStreamsAgreeOn marks us (map (λ u. record u { rows = map (masked marks) u.rows }) us)
+    AllStreamsAgreeOn marks us (map (masked_stream marks) us)
 all-masked marks [] w = tt
 all-masked {F} marks (u ∷ us) w = (
   record { rows = all-agree-masked marks u.rows (All-head (λ (u : Stream F). All (λ row. length row ≡ length marks) u.rows) u us w); fault = refl },
@@ -281,7 +280,7 @@ pub alone-same : (p : PlanData) → IsOk (judged p) → (us : List (Stream ScanF
 alone-same p accepted us sides main =
     let marks = needed_columns p in
     let n = side_files p in
-    let f : Stream ScanFault → Stream ScanFault = λ u. record u { rows = map (masked marks) u.rows } in
+    let f : Stream ScanFault → Stream ScanFault = masked_stream marks in
     let count : length marks ≡ length (main_fields p) = length-map (names_of (main_fields p)) _ ∙ length-map (main_fields p) (λ f. f.0) in
     let wide = subst (λ (k : ℕ). All (λ (u : Stream ScanFault). All (λ row. length row ≡ k) u.rows) (drop n us)) (sym count) main in
     needed-same p accepted us (needed_alone p us) (record {

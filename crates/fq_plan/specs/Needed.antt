@@ -47,6 +47,10 @@ module _ {F : Type 0} where
     pub wide : AreWide (but_last p.sources) us
     pub main : AllStreamsAgreeOn (needed_columns p) (drop (side_files p) us) (drop (side_files p) vs)
 
+  -- the stream with null in the place of each cell that is not marked
+  abbrev pub masked_stream : List Bool → Stream F → Stream F
+  masked_stream marks u = record u { rows = map (masked marks) u.rows }
+
   -- the files with null in the place of each cell of the main source that the plan does not need
   abbrev pub needed_alone : PlanData → List (Stream F) → List (Stream F)
-  needed_alone p us = take (side_files p) us ++ map (λ u. record u { rows = map (masked (needed_columns p)) u.rows }) (drop (side_files p) us)
+  needed_alone p us = take (side_files p) us ++ map (masked_stream (needed_columns p)) (drop (side_files p) us)

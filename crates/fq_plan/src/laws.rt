@@ -12,7 +12,7 @@ ghost use Rattle.fq_plan.specs.Cuts.{GiveTheSameRows};
 ghost use Rattle.fq_plan.specs.Meaning.{meaning, meaning_of_files};
 ghost use Rattle.fq_plan.specs.Needed.{AreWide, DifferInUnneeded, needed_alone};
 ghost use Rattle.fq_language.specs.Judged.{judged};
-ghost use Rattle.fq_language.specs.Plan.{PlanData, files_wanted, main_fields, side_files};
+ghost use Rattle.fq_language.specs.Plan.{PlanData, file_streams, files_wanted, main_fields, side_files};
 ghost use Rattle.fq_run.specs.Sources.{row_fault};
 ghost use Rattle.fq_plan.specs.Tail.{all_items, outcome_of_taken};
 ghost use Rattle.fq_run.specs.declared.faults.Fault.{Fault as AnyFault};
@@ -38,6 +38,8 @@ pub fn meaning_of_needed_columns()
     ensures differ { (p : PlanData) (us vs : List (Stream ScanFault)) → IsOk (judged p) → DifferInUnneeded p us vs → meaning p us ≡ meaning p vs }
     ensures alone { (p : PlanData) (us : List (Stream ScanFault)) → IsOk (judged p) → AreWide (but_last p.sources) us →
         All (λ u. All (λ row. length row ≡ length (main_fields p)) u.rows) (drop (side_files p) us) → meaning p us ≡ meaning p (needed_alone p us) }
+    ensures files { (p : PlanData) (files : List (List ℕ)) → IsOk (judged p) → 0 < length p.sources →
+        meaning p (file_streams p files) ≡ meaning p (needed_alone p (file_streams p files)) }
 {}
 
 /// The faults that a worker's row-wise steps name are those of the run under another name.
