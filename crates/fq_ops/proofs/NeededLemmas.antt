@@ -4,7 +4,6 @@ use Rattle.std.specs.Prelude.{All, IsOk, flat_map, option_map, replicate, if◌t
 use Rattle.std.specs.Bool.{◌==◌}
 use Rattle.std.specs.Cmp.{second_so}
 use Rattle.std.specs.List.{zip}
-use Rattle.std.specs.Option.{option_map_or}
 use Rattle.std.specs.Result.{result_map_both}
 use Rattle.std.specs.Cmp.Lexicographic.{nat_list_eq_equiv}
 use Rattle.std.proofs.lemmas.List.{length-map, length-replicate}
@@ -22,13 +21,13 @@ use Rattle.fq_column.specs.Lists.{all_or_missing, is_distinct}
 use Rattle.fq_column.specs.Cell.{same_kind}
 use Rattle.fq_column.specs.Refusal.{and_then, first_refusal, refuse_if, unless_refused}
 use Rattle.fq_column.specs.Schema.{kind_named}
-use Rattle.fq_column.specs.Stream.{Stream, done, faulted, one_by_one, rename_fault, then_stream, whole_on}
+use Rattle.fq_column.specs.Stream.{Stream, done, faulted, one_by_one, rename_fault, then_stream}
 use Rattle.fq_column.proofs.AgreementLemmas.{GiveAlike, after-one, agree-fewer, agree-same, all-agree-append, all-agree-count, all-agree-map, has_name-filter, has_name-left, has_name-right, has_name-self, put_all-agree, step_on-agree, value_named-agree}
 use Rattle.fq_ops.specs.declared.joins.How.{How}
 use Rattle.fq_ops.specs.declared.joins.How.TheVariants.{Inner, Left, Semi, Anti}
-use Rattle.fq_ops.specs.Aggregate.{Aggregate, len, over, Output, aggregated, count, first_seen, value_of}
+use Rattle.fq_ops.specs.Aggregate.{Aggregate, len, over, Output, aggregated, first_seen, value_of}
 use Rattle.fq_ops.specs.Group.{all_ok, group_of, group_row, group_stream, grouped, key_of, keys_of_rows, same_key}
-use Rattle.fq_ops.specs.Join.{join_schema, join_stream, joined, joined_fields, key_checks, keys_match, matched, pairs, renamed, right_name, right_values, rows_match, unmatched, within_room, without_keys}
+use Rattle.fq_ops.specs.Join.{join_schema, join_stream, joined, joined_fields, key_checks, keys_match, pairs, renamed, right_name, right_values, rows_match, within_room, without_keys}
 use Rattle.fq_ops.specs.Needed.{names_aggregated, needed_before_groups, needed_before_join, needed_before_roll}
 use Rattle.fq_ops.specs.declared.rolls.TheConstants.{MAX_WINDOW}
 use Rattle.fq_ops.specs.Roll.{is_from_to, roll_rows, roll_schema, roll_stream, rolled, with_sum}
