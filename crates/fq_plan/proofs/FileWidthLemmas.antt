@@ -1,5 +1,5 @@
 -- The rows of a plan's files are as wide as the columns of their sources.
-use Rattle.std.proofs.Common.{◌≡◌, ℕ, zero, suc, ◌+◌, ◌<◌, Bool, true, false, not, nat_lt, List, [], ◌∷◌, ◌++◌, length, map, take, drop, flat_map, replicate, sum_by, append_assoc, append-nil, Option, Some, None, Result, Ok, Err, refl, ap, sym, ◌∙◌, subst, arith}
+use Rattle.std.proofs.Common.{◌≡◌, ℕ, zero, suc, ◌<◌, Bool, true, false, not, nat_lt, List, [], ◌∷◌, ◌++◌, length, take, drop, flat_map, replicate, sum_by, append_assoc, append-nil, Option, Result, Ok, Err, refl, ap, sym, ◌∙◌, subst, arith}
 use Rattle.std.specs.Prelude.{All, zip, if◌then◌else◌}
 use Rattle.std.specs.Bool.{◌==◌}
 use Rattle.std.specs.Result.{result_map_both}
@@ -18,11 +18,11 @@ use Rattle.fq_csv.specs.declared.faults.ScanFault.TheVariants.{BadCell, Header, 
 use Rattle.fq_csv.specs.declared.layouts.Layout.{Layout}
 use Rattle.fq_csv.specs.Field.{cell_under}
 use Rattle.fq_csv.specs.File.{Record, file_stream, row_by, rows_by, rows_under_header_by}
-use Rattle.fq_csv.specs.Sources.{Source, but_last, layout_of, row_limit, streams_of_files}
+use Rattle.fq_csv.specs.Sources.{Source, but_last, layout_of, row_limit}
 use Rattle.fq_expr.proofs.NeededLemmas.{length-all_or_missing}
 use Rattle.fq_language.specs.Plan.{PlanData, file_layouts, file_streams, main_fields, side_files}
 use Rattle.fq_plan.specs.Needed.{AreWide}
-use Rattle.fq_run.proofs.SourceOfFileLemmas.{HasMain, has_main}
+use Rattle.fq_run.proofs.SourceOfFileLemmas.{has_main}
 use lib.Pointwise.{pointwise}
 
 -- ---- one file

@@ -1,5 +1,5 @@
 -- A plan's meaning over files that differ only in columns that it does not need.
-use Rattle.std.proofs.Common.{◌≡◌, ℕ, zero, suc, ◌+◌, ◌<◌, ◌≤◌, Bool, true, false, not, List, [], ◌∷◌, ◌++◌, ◌-◌, length, map, take, drop, get_or, nat_lt, nat_abs, pos, negsuc, ℤ, sum_by, Option, Some, None, Result, Ok, Err, is_some, refl, ap, sym, ◌∙◌, subst, arith}
+use Rattle.std.proofs.Common.{◌≡◌, ℕ, zero, suc, ◌+◌, Bool, true, false, not, List, [], ◌∷◌, ◌++◌, ◌-◌, length, map, take, drop, nat_lt, nat_abs, pos, negsuc, ℤ, sum_by, Option, Some, None, Result, Ok, Err, refl, ap, sym, ◌∙◌, subst, arith}
 use Rattle.std.specs.Prelude.{All, IsOk, option_map, slice_get, slice_index_or}
 use Rattle.std.specs.Bool.{◌==◌}
 use Rattle.std.specs.Result.{result_map_both, result_unwrap_or}
@@ -7,17 +7,16 @@ use Rattle.std.proofs.lemmas.List.{drop-map, drop-take, length-map, take-map, ta
 use Rattle.std.proofs.lemmas.List.Elements.{All-append, All-head, All-nil, All-tail}
 use Rattle.std.proofs.lemmas.List.Sums.{sum_by-cons}
 use Rattle.std.proofs.lemmas.Option.{slice_get-map}
-use Rattle.fq_column.specs.declared.cells.Kind.{Kind}
 use Rattle.fq_column.specs.declared.cells.Kind.TheVariants.{Whole}
 use Rattle.fq_column.specs.declared.faults.StepFault.{StepFault}
-use Rattle.fq_column.specs.declared.faults.StepFault.TheVariants.{WrongKind, TooMany, DoubleName, NoColumn, NoSuchSource, Window, Samples}
+use Rattle.fq_column.specs.declared.faults.StepFault.TheVariants.{TooMany, DoubleName, NoColumn, NoSuchSource}
 use Rattle.fq_column.specs.declared.schemas.TheConstants.{MAX_COLUMNS}
 use Rattle.fq_column.specs.Agreement.{marked, AllAgreeOn, StreamsAgreeOn}
-use Rattle.fq_column.specs.Frame.{Fields, Frame, Name, Row, names_of, put_named, same_name}
+use Rattle.fq_column.specs.Frame.{Fields, Frame, Name, Row, names_of, same_name}
 use Rattle.fq_column.specs.Lists.{is_distinct}
 use Rattle.fq_column.specs.Refusal.{first_refusal, refuse_if}
-use Rattle.fq_column.specs.Schema.{kind_named, schema_checks}
-use Rattle.fq_column.specs.Stream.{Stream, done, rename_fault, then_stream}
+use Rattle.fq_column.specs.Schema.{schema_checks}
+use Rattle.fq_column.specs.Stream.{Stream, rename_fault, then_stream}
 use Rattle.fq_column.proofs.AgreementLemmas.{agree-all, all-agree-append, streams-equal}
 use Rattle.fq_column.proofs.MaskedLemmas.{all-agree-masked}
 use Rattle.fq_column.proofs.PutLemmas.{is_distinct-put_named}
@@ -27,13 +26,12 @@ use Rattle.fq_expr.proofs.NeededLemmas.{apply_step-agree, step-distinct}
 use Rattle.fq_language.specs.declared.faults.CheckFault.{CheckFault}
 use Rattle.fq_language.specs.declared.faults.Place.TheVariants as place
 use Rattle.fq_language.specs.Judged.{judged, judged_step, judged_steps, refused_at, source_refusal}
-use Rattle.fq_language.specs.Plan.{PlanStep, row_wise, join, group_by, rolling_sum, PlanData, item_at, main_fields, side_fields, side_files}
+use Rattle.fq_language.specs.Plan.{PlanStep, row_wise, join, group_by, rolling_sum, PlanData, main_fields, side_fields, side_files}
 use Rattle.fq_ops.specs.declared.joins.How.{How}
-use Rattle.fq_ops.specs.Join.{join_schema, join_stream, joined_fields}
+use Rattle.fq_ops.specs.Join.{join_schema, join_stream}
 use Rattle.fq_ops.specs.Roll.{roll_schema}
 use Rattle.fq_ops.proofs.NeededLemmas.{group_stream-same, join_stream-agree, roll_stream-agree, joined-distinct, roll-after}
-use Rattle.fq_ops.proofs.RefusalLemmas.{join-output}
-use Rattle.fq_plan.specs.Meaning.{apply_plan_step, apply_plan_steps, meaning, meaning_of_sources, outcome}
+use Rattle.fq_plan.specs.Meaning.{apply_plan_step, apply_plan_steps, meaning, meaning_of_sources}
 use Rattle.fq_plan.proofs.StageMeaning.{columns-of-frames, length-sources}
 use Rattle.fq_plan.specs.Needed.{AllStreamsAgreeOn, AreWide, DifferInUnneeded, masked_stream, needed_alone, needed_before_step, needed_before_steps, needed_columns}
 use Rattle.fq_run.specs.declared.faults.Fault.{Fault}
