@@ -1,9 +1,11 @@
+pub mod AgreementLemmas
 pub mod ArrayLemmas
 pub mod BatchLemmas
 pub mod ColumnLemmas
 pub mod FaultLemmas
 pub mod KindLemmas
 pub mod ListLemmas
+pub mod MaskedLemmas
 pub mod NameLemmas
 pub mod PieceLemmas
 pub mod SchemaLemmas

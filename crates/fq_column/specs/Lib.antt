@@ -1,3 +1,4 @@
+pub mod Agreement
 pub mod Batch
 pub mod Cell
 pub mod Column
@@ -5,6 +6,7 @@ pub mod Examples
 pub mod Frame
 pub mod Hashed
 pub mod Lists
+pub mod Masked
 pub mod Refusal
 pub mod Schema
 pub mod SchemaLaws

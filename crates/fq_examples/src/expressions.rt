@@ -1,5 +1,5 @@
 //! Expressions, and the steps that work row by row.
-ghost use Rattle.fq_expr.specs.Examples.{LogicValues, LogicKinds, EarliestRow, EarliestRowFirst, EarliestRowByBatches, NumberedFrom, DivisionValues, DivisionFault, RemainderOfLowest, ExpressionKinds, ExpressionValues, StepSchemas, FilteredRows, ReplacedInPlace};
+ghost use Rattle.fq_expr.specs.Examples.{LogicValues, LogicKinds, EarliestRow, EarliestRowFirst, EarliestRowByBatches, NumberedFrom, DivisionValues, DivisionFault, RemainderOfLowest, ExpressionKinds, ExpressionValues, StepSchemas, FilteredRows, NeededColumns, ReplacedInPlace};
 
 /// The examples of its definitions.
 pub fn worked_examples()
@@ -17,4 +17,5 @@ pub fn worked_examples()
     ensures schemas { StepSchemas }
     ensures filtered { FilteredRows }
     ensures replaced { ReplacedInPlace }
+    ensures needed { NeededColumns }
 {}

@@ -1,5 +1,5 @@
 //! Plans over files, texts that spell no plan, and plans that the check refuses.
-ghost use Rattle.fq_plan.specs.Examples.{FilteredRows, EmptyFiles, FilesInOrder, LogicWithNulls, EarliestRow, GroupSums, GroupOrder, AggregatesOfNulls, JoinedRows, NewJoins, SuffixedNames, RollingSums, WholeNumbers, BadRows, Texts, TruthValues, Division, FileOrStep, UnusedSource, NoPlans, NullTexts, DoubleMembers, RefusedPlans, RefusedStarts, ItemsAtAnySize, Traces};
+ghost use Rattle.fq_plan.specs.Examples.{FilteredRows, EmptyFiles, FilesInOrder, LogicWithNulls, EarliestRow, GroupSums, GroupOrder, AggregatesOfNulls, JoinedRows, NewJoins, SuffixedNames, RollingSums, WholeNumbers, BadRows, Texts, TruthValues, Division, FileOrStep, UnusedSource, NoPlans, NullTexts, DoubleMembers, RefusedPlans, RefusedStarts, ItemsAtAnySize, NeededColumns, Traces};
 
 /// Plans over files.
 pub fn worked_plans()
@@ -37,4 +37,9 @@ pub fn worked_runs()
     ensures starts { RefusedStarts }
     ensures items { ItemsAtAnySize }
     ensures traces { Traces }
+{}
+
+/// The columns of files that are part of a plan's answer.
+pub fn worked_columns()
+    ensures needed { NeededColumns }
 {}

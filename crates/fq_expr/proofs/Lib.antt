@@ -14,3 +14,4 @@ pub mod ProjectionLemmas
 pub mod ItemRowLemmas
 pub mod SelectionLemmas
 pub mod StepLemmas
+pub mod NeededLemmas

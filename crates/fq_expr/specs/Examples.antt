@@ -5,12 +5,14 @@ use Rattle.fq_column.specs.declared.cells.Kind.TheVariants as kind
 use Rattle.fq_column.specs.declared.cells.Cell.{Cell}
 use Rattle.fq_column.specs.declared.cells.Cell.TheVariants.{Null, Whole, Truth}
 use Rattle.fq_column.specs.declared.faults.StepFault.TheVariants.{NoSuchColumn, WrongKind, DoubleName, NoColumn, NotBool}
+use Rattle.fq_column.specs.Agreement.{marked}
 use Rattle.fq_column.specs.Frame.{Fields, Name, Row}
 use Rattle.fq_column.specs.Lists.{before_missing, first_missing, pieces}
 use Rattle.fq_column.specs.Stream.{Stream, done, then_stream}
 use Rattle.fq_expr.specs.declared.expressions.Unary.TheVariants.{Not, IsNull}
 use Rattle.fq_expr.specs.declared.expressions.Binary.TheVariants.{Add, FloorDiv, Mod, Eq, Lt, Gt, EqMissing, And, Or, FillNull}
 use Rattle.fq_expr.specs.Kinds.{kind_of, step_schema, steps_schema}
+use Rattle.fq_expr.specs.Needed.{needed_before}
 use Rattle.fq_expr.specs.Steps.{apply_steps}
 use Rattle.fq_expr.specs.Expression.{Expression, column, null, whole, text, truth, unary, binary, Step, filter_by, with_columns, select}
 use Rattle.fq_expr.specs.Value.{value_of}
@@ -140,3 +142,12 @@ abbrev pub ReplacedInPlace : Type 0
 ReplacedInPlace = (run ab (swapped ∷ []) ((n 1 ∷ n 2 ∷ []) ∷ []) ≡ gives ((n 2 ∷ n 1 ∷ n 1 ∷ []) ∷ []))
     × (step_schema ab swapped ≡ Ok (int (codes "a") ∷ int (codes "b") ∷ int (codes "c") ∷ []))
     × (run ab (with_columns ((codes "p", binary Add (column (codes "a")) (whole (pos 1))) ∷ (codes "q", binary Add (column (codes "b")) (whole (pos 1))) ∷ []) ∷ []) ((n 1 ∷ greatest ∷ []) ∷ (greatest ∷ greatest ∷ []) ∷ []) ≡ overflow_at 0 1 [])
+
+-- the columns that steps need, if a and b are needed after them: what they read, even if it is not needed, and what they do not put
+abbrev pub NeededColumns : Type 0
+NeededColumns = let needs : Step → List Name = λ step. needed_before step (codes "a" ∷ codes "b" ∷ []) in
+    (needs above_ten ≡ codes "v" ∷ codes "a" ∷ codes "b" ∷ [])
+    × (needs (plus_one (codes "b") (codes "v")) ≡ codes "v" ∷ codes "a" ∷ [])
+    × (needs (plus_one (codes "p") (codes "v")) ≡ codes "v" ∷ codes "a" ∷ codes "b" ∷ [])
+    × (needs (select ((codes "a", column (codes "v")) ∷ (codes "b", whole (pos 1)) ∷ [])) ≡ codes "v" ∷ [])
+    × (marked (needs above_ten) (int (codes "a") ∷ int (codes "c") ∷ int (codes "v") ∷ []) ≡ true ∷ false ∷ true ∷ [])

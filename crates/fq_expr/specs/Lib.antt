@@ -13,3 +13,4 @@ pub mod Evaluated
 pub mod Outputs
 pub mod Steps
 pub mod Value
+pub mod Needed

@@ -10,6 +10,8 @@
 //! - [`Front`]: steps one after the other on one batch at a time, each giving a [`Piece`], with the [`RowFault`] of the
 //!   earliest row that faults.
 //! - [`steps_of_joined_streams`]: the law that the steps of a stream cut anywhere are those of its parts, joined.
+//! - [`value_of_read_columns`] and [`step_on_needed_columns`]: the laws that the columns that an expression does not read, or that a step
+//!   does not need, are no part of what it makes.
 //!
 //! Modules, from the bottom: operands (a borrowed column, an owned one, or a scalar); operations (one loop over rows);
 //! arithmetic, comparison and logic (the operations themselves); kernels (each operator's operation, for operands of any kind); expressions
@@ -32,5 +34,5 @@ mod steps;
 pub use evaluation::eval;
 pub use expressions::{Binary, Expr, Unary};
 pub use fronts::{Front, MAX_STEPS, Piece, RowFault};
-pub use laws::steps_of_joined_streams;
+pub use laws::{step_on_needed_columns, steps_of_joined_streams, value_of_read_columns};
 pub use steps::RowStep;

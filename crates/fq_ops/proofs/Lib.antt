@@ -11,6 +11,7 @@ pub mod JoinLemmas
 pub mod KeyLemmas
 pub mod KeySetLemmas
 pub mod MarkedRowLemmas
+pub mod NeededLemmas
 pub mod AggregateLemmas
 pub mod PairLemmas
 pub mod PartLemmas

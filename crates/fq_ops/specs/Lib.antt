@@ -10,6 +10,7 @@ pub mod Indexed
 pub mod Join
 pub mod KeySets
 pub mod AggregateData
+pub mod Needed
 pub mod Pairs
 pub mod Parts
 pub mod Picks

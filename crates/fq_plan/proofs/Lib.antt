@@ -5,3 +5,5 @@ pub mod CheckLemmas
 pub mod SplitLemmas
 pub mod PreparedLemmas
 pub mod FileCutLemmas
+pub mod FileWidthLemmas
+pub mod NeededLemmas

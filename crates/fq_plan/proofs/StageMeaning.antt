@@ -162,11 +162,11 @@ module _ (sides : List Frame) where
 
 -- ---- a physical plan, and the plan that it does
 
-length-sources : {F : Type 0} (sources : List Source) (us : List (Stream F)) → length (source_streams sources us) ≡ length sources
+pub length-sources : {F : Type 0} (sources : List Source) (us : List (Stream F)) → length (source_streams sources us) ≡ length sources
 length-sources [] us = refl
 length-sources (s ∷ sources) us = ap suc (length-sources sources (drop s.files us))
 
-columns-of-frames : {F : Type 0} (sources : List Source) (us : List (Stream F)) → length us ≡ length sources → map (λ (f : Frame). f.fields) (frames_of sources us) ≡ map (λ (s : Source). s.fields) sources
+pub columns-of-frames : {F : Type 0} (sources : List Source) (us : List (Stream F)) → length us ≡ length sources → map (λ (f : Frame). f.fields) (frames_of sources us) ≡ map (λ (s : Source). s.fields) sources
 columns-of-frames [] us e = refl
 columns-of-frames (s ∷ sources) [] e = absurd (omega (arith, e))
 columns-of-frames (s ∷ sources) (u ∷ us) e = ap (λ fs. s.fields ∷ fs) (columns-of-frames sources us (omega (arith, e)))

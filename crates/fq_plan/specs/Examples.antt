@@ -1,12 +1,19 @@
 -- Worked examples: what plans over files come to, from the plan's text and the files' bytes to the output's bytes.
-use Rattle.std.specs.Prelude.{◌≡◌, ℕ, ◌==◌, List, [], ◌∷◌, ◌++◌, map, replicate, codes, Some, None, Ok, Err, if◌then◌else◌}
+use Rattle.std.specs.Prelude.{◌≡◌, ℕ, ◌==◌, Bool, true, false, pos, List, [], ◌∷◌, ◌++◌, map, replicate, codes, Some, None, Ok, Err, if◌then◌else◌}
 use Rattle.fq_column.specs.declared.faults.StepFault.TheVariants.{NoSuchColumn, DoubleName, NotBool, NoColumn, NoSuchSource}
+use Rattle.fq_column.specs.declared.cells.Kind.TheVariants.{Whole}
+use Rattle.fq_column.specs.Frame.{Fields}
 use Rattle.fq_column.specs.Stream.{rename_fault}
 use Rattle.fq_csv.specs.Printed.{printed}
 use Rattle.fq_plan.specs.Answer.{Answer, answer, prints, faults, refused, no_plan}
 use Rattle.fq_language.specs.Judged.{refused_at}
 use Rattle.fq_run.specs.Run.{start_refusal, trace_of}
-use Rattle.fq_language.specs.Plan.{file_streams}
+use Rattle.fq_expr.specs.Expression.{binary, column, filter_by, whole}
+use Rattle.fq_expr.specs.declared.expressions.Binary.TheVariants.{Gt}
+use Rattle.fq_language.specs.Plan.{PlanStep, file_streams, group_by, row_wise}
+use Rattle.fq_ops.specs.Aggregate.{over}
+use Rattle.fq_ops.specs.declared.aggregates.Function.TheVariants.{Sum}
+use Rattle.fq_plan.specs.Needed.{needed_columns}
 use Rattle.fq_run.specs.Sources.{scan_fault}
 use Rattle.fq_language.specs.Spelling.{read_as_plan}
 use Rattle.fq_plan.specs.Tail.{all_items, outcome_of_taken}
@@ -265,3 +272,14 @@ abbrev pub Traces : Type 0
 Traces = (batches 1024 over_ten (codes "id,v\n" ∷ []) ≡ [])
     × (batches 2 (two_files (codes "['v','int']") []) (codes "v\n1\n2\n3\n" ∷ codes "v\n4\n5\n" ∷ []) ≡ (0, 0) ∷ (0, 1) ∷ (1, 0) ∷ [])
     × (batches 1024 (two_sources k_w k_v (join_on_k (codes "left"))) (codes "k,w\n1,a\n,b\n1,c\n" ∷ codes "k,v\n2,10\n1,20\n,30\n" ∷ []) ≡ (0, 0) ∷ (1, 0) ∷ [])
+
+-- the columns of its main source that a plan needs: k and w, by which it groups, and v, which a filter reads, but not x
+abbrev pub NeededColumns : Type 0
+NeededColumns = let name_of : ℕ → List ℕ = λ c. c ∷ [] in
+    let fields : Fields = map (λ c. (name_of c, Whole)) (codes "kvwx") in
+    let filtered : PlanStep = row_wise (filter_by (binary Gt (column (codes "v")) (whole (pos 10)))) in
+    let grouped : PlanStep = group_by (codes "k" ∷ []) ((codes "s", over Sum (codes "w")) ∷ []) in
+    let needed : List PlanStep → List Bool = λ steps. needed_columns (record { sources = record { files = 1; fields = fields; nulls = [] } ∷ []; steps = steps }) in
+    (needed (filtered ∷ grouped ∷ []) ≡ true ∷ true ∷ true ∷ false ∷ [])
+    × (needed (grouped ∷ []) ≡ true ∷ false ∷ true ∷ false ∷ [])
+    × (needed (filtered ∷ []) ≡ true ∷ true ∷ true ∷ true ∷ [])

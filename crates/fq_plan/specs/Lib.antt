@@ -5,6 +5,7 @@ pub use Rattle.fq_language.specs.Judged
 pub use Rattle.fq_language.specs.Versions
 pub mod Meaning
 pub mod Cuts
+pub mod Needed
 pub mod Tail
 pub mod Answer
 pub mod Examples

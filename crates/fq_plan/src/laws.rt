@@ -1,14 +1,18 @@
 //! Laws of the definitions, proved for all values.
-ghost use Rattle.std.specs.Prelude.{◌≡◌, ◌<◌, ◌≤◌, ℕ, List, length, map};
+ghost use Rattle.std.specs.Prelude.{◌≡◌, ◌<◌, ◌≤◌, ℕ, All, IsOk, List, drop, length, map};
 ghost use Rattle.fq_column.specs.Frame.{Fields, Row};
 ghost use Rattle.fq_column.specs.Stream.{Stream, done, rename_fault};
+ghost use Rattle.fq_csv.specs.Sources.{but_last};
+ghost use Rattle.fq_csv.specs.declared.faults.ScanFault.{ScanFault};
 ghost use Rattle.fq_expr.specs.Expression.{Step as RowWise};
 ghost use Rattle.fq_expr.specs.Front.{fault_at};
 ghost use Rattle.fq_expr.specs.Steps.{apply_steps};
 ghost use Rattle.fq_expr.specs.declared.fronts.RowFault.{RowFault};
 ghost use Rattle.fq_plan.specs.Cuts.{GiveTheSameRows};
 ghost use Rattle.fq_plan.specs.Meaning.{meaning, meaning_of_files};
-ghost use Rattle.fq_language.specs.Plan.{PlanData, files_wanted};
+ghost use Rattle.fq_plan.specs.Needed.{AreWide, DifferInUnneeded, needed_alone};
+ghost use Rattle.fq_language.specs.Judged.{judged};
+ghost use Rattle.fq_language.specs.Plan.{PlanData, file_streams, files_wanted, main_fields, side_files};
 ghost use Rattle.fq_run.specs.Sources.{row_fault};
 ghost use Rattle.fq_plan.specs.Tail.{all_items, outcome_of_taken};
 ghost use Rattle.fq_run.specs.declared.faults.Fault.{Fault as AnyFault};
@@ -26,6 +30,16 @@ pub fn meaning_of_items()
 pub fn meaning_of_cut_files()
     ensures { (p q : PlanData) (files other : List (List Row)) → 0 < length p.sources → GiveTheSameRows p q files other →
         meaning p (map done files) ≡ meaning q (map done other) }
+{}
+
+/// The columns of its main source that a plan does not need are not part of its answer. If the check does not refuse the plan, and files
+/// differ only in what their rows have in these columns, it means the same over both; so it does if there is null in them.
+pub fn meaning_of_needed_columns()
+    ensures differ { (p : PlanData) (us vs : List (Stream ScanFault)) → IsOk (judged p) → DifferInUnneeded p us vs → meaning p us ≡ meaning p vs }
+    ensures alone { (p : PlanData) (us : List (Stream ScanFault)) → IsOk (judged p) → AreWide (but_last p.sources) us →
+        All (λ u. All (λ row. length row ≡ length (main_fields p)) u.rows) (drop (side_files p) us) → meaning p us ≡ meaning p (needed_alone p us) }
+    ensures files { (p : PlanData) (files : List (List ℕ)) → IsOk (judged p) → 0 < length p.sources →
+        meaning p (file_streams p files) ≡ meaning p (needed_alone p (file_streams p files)) }
 {}
 
 /// The faults that a worker's row-wise steps name are those of the run under another name.

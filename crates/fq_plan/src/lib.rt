@@ -17,4 +17,4 @@ pub use fq_language::{
     Refusal, Source, StepText, plans_of_both_versions, read_plan, reason_of,
 };
 pub use fq_run::{Explanation, Fault, Worked};
-pub use laws::{meaning_of_cut_files, meaning_of_items, renamed_steps};
+pub use laws::{meaning_of_cut_files, meaning_of_items, meaning_of_needed_columns, renamed_steps};
