@@ -2,6 +2,5 @@ pub mod LeadingStepLemmas
 pub mod TailLemmas
 pub mod StageMeaning
 pub mod CheckLemmas
-pub mod SplitLemmas
 pub mod PreparedLemmas
 pub mod FileCutLemmas
