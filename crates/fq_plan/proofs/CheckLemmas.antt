@@ -1,27 +1,29 @@
 -- What the check has judged so far, and what is left to judge.
 use Rattle.std.proofs.Common.{◌≡◌, ℕ, suc, ◌+◌, List, [], ◌∷◌, ◌++◌, map, length, pos, String, Global, string_bytes, Option, Some, None, Result, Ok, Err, refl, ap, sym, ◌∙◌, subst, inl, inr, arith, append_assoc, append-nil, length-append}
-use Rattle.std.specs.Prelude.{IsOk, ◌⊎◌}
+use Rattle.std.specs.Prelude.{IsOk}
 use Rattle.std.specs.Result.{result_map_both}
-use Rattle.std.proofs.lemmas.List.{length-map}
+use Rattle.std.proofs.lemmas.List.{length-map, map-append}
 use Rattle.fq_column.specs.declared.cells.Kind.{Kind}
 use Rattle.fq_column.specs.declared.faults.StepFault.{StepFault}
-use Rattle.fq_column.specs.declared.faults.StepFault.TheVariants.{Memory}
 use Rattle.fq_column.specs.Frame.{Fields, Name, names_of}
 use Rattle.fq_column.specs.Refusal.{first_refusal, and_then, IsJudgement}
 use Rattle.fq_column.specs.Schema.{fields_of, schema_checks}
 use Rattle.fq_expr.specs.Expression.{Step}
+use Rattle.fq_expr.specs.ExpressionData.{step_of}
 use Rattle.fq_expr.specs.Kinds.{step_schema, steps_schema}
 use Rattle.fq_ops.specs.AggregateData.{outputs_of}
 use Rattle.fq_language.specs.Judged.{judged_step, judged_steps, refused_at, source_refusal}
 use Rattle.fq_language.specs.Plan.{PlanStep, row_wise, join, group_by, rolling_sum}
-use Rattle.fq_csv.specs.Sources.{Source}
-use Rattle.fq_plan.specs.Stages.{operator_steps, stage_steps, Leads, LowersTo}
+use Rattle.fq_csv.specs.Sources.{Source, last_or}
+use Rattle.fq_plan.specs.Stages.{columns_after, leading_stage, operator_steps, stage_steps, stages_of, Leads, LowersTo}
+use Rattle.fq_plan.specs.declared.checks.steps.PassedSteps.{PassedSteps}
 use Rattle.fq_language.specs.View.{field_of}
 use Rattle.fq_language.specs.declared.faults.CheckFault.{CheckFault}
 use Rattle.fq_language.specs.declared.faults.Place.TheVariants as place
 use Rattle.fq_run.specs.declared.operators.Operator.{Operator}
 use Rattle.fq_run.specs.declared.operators.Operator.TheVariants.{Rows, Join, GroupBy, RollingSum}
 use Rattle.fq_run.specs.declared.stages.Stage.{Stage}
+use Rattle.fq_run.proofs.LastLemmas.{last_or-snoc}
 
 -- ---- judgements
 
@@ -29,10 +31,6 @@ module _ {X : Type 0} where
   pub judged-ok : (r : Result X StepFault) (x : X) → IsJudgement r (Ok x) → r ≡ Ok x
   judged-ok r x (inl e) = sym e
   judged-ok r x (inr e) = absurd (cc)
-
-  pub judged-err : (r : Result X StepFault) (code : StepFault) → IsJudgement r (Err code) → (r ≡ Err code) ⊎ (code ≡ Memory)
-  judged-err r code (inl e) = inl (sym e)
-  judged-err r code (inr e) = inr (cc)
 
 -- ---- sources
 
@@ -146,13 +144,6 @@ module _ (sides : List Fields) where
           step-passed n fields (row_wise x) (map row_wise xs ++ rest) mid q ∙ ih mid h
           ∙ ap (λ m. refusal_in (judged_steps sides m after rest)) (let q : n + 1 + length xs ≡ n + suc (length xs) = omega arith in q)
 
-  -- one more row-wise step
-  pub rows-refused : (n : ℕ) (fields : Fields) (xs : List Step) (x : Step) (rest : List PlanStep) (mid : Fields) (code : StepFault) → steps_schema fields xs ≡ Ok mid →
-      step_schema mid x ≡ Err code → judged_steps sides n fields (map row_wise xs ++ (row_wise x ∷ rest)) ≡ Err (refused_at (place.Step (n + length xs)) code)
-  rows-refused n fields xs x rest mid code e h =
-      refusal-is (judged_steps sides n fields (map row_wise xs ++ (row_wise x ∷ rest))) (refused_at (place.Step (n + length xs)) code)
-      (rows-passed n fields xs (row_wise x ∷ rest) mid e ∙ ap refusal_in (step-refused (n + length xs) mid (row_wise x) rest code h))
-
   operator-passed : (n : ℕ) (fields : Fields) (o : Operator) (rest : List PlanStep) (after : Fields) → LowersTo sides n fields o after →
       refusal_in (judged_steps sides n fields (operator_steps o ++ rest)) ≡ refusal_in (judged_steps sides (n + length (operator_steps o)) after rest)
   operator-passed n fields (Rows front) rest after t =
@@ -196,3 +187,28 @@ module _ (sides : List Fields) where
         h.1,
         leads-further (n + length steps) x.after stages mid s m h.2 (omega (arith, q, length-append steps (stage_steps stages))) number turns,
       )
+
+-- ---- steps that passed, and one more
+
+no-stage : (ss : List Stage) → length ss ≡ 0 → ss ≡ []
+no-stage [] e = refl
+no-stage (s ∷ ss) e = absurd (omega (arith, e))
+
+-- a leading row-wise step
+pub lead-further : (sides : List Fields) (p : PassedSteps) (steps : List Step) (x : Step) (after main : Fields) → length p.stages.items ≡ 0 → steps ≡ map step_of p.leading.items ++ x ∷ [] →
+    step_schema p.after_leading x ≡ Ok after → Leads sides 0 main (stages_of p) (columns_after p) →
+    Leads sides 0 main (leading_stage (record { steps = steps; fields = p.main; first = 0 }) after ∷ p.stages.items) (last_or after (map (λ (s : Stage). s.after) p.stages.items))
+lead-further sides p steps x after main none leading e h = (
+  refl,
+  (h.1.0, refl, ap (steps_schema main) leading ∙ schema-further main (map step_of p.leading.items) x p.after_leading after h.1.2 e),
+  subst (λ (ss : List Stage). Leads sides (0 + length (map row_wise steps)) after ss (last_or after (map (λ (s : Stage). s.after) ss))) (sym (no-stage p.stages.items none)) refl,
+)
+
+-- a stage
+pub stage-further : (sides : List Fields) (p : PassedSteps) (s : Stage) → s.number ≡ length (stage_steps (stages_of p)) → LowersTo sides s.number (columns_after p) s.operator s.after → (main : Fields) →
+    Leads sides 0 main (stages_of p) (columns_after p) →
+    Leads sides 0 main (stages_of p ++ s ∷ []) (last_or p.after_leading (map (λ (t : Stage). t.after) (p.stages.items ++ s ∷ [])))
+stage-further sides p s number turns main h =
+    subst (λ (f : Fields). Leads sides 0 main (stages_of p ++ s ∷ []) f)
+    (sym (ap (last_or p.after_leading) (map-append (λ (t : Stage). t.after) p.stages.items (s ∷ [])) ∙ last_or-snoc p.after_leading (map (λ (t : Stage). t.after) p.stages.items) s.after))
+    (leads-further sides 0 main (stages_of p) (columns_after p) s s.number h (omega (arith, number)) refl turns)

@@ -2,7 +2,6 @@ pub mod LeadingStepLemmas
 pub mod TailLemmas
 pub mod StageMeaning
 pub mod CheckLemmas
-pub mod SplitLemmas
 pub mod PreparedLemmas
 pub mod FileCutLemmas
 pub mod FileWidthLemmas

@@ -4,21 +4,20 @@ use Rattle.std.specs.Prelude.{IsOk}
 use Rattle.std.specs.Result.{result_map_both}
 use Rattle.std.proofs.lemmas.List.{length-map, map-append}
 use Rattle.fq_column.specs.Frame.{Fields}
-use Rattle.fq_expr.specs.Expression.{Step}
 use Rattle.fq_expr.specs.Front.{NumberedSteps}
 use Rattle.fq_expr.specs.Kinds.{steps_schema}
+use Rattle.fq_expr.specs.Steps.{fields_after_all}
 use Rattle.fq_language.specs.Judged.{checked, judged, judged_steps, source_refusal}
-use Rattle.fq_language.specs.Plan.{PlanStep, row_wise, PlanData, IsWithinLimits, files_wanted, front_of, side_fields, main_fields, rest_of}
+use Rattle.fq_language.specs.Plan.{PlanStep, row_wise, PlanData, IsWithinLimits, files_wanted, side_fields, main_fields}
 use Rattle.fq_csv.specs.Sources.{Source, but_last, last_or}
-use Rattle.fq_plan.specs.Stages.{columns_of, query_of, stage_steps, IsChecked, Leads}
-use Rattle.fq_run.specs.Physical.{Physical, front_fields}
+use Rattle.fq_plan.specs.Stages.{columns_of, leading_stage, query_of, stage_steps, IsChecked, Leads}
+use Rattle.fq_run.specs.Physical.{Physical}
 use Rattle.fq_csv.specs.Sources.{source_of_files}
 use Rattle.fq_run.specs.Stages.{physical_of, Fit, IsRunnable}
 use Rattle.fq_language.specs.declared.faults.CheckFault.{CheckFault}
 use Rattle.fq_csv.specs.declared.sources.SourceFiles.{SourceFiles}
 use Rattle.fq_run.specs.declared.stages.Stage.{Stage}
-use Rattle.fq_plan.proofs.LeadingStepLemmas.{front-rest}
-use Rattle.fq_plan.proofs.CheckLemmas.{refusal_in, refusal-is, no-refusal, rows-passed, stages-passed}
+use Rattle.fq_plan.proofs.CheckLemmas.{refusal_in, no-refusal, rows-passed, stages-passed}
 use Rattle.fq_plan.proofs.StageMeaning.{fits}
 use Rattle.fq_run.proofs.LastLemmas.{but_last-snoc, last_or-snoc}
 use Rattle.fq_run.proofs.StageLemmas.{fields-after-all}
@@ -31,6 +30,9 @@ judged_by p o r = result_map_both (λ schemas. p) (λ refusal. refusal) (let all
 abbrev pub steps_judged : PlanData → Result (List Fields) CheckFault
 steps_judged p = judged_steps (side_fields p) 0 (main_fields p) p.steps
 
+pub source-refuses : (p : PlanData) (e : CheckFault) → source_refusal 0 p.sources ≡ Some e → checked p ≡ Err e
+source-refuses p e h = ap (λ o. judged_by p o (steps_judged p)) h
+
 pub step-refuses : (p : PlanData) (e : CheckFault) → source_refusal 0 p.sources ≡ None → steps_judged p ≡ Err e → checked p ≡ Err e
 step-refuses p e h g = ap (λ o. judged_by p o (steps_judged p)) h ∙ ap (λ r. judged_by p None r) g
 
@@ -41,88 +43,65 @@ ok-is : (p : PlanData) (r : Result (List Fields) CheckFault) → IsOk r → resu
 ok-is p (Ok schemas) h = refl
 ok-is p (Err e) h = absurd (cc)
 
--- ---- the leading row-wise steps, and the steps after them
-
-pub steps-are : (steps : List PlanStep) (leading : List Step) (front : leading ≡ front_of steps) (rest : List PlanStep) → rest ≡ rest_of steps → map row_wise leading ++ rest ≡ steps
-steps-are steps leading front rest r = (λ i. map row_wise (front i) ++ r i) ∙ front-rest steps
-
 -- ---- the sources before the last, and the last
 
-module _ (sources sides : List SourceFiles) (main : SourceFiles) (parts : sources ≡ sides ++ main ∷ []) where
-  abbrev pub query : List PlanStep → PlanData
-  query steps = record { sources = map source_of_files sources; steps = steps }
-
+module _ (sides : List SourceFiles) (main : SourceFiles) where
   fields-of : (xs : List SourceFiles) → map (λ (s : Source). s.fields) (map source_of_files xs) ≡ columns_of xs
   fields-of [] = refl
   fields-of (x ∷ xs) = ap (λ fs. x.layout.schema ∷ fs) (fields-of xs)
 
-  pub sides-are : (steps : List PlanStep) → side_fields (query steps) ≡ columns_of sides
-  sides-are steps =
-      ap (λ ss. map (λ (s : Source). s.fields) (but_last ss)) (ap (map source_of_files) parts ∙ map-append source_of_files sides (main ∷ []))
-      ∙ ap (map (λ (s : Source). s.fields)) (but_last-snoc (map source_of_files sides) (source_of_files main))
-      ∙ fields-of sides
+  -- below, they are the sources of the plan
+  module _ (p : PlanData) (parts : map source_of_files (sides ++ main ∷ []) ≡ p.sources) where
+    side-columns : side_fields p ≡ columns_of sides
+    side-columns =
+        ap (λ ss. map (λ (s : Source). s.fields) (but_last ss)) (sym parts ∙ map-append source_of_files sides (main ∷ []))
+        ∙ ap (map (λ (s : Source). s.fields)) (but_last-snoc (map source_of_files sides) (source_of_files main))
+        ∙ fields-of sides
 
-  pub main-is : (steps : List PlanStep) → main_fields (query steps) ≡ main.layout.schema
-  main-is steps =
-      ap (last_or []) (fields-of sources ∙ ap columns_of parts ∙ map-append (λ (s : SourceFiles). s.layout.schema) sides (main ∷ []))
-      ∙ last_or-snoc [] (columns_of sides) main.layout.schema
+    main-columns : main_fields p ≡ main.layout.schema
+    main-columns =
+        ap (λ ss. last_or [] (map (λ (s : Source). s.fields) ss)) (sym parts)
+        ∙ ap (last_or []) (fields-of (sides ++ main ∷ []) ∙ map-append (λ (s : SourceFiles). s.layout.schema) sides (main ∷ []))
+        ∙ last_or-snoc [] (columns_of sides) main.layout.schema
 
-  module _ (steps : List PlanStep) (leading : List Step) (front : leading ≡ front_of steps) where
-    judged-are : (rest : List PlanStep) → rest ≡ rest_of steps → steps_judged (query steps) ≡ judged_steps (columns_of sides) 0 main.layout.schema (map row_wise leading ++ rest)
-    judged-are rest r = λ i. judged_steps (sides-are steps i) 0 (main-is steps i) (sym (steps-are steps leading front rest r) i)
+    pub steps-refuse : (e : CheckFault) → source_refusal 0 p.sources ≡ None → judged_steps (columns_of sides) 0 main.layout.schema p.steps ≡ Err e → checked p ≡ Err e
+    steps-refuse e s h = step-refuses p e s ((λ i. judged_steps (side-columns i) 0 (main-columns i) p.steps) ∙ h)
 
-    pub leading-refuses : (e : CheckFault) → source_refusal 0 (map source_of_files sources) ≡ None →
-        ((sides : List Fields) (rest : List PlanStep) → judged_steps sides 0 main.layout.schema (map row_wise leading ++ rest) ≡ Err e) → checked (query steps) ≡ Err e
-    leading-refuses e s h = step-refuses (query steps) e s (judged-are (rest_of steps) refl ∙ h (columns_of sides) (rest_of steps))
+  -- ---- a plan that is not refused
 
-    pub stages-refuse : (rest : List PlanStep) (mid : Fields) (e : CheckFault) → source_refusal 0 (map source_of_files sources) ≡ None → rest ≡ rest_of steps →
-        steps_schema main.layout.schema leading ≡ Ok mid → judged_steps (columns_of sides) (length leading) mid rest ≡ Err e → checked (query steps) ≡ Err e
-    stages-refuse rest mid e s r h g =
-        step-refuses (query steps) e s
-        (judged-are rest r
-        ∙ refusal-is (judged_steps (columns_of sides) 0 main.layout.schema (map row_wise leading ++ rest)) e
-        (rows-passed (columns_of sides) 0 main.layout.schema leading rest mid h
-        ∙ ap (λ n. refusal_in (judged_steps (columns_of sides) n mid rest)) (let q : 0 + length leading ≡ length leading = omega arith in q)
-        ∙ ap refusal_in g))
+  module _ (front : NumberedSteps) (stages : List Stage) (mid after : Fields) (leads : Leads (columns_of sides) 0 main.layout.schema (leading_stage front mid ∷ stages) after) where
+    abbrev pub plan : Physical
+    plan = physical_of (sides ++ main ∷ []) front stages
 
-    -- ---- a plan that is not refused
+    -- the columns after the leading steps, and the stages after these
+    pub columns : mid ≡ fields_after_all front.fields front.steps
+    columns = sym (ap (λ fs. fields_after_all fs front.steps) leads.1.0 ∙ fields-after-all main.layout.schema mid front.steps leads.1.2)
 
-    module _ (stages : List Stage) (mid after : Fields) (rest : stage_steps stages ≡ rest_of steps) (passed : source_refusal 0 (map source_of_files sources) ≡ None)
-        (to_mid : steps_schema main.layout.schema leading ≡ Ok mid) (leads : Leads (columns_of sides) (length leading) mid stages after) where
-      abbrev pub in_front : NumberedSteps
-      in_front = record { steps = leading; fields = main.layout.schema; first = 0 }
+    to-mid : steps_schema (main_fields (query_of plan)) front.steps ≡ Ok mid
+    to-mid = ap (λ fs. steps_schema fs front.steps) (main-columns (query_of plan) refl) ∙ leads.1.2
 
-      pub query-is : query_of (physical_of sources in_front stages) ≡ query steps
-      query-is = ap query (steps-are steps leading front (stage_steps stages) rest)
+    further : Leads (side_fields (query_of plan)) (length front.steps) mid stages after
+    further =
+        let count : 0 + length (map row_wise front.steps) ≡ length front.steps = omega (arith, length-map front.steps row_wise) in
+        subst (λ n. Leads (side_fields (query_of plan)) n mid stages after) count
+        (subst (λ js. Leads js (0 + length (map row_wise front.steps)) mid stages after) (sym (side-columns (query_of plan) refl)) leads.2)
 
-      -- the main source's columns, and those after the leading steps
-      on-main : main_fields (query (map row_wise leading ++ stage_steps stages)) ≡ main.layout.schema
-      on-main = main-is (map row_wise leading ++ stage_steps stages)
+    pub prepared : source_refusal 0 (map source_of_files (sides ++ main ∷ [])) ≡ None → IsWithinLimits (query_of plan) → IsChecked plan
+    prepared passed limits = record { limits = limits; schemas = passed; leads = (mid, after, to-mid, further) }
 
-      steps-to-mid : steps_schema (main_fields (query (map row_wise leading ++ stage_steps stages))) leading ≡ Ok mid
-      steps-to-mid = ap (λ fs. steps_schema fs leading) on-main ∙ to_mid
-
-      pub prepared : IsWithinLimits (query steps) → IsChecked (physical_of sources in_front stages)
-      prepared limits = record {
-        limits = subst IsWithinLimits (sym query-is) limits;
-        schemas = passed;
-        leads = (mid, after, steps-to-mid, subst (λ js. Leads js (length leading) mid stages after) (sym (sides-are (map row_wise leading ++ stage_steps stages))) leads);
-      }
-
-      pub runnable : (inputs : ℕ) → IsWithinLimits (query steps) → inputs ≡ files_wanted (query steps) → IsRunnable sources in_front stages inputs
-      runnable inputs limits count = record {
-        some_source = omega (arith, limits.some_source, length-map sources source_of_files);
-        inputs_wanted = count;
-        few_files = limits.few_files;
-        from_first = refl;
-        on_main = sym on-main;
-        fits = (
-          after,
-          subst (λ js. Fit js (front_fields (physical_of sources in_front stages)) stages after) (sym (sides-are (map row_wise leading ++ stage_steps stages)))
-              (subst (λ fs. Fit (columns_of sides) fs stages after) (sym (fields-after-all (main_fields (query (map row_wise leading ++ stage_steps stages))) mid leading steps-to-mid))
-              (fits (columns_of sides) (length leading) mid stages after leads)),
-        );
-      }
+    pub runnable : IsWithinLimits (query_of plan) → IsRunnable (sides ++ main ∷ []) front stages (files_wanted (query_of plan))
+    runnable limits = record {
+      some_source = omega (arith, limits.some_source, length-map (sides ++ main ∷ []) source_of_files);
+      inputs_wanted = refl;
+      few_files = limits.few_files;
+      from_first = leads.1.1;
+      on_main = leads.1.0 ∙ sym (main-columns (query_of plan) refl);
+      fits = (
+        after,
+        subst (λ fs. Fit (side_fields (query_of plan)) fs stages after) (sym (fields-after-all (main_fields (query_of plan)) mid front.steps to-mid))
+            (fits (side_fields (query_of plan)) (length front.steps) mid stages after further),
+      );
+    }
 
 -- what a checked plan holds is not refused
 pub checked-passes : (p : Physical) → IsChecked p → IsOk (judged (query_of p))

@@ -1,10 +1,16 @@
 -- What a checked plan holds: a physical plan that does its steps.
 use Rattle.std.specs.Prelude.{◌≡◌, ℕ, ◌+◌, pos, List, [], ◌∷◌, ◌++◌, map, flat_map, length, string_bytes, None, Ok}
 use Rattle.fq_column.specs.Frame.{Fields}
+use Rattle.fq_column.specs.declared.faults.StepFault.TheVariants.{Memory}
+use Rattle.fq_expr.specs.ExpressionData.{step_of}
+use Rattle.fq_expr.specs.Front.{NumberedSteps}
 use Rattle.fq_expr.specs.Kinds.{steps_schema}
 use Rattle.fq_ops.specs.AggregateData.{outputs_of}
-use Rattle.fq_language.specs.Judged.{judged_step, source_refusal}
+use Rattle.fq_language.specs.Judged.{judged_step, source_refusal, IsPlaceOf}
 use Rattle.fq_language.specs.Plan.{PlanStep, row_wise, join, group_by, rolling_sum, PlanData, IsWithinLimits}
+use Rattle.fq_language.specs.declared.faults.CheckFault.{CheckFault}
+use Rattle.fq_plan.specs.declared.checks.steps.PassedSteps.{PassedSteps}
+use Rattle.fq_csv.specs.Sources.{last_or}
 use Rattle.fq_run.specs.Physical.{Physical, side_fields, main_fields}
 use Rattle.fq_csv.specs.declared.sources.SourceFiles.{SourceFiles}
 use Rattle.fq_run.specs.declared.operators.Operator.{Operator}
@@ -28,6 +34,18 @@ stage_steps stages = flat_map (λ s. operator_steps s.operator) stages
 abbrev pub query_of : Physical → PlanData
 query_of p = record { sources = p.sources; steps = map row_wise p.front ++ stage_steps p.stages }
 
+-- row-wise steps that leave these columns, as a stage
+abbrev pub leading_stage : NumberedSteps → Fields → Stage
+leading_stage front after = record { number = front.first; operator = Rows front; after = after }
+
+-- the leading row-wise steps as a stage, and the stages after them
+abbrev pub stages_of : PassedSteps → List Stage
+stages_of p = leading_stage (record { steps = map step_of p.leading.items; fields = p.main; first = 0 }) p.after_leading ∷ p.stages.items
+
+-- the columns after steps
+abbrev pub columns_after : PassedSteps → Fields
+columns_after p = last_or p.after_leading (map (λ s. s.after) p.stages.items)
+
 -- below, `sides` are the columns of the sources before the last
 module _ (sides : List Fields) where
   -- an operator whose first step is step n takes rows with these columns to rows with those
@@ -42,6 +60,10 @@ module _ (sides : List Fields) where
   Leads n fields [] after = fields ≡ after
   Leads n fields (s ∷ stages) after =
       (s.number ≡ n) × LowersTo n fields s.operator s.after × Leads (n + length (operator_steps s.operator)) s.after stages after
+
+-- memory ran out at a place of a plan with so many sources and steps
+abbrev pub IsMemoryAt : ℕ → ℕ → CheckFault → Type 0
+IsMemoryAt sources steps e = (e.code ≡ Memory) × IsPlaceOf sources steps e.place
 
 -- the plan is not refused, and each operator has the number and the columns of its steps
 pub record IsChecked (p : Physical) : Type 0 where

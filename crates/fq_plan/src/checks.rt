@@ -1,12 +1,11 @@
 //! Checked plans.
-ghost use Rattle.std.specs.Prelude.{◌≡◌, ◌⊎◌, IsErrAnd, IsOk, IfOk, IfErr, Ok, Err, length};
+ghost use Rattle.std.specs.Prelude.{◌≡◌, ◌⊎◌, IsErrAnd, IsOk, length};
 ghost use Rattle.fq_column.specs.declared.faults.StepFault.{StepFault as Code};
-ghost use Rattle.fq_language.specs.Judged.{checked, judged, refused_at, IsPlaceOf};
+ghost use Rattle.fq_language.specs.Judged.{checked, judged, IsPlaceOf};
 ghost use Rattle.fq_language.specs.Plan.{files_wanted};
 
-use fq_column::StepFault;
 use fq_expr::Front;
-use fq_language::{CheckFault, Place, Plan};
+use fq_language::{CheckFault, Plan};
 use fq_run::PhysicalPlan;
 use std::alloc::Global;
 use std::marker::Model;
@@ -15,7 +14,7 @@ mod sources;
 mod steps;
 
 use sources::check_sources;
-use steps::{check_leading, check_stages, split_leading};
+use steps::{PassedSteps, check_steps};
 
 /// A plan that the check does not refuse, by what its run does.
 #[derive(Drop)]
@@ -57,52 +56,23 @@ impl Check for Plan {
     fn check(self, alloc: Global) -> Result<Checked, CheckFault>
         ensures { (result ≡ checked self) ⊎ IsErrAnd result (λ e. (e.code ≡ Code.Memory) × IsPlaceOf (length self.sources) (length self.steps) e.place) }
     {
-        let mut place = Place::Source(0);
-        match check_plan(alloc, self, &mut place) {
-            Ok(checked) => Ok(checked),
-            Err(code) => Err(CheckFault { place, code }),
-        }
+        let (sources, steps) = self.into_parts();
+        let mut sides = check_sources(alloc, sources)?;
+        let Some(main) = sides.pop() else {
+            unreachable!()
+        };
+        let PassedSteps {
+            main: fields,
+            leading,
+            after_leading,
+            stages,
+        } = check_steps(alloc, sides.as_slice(), &main.layout.schema, steps)?;
+        let Ok(front) = Front::new(alloc, leading, fields, 0) else {
+            unreachable!()
+        };
+        let physical = PhysicalPlan::new(alloc, sides, main, front, after_leading, stages);
+        Ok(Checked { physical })
     }
-}
-
-// The plan, if it is not refused; a refusal leaves the place at which the check stood.
-fn check_plan(alloc: Global, plan: Plan, place: &mut Place) -> Result<Checked, StepFault>
-    requires { IsPlaceOf (length plan.sources) (length plan.steps) place.old }
-    ensures place { IsPlaceOf (length plan.sources) (length plan.steps) place.new }
-    ensures ok { IfOk result (λ c. checked plan ≡ Ok c) }
-    ensures refused { IfErr result (λ code. (checked plan ≡ Err (refused_at place.new code)) ⊎ (code ≡ Code.Memory)) }
-{
-    let inputs = plan.inputs();
-    let (sources, steps) = plan.into_parts();
-    let mut sides = check_sources(alloc, sources, place)?;
-    let Some(main) = sides.pop() else {
-        unreachable!()
-    };
-    let (leading, rest) = split_leading(alloc, steps)?;
-    let front_schema = main.layout.schema.copy(alloc)?;
-    let schema = check_leading(alloc, &main.layout.schema, leading.as_slice(), place)?;
-    let after_leading = schema.copy(alloc)?;
-    let stages = check_stages(
-        alloc,
-        sides.as_slice(),
-        leading.len() as u16,
-        schema,
-        rest,
-        place,
-    )?;
-    let front = Front::new(alloc, leading, front_schema, 0)?;
-    let side_files = inputs - main.files;
-    let physical = PhysicalPlan::new(
-        alloc,
-        sides,
-        main,
-        front,
-        after_leading,
-        stages,
-        inputs,
-        side_files,
-    );
-    Ok(Checked { physical })
 }
 
 impl Checked {

@@ -1,7 +1,8 @@
 //! Physical plans.
-ghost use Rattle.std.specs.Prelude.{◌≡◌, ◌++◌, ◌∷◌, []};
+ghost use Rattle.std.specs.Prelude.{◌≡◌, ◌≤◌, ◌++◌, ◌∷◌, [], map, sum_by};
+ghost use Rattle.fq_csv.specs.Sources.{source_of_files};
 ghost use Rattle.fq_expr.specs.Steps.{fields_after_all};
-ghost use Rattle.fq_run.specs.Physical.{files_wanted, side_files as files_before_main};
+ghost use Rattle.fq_run.specs.Physical.{files_wanted};
 ghost use Rattle.fq_run.specs.Stages.{IsRunnable, physical_of};
 
 use crate::leading_steps::LeadingSteps;
@@ -53,7 +54,7 @@ impl Model for PhysicalPlan {
 }
 
 impl PhysicalPlan {
-    /// A plan over so many files, of which so many are of the sources before the main one.
+    /// A plan of these sources, leading steps that leave these columns, and the stages after them.
     pub fn new(
         alloc: Global,
         sides: Vec<SourceFiles>,
@@ -61,14 +62,13 @@ impl PhysicalPlan {
         front: Front,
         after_leading: Schema,
         stages: Vec<Stage>,
-        inputs: u16,
-        side_files: u16,
     ) -> PhysicalPlan
-        requires runnable { IsRunnable (sides.items ++ main ∷ []) front stages.items inputs }
-        requires before_main { side_files ≡ files_before_main (physical_of (sides.items ++ main ∷ []) front stages.items) }
+        requires runnable { let plan = physical_of (sides.items ++ main ∷ []) front stages.items in IsRunnable (sides.items ++ main ∷ []) front stages.items (files_wanted plan) }
         requires columns { after_leading ≡ fields_after_all front.fields front.steps }
         ensures { result ≡ physical_of (sides.items ++ main ∷ []) front stages.items }
     {
+        let side_files = file_count(sides.as_slice());
+        let inputs = side_files + main.files;
         PhysicalPlan {
             sides,
             main,
@@ -89,4 +89,12 @@ impl PhysicalPlan {
     {
         self.inputs
     }
+}
+
+// How many files the sources have.
+fn file_count(sources: &[SourceFiles]) -> u16
+    requires { sum_by (λ s. s.files) (map source_of_files sources.now) ≤ MAX_FILES }
+    ensures { result ≡ sum_by (λ s. s.files) (map source_of_files sources.now) }
+{
+    sources.iter().map(|source| source.files).sum()
 }

@@ -1,96 +1,117 @@
 //! The check of a plan's steps.
-ghost use Rattle.std.specs.Prelude.{◌≡◌, ◌⊎◌, ◌+◌, ◌≤◌, ◌++◌, ◌∷◌, [], ℕ, List, Ok, Err, Some, None, map, length, vec_len, MatchOption, IfOk, IfErr, pos, string_bytes};
+ghost use Rattle.std.specs.Prelude.{◌≡◌, ◌⊎◌, ◌+◌, ◌≤◌, ◌++◌, ◌∷◌, [], ℕ, List, Ok, Err, Some, None, map, length, vec_len, MatchOption, IfOk, IfErr, pos, string_bytes, OnOk};
 ghost use Rattle.fq_column.specs.Frame.{Fields};
-ghost use Rattle.fq_expr.specs.Kinds.{step_schema, steps_schema};
+ghost use Rattle.fq_expr.specs.Kinds.{step_schema};
 ghost use Rattle.fq_expr.specs.ExpressionData.{step_of};
 ghost use Rattle.fq_ops.specs.Group.{group_schema as group_schema_of};
 ghost use Rattle.fq_ops.specs.AggregateData.{outputs_of};
 ghost use Rattle.fq_ops.specs.Roll.{roll_schema as roll_schema_of};
-ghost use Rattle.fq_language.specs.Judged.{judged_step, judged_steps, refused_at, IsPlaceOf};
-ghost use Rattle.fq_language.specs.Plan.{PlanStep, front_of, group_by, item_at, join, rest_of, rolling_sum, row_wise};
-ghost use Rattle.fq_plan.specs.Stages.{columns_of, operator_steps, stage_steps, Leads, LowersTo};
+ghost use Rattle.fq_language.specs.Judged.{judged_step, judged_steps};
+ghost use Rattle.fq_language.specs.Plan.{group_by, item_at, join, rolling_sum, row_wise};
+ghost use Rattle.fq_plan.specs.Stages.{columns_after, columns_of, operator_steps, stage_steps, stages_of, IsMemoryAt, Leads, LowersTo};
 ghost use Rattle.fq_language.specs.View.{plan_step_of};
 
 use fq_column::{Memory, Schema, StepFault};
 use fq_csv::SourceFiles;
 use fq_expr::{Front, MAX_STEPS, RowStep};
-use fq_language::{Place, Step};
+use fq_language::{CheckFault, Place, Step};
 use fq_ops::{Agg, How, group_schema, join_schema, roll_schema};
 use fq_run::{GroupBy, Join, Operator, RollingSum, Stage};
 use std::alloc::Global;
 
-/// The leading row-wise steps, and the steps after them.
-pub fn split_leading(alloc: Global, steps: Vec<Step>) -> Result<(Vec<RowStep>, Vec<Step>), Memory>
-    ensures leading { IfOk result (λ r. map step_of r.0.items ≡ front_of (map plan_step_of steps.items)) }
-    ensures rest { IfOk result (λ r. map plan_step_of r.1.items ≡ rest_of (map plan_step_of steps.items)) }
-{
-    let mut leading = Vec::new(alloc);
-    let mut rest = Vec::new(alloc);
-    for step in steps {
-        match step {
-            Step::Rows(row_step) => {
-                if rest.is_empty() {
-                    leading.push(row_step)?;
-                } else {
-                    rest.push(Step::Rows(row_step))?;
-                }
-            }
-            step => rest.push(step)?,
-        }
-    }
-    Ok((leading, rest))
+/// Steps that passed the check, as a physical plan has them.
+#[derive(Drop)]
+pub struct PassedSteps {
+    /// The main source's columns.
+    pub main: Schema,
+    /// The leading row-wise steps.
+    pub leading: Vec<RowStep>,
+    pub after_leading: Schema,
+    pub stages: Vec<Stage>,
 }
 
-/// The columns after the leading row-wise steps, or the first refusal, which leaves the place of its step.
-pub fn check_leading(
-    alloc: Global,
-    main: &Schema,
-    steps: &[RowStep],
-    place: &mut Place,
-) -> Result<Schema, StepFault>
-    requires { length steps.now ≤ MAX_STEPS }
-    ensures place { (sources total : ℕ) → length steps.now ≤ total → IsPlaceOf sources total place.old → IsPlaceOf sources total place.new }
-    ensures ok { IfOk result (λ after. steps_schema main.now (map step_of steps.now) ≡ Ok after) }
-    ensures refused { IfErr result (λ code. ((sides : List Fields) (rest : List PlanStep) →
-        judged_steps sides 0 main.now (map row_wise (map step_of steps.now) ++ rest) ≡ Err (refused_at place.new code)) ⊎ (code ≡ StepFault.Memory)) }
-{
-    let mut schema = main.copy(alloc)?;
-    for i in 0..steps.len() {
-        *place = Place::Step(i as u16);
-        schema = steps[i].schema(alloc, &schema)?;
-    }
-    Ok(schema)
-}
-
-/// The stages of the steps after the leading row-wise ones, which are numbered from `first` on, or the first refusal,
-/// which leaves the place of its step.
-pub fn check_stages(
+/// The steps on rows of a main source with these columns, or the first refusal.
+pub fn check_steps(
     alloc: Global,
     sides: &[SourceFiles],
-    first: u16,
-    mut schema: Schema,
+    main: &Schema,
     steps: Vec<Step>,
-    place: &mut Place,
-) -> Result<Vec<Stage>, StepFault>
-    requires { first + vec_len steps ≤ MAX_STEPS }
-    ensures place { (sources total : ℕ) → first + length steps.items ≤ total → IsPlaceOf sources total place.old → IsPlaceOf sources total place.new }
-    ensures steps { IfOk result (λ stages. stage_steps stages.items ≡ map plan_step_of steps.items) }
-    ensures leads { IfOk result (λ stages. (after : Fields) × Leads (columns_of sides.now) first schema stages.items after) }
-    ensures refused { IfErr result (λ code. (judged_steps (columns_of sides.now) first schema (map plan_step_of steps.items) ≡ Err (refused_at place.new code)) ⊎ (code ≡ StepFault.Memory)) }
+) -> Result<PassedSteps, CheckFault>
+    requires sources { length sides.now ≤ 8 }
+    requires few { vec_len steps ≤ MAX_STEPS }
+    ensures steps { IfOk result (λ passed. stage_steps (stages_of passed) ≡ map plan_step_of steps.items) }
+    ensures leads { IfOk result (λ passed. Leads (columns_of sides.now) 0 main.now (stages_of passed) (columns_after passed)) }
+    ensures refused { IfErr result (λ e. (judged_steps (columns_of sides.now) 0 main.now (map plan_step_of steps.items) ≡ Err e) ⊎ IsMemoryAt (length sides.now + 1) (length steps.items) e) }
 {
-    let mut stages = Vec::with_capacity(alloc, steps.len())?;
+    let Ok(mut passed) = PassedSteps::none(alloc, main) else {
+        let (place, code) = (Place::Source(sides.len() as u16), StepFault::Memory);
+        return Err(CheckFault { place, code });
+    };
+    let mut number: u16 = 0;
     for step in steps {
-        let number = first + stages.len() as u16;
-        *place = Place::Step(number);
-        let (operator, after) = check_step(alloc, sides, number, schema, step)?;
-        schema = after.copy(alloc)?;
-        stages.push(Stage {
-            number,
-            operator,
-            after,
-        })?;
+        let place = Place::Step(number);
+        match passed.add(alloc, sides, number, step) {
+            Ok(()) => number += 1,
+            Err(code) => return Err(CheckFault { place, code }),
+        }
     }
-    Ok(stages)
+    Ok(passed)
+}
+
+impl PassedSteps {
+    // No step on rows of the main source.
+    fn none(alloc: Global, main: &Schema) -> Result<PassedSteps, Memory>
+        ensures steps { IfOk result (λ passed. stage_steps (stages_of passed) ≡ []) }
+        ensures leads { IfOk result (λ passed. (sides : List Fields) → Leads sides 0 main.now (stages_of passed) (columns_after passed)) }
+    {
+        Ok(PassedSteps {
+            main: main.copy(alloc)?,
+            leading: Vec::new(alloc),
+            after_leading: main.copy(alloc)?,
+            stages: Vec::new(alloc),
+        })
+    }
+
+    // One more step, or its first refusal.
+    fn add(
+        &mut self,
+        alloc: Global,
+        sides: &[SourceFiles],
+        number: u16,
+        step: Step,
+    ) -> Result<(), StepFault>
+        requires number { number ≡ length (stage_steps (stages_of self.old)) }
+        requires few { number + 1 ≤ MAX_STEPS }
+        ensures step { OnOk result (stage_steps (stages_of self.new) ≡ stage_steps (stages_of self.old) ++ plan_step_of step ∷ []) }
+        ensures leads { OnOk result ((main : Fields) → Leads (columns_of sides.now) 0 main (stages_of self.old) (columns_after self.old) → Leads (columns_of sides.now) 0 main (stages_of self.new) (columns_after self.new)) }
+        ensures refused { IfErr result (λ code. (judged_step (columns_of sides.now) (columns_after self.old) (plan_step_of step) ≡ Err code) ⊎ (code ≡ StepFault.Memory)) }
+    {
+        match step {
+            Step::Rows(step) if self.stages.is_empty() => {
+                self.after_leading = step.schema(alloc, &self.after_leading)?;
+                Ok(self.leading.push(step)?)
+            }
+            step => {
+                let (operator, after) = check_step(alloc, sides, number, self.schema(), step)?;
+                let stage = Stage {
+                    number,
+                    operator,
+                    after,
+                };
+                Ok(self.stages.push(stage)?)
+            }
+        }
+    }
+
+    // The columns after the steps.
+    fn schema(&self) -> &Schema
+        ensures { result.now ≡ columns_after self.now }
+    {
+        self.stages
+            .as_slice()
+            .last()
+            .map_or(&self.after_leading, |stage| &stage.after)
+    }
 }
 
 // The operator of a step on rows of a schema, and the schema after it; or the step's first refusal.
@@ -98,13 +119,13 @@ fn check_step(
     alloc: Global,
     sides: &[SourceFiles],
     number: u16,
-    schema: Schema,
+    schema: &Schema,
     step: Step,
 ) -> Result<(Operator, Schema), StepFault>
     requires { number + 1 ≤ MAX_STEPS }
     ensures step { IfOk result (λ r. operator_steps r.0 ≡ plan_step_of step ∷ []) }
-    ensures turns { IfOk result (λ r. LowersTo (columns_of sides.now) number schema r.0 r.1) }
-    ensures refused { IfErr result (λ code. (judged_step (columns_of sides.now) schema (plan_step_of step) ≡ Err code) ⊎ (code ≡ StepFault.Memory)) }
+    ensures turns { IfOk result (λ r. LowersTo (columns_of sides.now) number schema.now r.0 r.1) }
+    ensures refused { IfErr result (λ code. (judged_step (columns_of sides.now) schema.now (plan_step_of step) ≡ Err code) ⊎ (code ≡ StepFault.Memory)) }
 {
     match step {
         Step::Rows(step) => check_rows(alloc, number, schema, step),
@@ -113,14 +134,14 @@ fn check_step(
             on,
             how,
             nulls_equal,
-        } => check_join(alloc, sides, &schema, source, on, how, nulls_equal),
-        Step::GroupBy { keys, aggs } => check_grouping(alloc, &schema, keys, aggs),
+        } => check_join(alloc, sides, schema, source, on, how, nulls_equal),
+        Step::GroupBy { keys, aggs } => check_grouping(alloc, schema, keys, aggs),
         Step::RollingSum {
             column,
             window,
             min_samples,
             name,
-        } => check_rolling(alloc, &schema, column, window, min_samples, name),
+        } => check_rolling(alloc, schema, column, window, min_samples, name),
     }
 }
 
@@ -128,18 +149,18 @@ fn check_step(
 fn check_rows(
     alloc: Global,
     number: u16,
-    schema: Schema,
+    schema: &Schema,
     step: RowStep,
 ) -> Result<(Operator, Schema), StepFault>
     requires { number + 1 ≤ MAX_STEPS }
     ensures step { IfOk result (λ r. operator_steps r.0 ≡ row_wise (step_of step) ∷ []) }
-    ensures turns { IfOk result (λ r. (sides : List Fields) → LowersTo sides number schema r.0 r.1) }
-    ensures refused { IfErr result (λ code. (step_schema schema (step_of step) ≡ Err code) ⊎ (code ≡ StepFault.Memory)) }
+    ensures turns { IfOk result (λ r. (sides : List Fields) → LowersTo sides number schema.now r.0 r.1) }
+    ensures refused { IfErr result (λ code. (step_schema schema.now (step_of step) ≡ Err code) ⊎ (code ≡ StepFault.Memory)) }
 {
-    let after = step.schema(alloc, &schema)?;
+    let after = step.schema(alloc, schema)?;
     let mut steps = Vec::with_capacity(alloc, 1)?;
     steps.push(step)?;
-    let front = Front::new(alloc, steps, schema, number)?;
+    let front = Front::new(alloc, steps, schema.copy(alloc)?, number)?;
     Ok((Operator::Rows(front), after))
 }
 

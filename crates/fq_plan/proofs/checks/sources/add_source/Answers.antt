@@ -1,11 +1,12 @@
-use Rattle.std.proofs.Common.{◌∙◌, ap, sym, Some, inl}
+use Rattle.std.proofs.Common.{◌∙◌, ◌++◌, ◌∷◌, [], ap, map, sym, Some, inl}
+use Rattle.std.proofs.lemmas.List.{map-append}
 use Rattle.std.proofs.lemmas.Result.{err_from_is_err_and}
 use Rattle.fq_column.specs.Frame.{Fields}
 use Rattle.fq_column.specs.Refusal.{first_refusal}
 use Rattle.fq_column.specs.Schema.{schema_checks}
-use Rattle.fq_csv.specs.Sources.{Source}
+use Rattle.fq_csv.specs.Sources.{Source, source_of_files}
 use Rattle.fq_plan.proofs.CheckLemmas.{fields_of-columns, names_of-columns}
-use Rattle.fq_plan.proofs.checks.sources.check_source.Goals as goal
+use Rattle.fq_plan.proofs.checks.sources.add_source.Goals as goal
 
 pub returns-in_err-schema-clause-refused : goal.returns-in_err-schema-clause-refused
 returns-in_err-schema-clause-refused c =
@@ -14,7 +15,9 @@ returns-in_err-schema-clause-refused c =
 
 pub returns-clause-source : goal.returns-clause-source
 returns-clause-source c =
-    ap (λ (fields : Fields). let s : Source = record { files = c.args.source.files; fields = fields; nulls = c.args.source.nulls } in s)
+    ap (map source_of_files) c.in_ok-push.ensures.items
+    ∙ map-append source_of_files c.args.checked.now.items _
+    ∙ ap (λ (fields : Fields). let s : Source = record { files = c.args.source.files; fields = fields; nulls = c.args.source.nulls } in map source_of_files c.args.checked.now.items ++ (s ∷ []))
     (c.in_ok-schema.ensures.ok ∙ fields_of-columns c.args.source.columns.items _ _ c.in_ok-names.ensures.names c.in_ok-names.ensures.kinds)
 
 pub returns-clause-passed : goal.returns-clause-passed
