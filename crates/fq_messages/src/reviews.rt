@@ -92,11 +92,13 @@ fn check_file<O: Opener, E: Write>(
     }
 }
 
-/// What the data files draft. `DraftTooLarge` if a plan may not have as many files, sources or texts that are null.
-pub fn draft_of<O: Opener>(
+/// What the data files draft. `DraftTooLarge` if a plan may not have as many files, sources or texts that are null. If there is no draft,
+/// writes on `err` what is said of each file that was read.
+pub fn draft_of<O: Opener, E: Write>(
     alloc: Global,
     options: &Options<'_>,
     files: &mut O,
+    err: &mut E,
 ) -> Result<Draft, Failure>
     ensures failed { IfErr result (λ f. f ≢ failure.Run fault.Write) }
 {
@@ -105,13 +107,31 @@ pub fn draft_of<O: Opener>(
         return Err(Failure::DraftTooLarge);
     }
     let mut draft = Draft::new(alloc, null_values(alloc, options)?);
+    match draft_files(alloc, &mut draft, names, files) {
+        Ok(()) => Ok(draft),
+        Err(failure) => {
+            draft.write_file_notes(names, err);
+            Err(failure)
+        }
+    }
+}
+
+// Drafts the files of these names.
+fn draft_files<O: Opener>(
+    alloc: Global,
+    draft: &mut Draft,
+    names: &[&str],
+    files: &mut O,
+) -> Result<(), Failure>
+    ensures failed { IfErr result (λ f. f ≢ failure.Run fault.Write) }
+{
     for name in names {
-        draft_file(alloc, &mut draft, name, files)?;
+        draft_file(alloc, draft, name, files)?;
         if draft.sources() > MAX_SOURCES {
             return Err(Failure::DraftTooLarge);
         }
     }
-    Ok(draft)
+    Ok(())
 }
 
 // The texts that are null.

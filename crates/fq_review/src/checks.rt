@@ -10,7 +10,7 @@ ghost use Rattle.fq_places.specs.Marks.{HasMarks, IsSound, marks_of};
 ghost use Rattle.fq_places.specs.declared.marks.Mark.{Mark as MarkValue};
 ghost use Rattle.fq_review.specs.Checked.{are_rows, is_clean, is_flawless, is_row, layout_of, names_in};
 
-use crate::headers::{Header, has_names};
+use crate::headers::{Header, Separator, has_names};
 use crate::problems::{BadField, Problem, Width};
 use crate::tallies::Tally;
 use csv::ByteRecord;
@@ -207,6 +207,9 @@ impl Check {
         if !has_names(header, columns) {
             let differing = Header { header, columns };
             self.tell(file, line, Problem::Header(differing), err);
+        }
+        if let Some(separator) = Separator::of(header) {
+            let _ = writeln!(err, "{}:{line}: warning: {separator}", file.name);
         }
         header.len() == columns.len()
     }

@@ -9,8 +9,11 @@ mod drafts;
 mod guesses;
 mod headers;
 mod laws;
+mod null_options;
+mod notes;
 mod problems;
 mod tallies;
+mod texts;
 
 pub use checks::{Check, Expected};
 pub use drafts::{Draft, DraftFault};

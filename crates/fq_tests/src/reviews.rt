@@ -307,7 +307,7 @@ fn columns_that_are_nearly_ints(rt: HostRuntime) -> Result<(), Fail> {
         (
             0,
             "{\n  \"version\": 2,\n  \"sources\": [\n    {\n      \"files\": 1,\n      \"columns\": [\n        [\"v\", \"text\"],\n        [\"u\", \"text\"],\n        [\"s\", \"text\"]\n      ]\n    }\n  ],\n  \"steps\": []\n}\n",
-            "\"v\" is text: 19 ints, 1 other (first \"x\", line 20)\n\"u\" is text: 18 ints, 2 \"z\"\n\"s\" is text: 18 ints, 1 other (first \"1.5\", line 20)\n",
+            "\"v\" is text: 19 ints, 1 other (first \"x\", line 20)\n\"u\" is text: 18 ints, 2 \"z\"; --null-values z makes it an int\n\"s\" is text: 18 ints, 1 decimal to 1 place (first line 20)\n",
         ),
     )
 }
@@ -316,11 +316,14 @@ fn columns_that_are_nearly_ints(rt: HostRuntime) -> Result<(), Fail> {
 fn files_that_draft_nothing(rt: HostRuntime) -> Result<(), Fail> {
     for (file, said) in [
         ("", "frameq: file 0: no header\n"),
-        ("a,b,a\n", "frameq: file 0: name twice\n"),
+        (
+            "a,b,a\n",
+            "0:1: columns 0 and 2 are both \"a\"\nframeq: file 0: name twice\n",
+        ),
         ("\n\n", "frameq: file 0: no header\n"),
         (
             "c0,c1,c2,c3,c4,c5,c6,c7,c8,c9,c10,c11,c12,c13,c14,c15,c16,c17,c18,c19,c20,c21,c22,c23,c24,c25,c26,c27,c28,c29,c30,c31,c32,c33,c34,c35,c36,c37,c38,c39,c40,c41,c42,c43,c44,c45,c46,c47,c48,c49,c50,c51,c52,c53,c54,c55,c56,c57,c58,c59,c60,c61,c62,c63,c64\n",
-            "frameq: file 0: more than 64 columns\n",
+            "0:1: it has 65 columns\nframeq: file 0: more than 64 columns\n",
         ),
     ] {
         let files = &[file];
