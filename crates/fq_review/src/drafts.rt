@@ -17,7 +17,6 @@ use crate::headers::has_names;
 use crate::notes::{CONVERSION, FileNote, Note, notes_of};
 use crate::null_options::NullOption;
 use crate::problems::wanted;
-use crate::tallies::Seen;
 use csv::ByteRecord;
 use fq_column::{Kind, MAX_COLUMNS, Memory, has_double};
 use fq_csv::{NullValues, kind_word};
@@ -199,10 +198,8 @@ impl Draft {
         ensures nulls { self.new.nulls ≡ self.old.nulls }
         ensures sources { self.new.sources ≡ self.old.sources }
     {
-        for note in notes_of(self.alloc, header)? {
-            self.notes.push(FileNote { file, line, note })?;
-        }
-        Ok(())
+        let (alloc, notes) = (self.alloc, &mut self.notes);
+        keep_notes(alloc, notes, file, line, header)
     }
 
     // Keeps what is to be said of the flaws that show where a file ends.
@@ -210,13 +207,7 @@ impl Draft {
         ensures nulls { self.new.nulls ≡ self.old.nulls }
         ensures sources { self.new.sources ≡ self.old.sources }
     {
-        for mark in flaws {
-            if mark.flaw == Some(Flaw::OpenQuote) {
-                let (line, note) = (mark.line, Note::OpenQuote);
-                self.notes.push(FileNote { file, line, note })?;
-            }
-        }
-        Ok(())
+        keep_open_quotes(&mut self.notes, file, flaws)
     }
 
     // Takes the rows that are left of a file of this number.
@@ -367,13 +358,38 @@ impl Draft {
     }
 }
 
+// Adds to notes on which line of a file a quote opens that is not closed, if that is one of these flaws.
+fn keep_open_quotes(notes: &mut Vec<FileNote>, file: u16, flaws: &[Mark]) -> Result<(), Memory> {
+    for mark in flaws {
+        if mark.flaw == Some(Flaw::OpenQuote) {
+            let (line, note) = (mark.line, Note::OpenQuote);
+            notes.push(FileNote { file, line, note })?;
+        }
+    }
+    Ok(())
+}
+
+// Adds to notes what is to be said of a file with this header.
+fn keep_notes(
+    alloc: Global,
+    notes: &mut Vec<FileNote>,
+    file: u16,
+    line: u64,
+    header: &ByteRecord,
+) -> Result<(), Memory> {
+    for note in notes_of(alloc, header)? {
+        notes.push(FileNote { file, line, note })?;
+    }
+    Ok(())
+}
+
 // Writes which field of a source is the first that is not valid UTF-8, and how many others are not.
 fn write_unreadable<E: Write>(source: &Source, names: &[&str], err: &mut E) -> Option<()> {
     let (mut fields, mut first) = (0u64, None);
     for column in &source.columns {
-        if let Some(Seen { count, first: place }) = column.1.unreadable() {
-            fields = fields.saturating_add(count);
-            first = Some(first.map_or(place, |before: (u16, u64)| before.min(place)));
+        if let Some(seen) = column.1.unreadable() {
+            fields = fields.saturating_add(seen.count);
+            first = Some(first.map_or(seen.first, |before: (u16, u64)| before.min(seen.first)));
         }
     }
     let (file, line) = first?;

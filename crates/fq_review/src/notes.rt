@@ -7,13 +7,11 @@ use fq_column::{MAX_COLUMNS, Memory};
 use fq_csv::whole;
 use fq_places::{Flaw, Quoted};
 use std::alloc::Global;
-use std::fmt;
 use std::fmt::{Display, Formatter, Write};
-use std::str;
+use std::{fmt, str};
 
 /// How a file in another encoding becomes one that is read.
-pub const CONVERSION: &str =
-    "if the file is in Latin-1, iconv -f LATIN1 -t UTF-8 converts it";
+pub const CONVERSION: &str = "if the file is in Latin-1, iconv -f LATIN1 -t UTF-8 converts it";
 
 /// What a reader of a plan may want to know of a file.
 #[derive(Drop)]
@@ -51,7 +49,10 @@ impl Display for Note {
             Note::Columns(columns) => write!(f, "it has {columns} columns"),
             Note::BadName(column, name) => {
                 let name = Quoted(name.as_slice());
-                write!(f, "column {column} is {name}, not valid UTF-8: {CONVERSION}")
+                write!(
+                    f,
+                    "column {column} is {name}, not valid UTF-8: {CONVERSION}"
+                )
             }
             Note::DoubleName(first, second, name) => {
                 let name = Quoted(name.as_slice());
@@ -85,20 +86,20 @@ pub fn notes_of(alloc: Global, header: &ByteRecord) -> Result<Vec<Note>, Memory>
 fn other_format(start: &[u8]) -> Option<&'static str> {
     match start {
         [0x1F, 0x8B, ..] => Some("it is compressed by gzip: gzip -dc unpacks it"),
-        [b'P', b'K', 3, 4, ..] =>
-            Some("it is a ZIP archive: unpack it, or if it is a spreadsheet, save it as CSV"),
+        [b'P', b'K', 3, 4, ..] => Some(
+            "it is a ZIP archive: unpack it, or if it is a spreadsheet, save it as CSV",
+        ),
         [0xD0, 0xCF, 0x11, 0xE0, ..] => Some("it is a spreadsheet: save it as CSV"),
-        [0xFE, 0xFF, ..] | [0xFF, 0xFE, ..] =>
-            Some("it is in UTF-16: iconv -f UTF-16 -t UTF-8 converts it"),
+        [0xFE, 0xFF, ..] | [0xFF, 0xFE, ..] => Some(
+            "it is in UTF-16: iconv -f UTF-16 -t UTF-8 converts it",
+        ),
         _ => None,
     }
 }
 
 // Whether each field of a header is a number.
 fn are_numbers(header: &ByteRecord) -> bool {
-    header
-        .iter()
-        .all(|name| whole(name).is_some() || decimal_places(name).is_some())
+    header.iter().all(|name| whole(name).is_some() || decimal_places(name).is_some())
 }
 
 // Why a header is refused, if it is.
