@@ -36,6 +36,7 @@ pub fn check_files<O: Opener, E: Write>(
             number = number.saturating_add(1);
         }
     }
+    write_orders(alloc, plan, options.plan().unwrap_or_default(), &check, err)?;
     if check.problems() == 0 {
         return Ok(());
     }
@@ -52,6 +53,25 @@ fn write_warnings<E: Write>(
 ) -> Result<(), Memory> {
     for found in plan.constant_comparisons(alloc)? {
         let _ = writeln!(err, "{name}: warning: {found}");
+    }
+    Ok(())
+}
+
+// Writes each step of a plan that orders the texts of a column whose fields in these files are numbers.
+fn write_orders<E: Write>(
+    alloc: Global,
+    plan: &Plan,
+    name: &str,
+    check: &Check,
+    err: &mut E,
+) -> Result<(), Memory> {
+    for order in plan.text_orders(alloc)? {
+        let before = plan.sources().iter().take(order.source());
+        let first = before.map(|source| usize::from(source.files())).sum();
+        let files = plan.sources().get(order.source()).map_or(0, Source::files);
+        if check.has_only_numbers(first, usize::from(files), order.column()) {
+            let _ = writeln!(err, "{name}: warning: {order}, but its fields are numbers");
+        }
     }
     Ok(())
 }

@@ -11,6 +11,7 @@ mod headers;
 mod laws;
 mod notes;
 mod null_options;
+mod numbers;
 mod problems;
 mod tallies;
 mod texts;

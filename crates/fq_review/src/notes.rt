@@ -1,10 +1,9 @@
 //! What is said of a file as a whole.
 use crate::headers::Separator;
+use crate::numbers::is_number;
 use crate::problems::Problem;
-use crate::texts::decimal_places;
 use csv::ByteRecord;
 use fq_column::{MAX_COLUMNS, Memory};
-use fq_csv::whole;
 use fq_places::{Flaw, Quoted};
 use std::alloc::Global;
 use std::fmt::{Display, Formatter, Write};
@@ -99,7 +98,7 @@ fn other_format(start: &[u8]) -> Option<&'static str> {
 
 // Whether each field of a header is a number.
 fn are_numbers(header: &ByteRecord) -> bool {
-    header.iter().all(|name| whole(name).is_some() || decimal_places(name).is_some())
+    header.iter().all(is_number)
 }
 
 // Why a header is refused, if it is.

@@ -14,6 +14,10 @@ const TWO_INTS: &str =
 const CONSTANTS: &str =
     r#"{"version":2,"sources":[{"files":1,"columns":[["id","int"],["t","text"]]},{"files":2,"columns":[["id","int"],["ok","bool"]],"null_values":["?"]}],"steps":[{"filter":["eq","ok","true"]},{"with_columns":[["x",["add",1,2]],["y",["and",["lt",1,{"null":"int"}],["ge",{"col":"id"},0]]]]},{"filter":["is_null",["ne",true,false]]}]}"#;
 
+/// A plan whose steps order texts: of `price` and `v` of both sources, and of `name`.
+const ORDERS: &str =
+    r#"{"version":2,"sources":[{"files":1,"columns":[["k","int"],["price","text"],["v","text"]]},{"files":2,"columns":[["k","int"],["price","text"],["name","text"]],"null_values":["NA"]}],"steps":[{"join":{"source":0,"on":["k"],"how":"left"}},{"filter":["and",["ge",{"col":"price"},"5"],["lt","a",{"col":"name"}]]},{"with_columns":[["p",{"col":"price_right"}],["price",1],["n",{"col":"name"}]]},{"filter":["le",{"col":"price"},3]},{"group_by":{"keys":["n"],"aggs":[["m","max","p"],["low","min","price"],["v","last","v"]]}},{"select":[["m",{"col":"m"}],["v",{"col":"v"}]]},{"filter":["gt",{"col":"v"},{"col":"m"}]}]}"#;
+
 /// A file, the exit status of its check by the plan of two whole numbers, and what is said.
 type Row = (&'static str, u8, &'static str);
 
@@ -236,6 +240,48 @@ fn comparisons_of_constants(rt: HostRuntime) -> Result<(), Fail> {
             0,
             "",
             "plan: warning: step 0: [\"eq\", \"ok\", \"true\"] compares two constants; a column is {\"col\": \"ok\"}\nplan: warning: step 1: [\"lt\", 1, {\"null\": \"int\"}] compares two constants\nplan: warning: step 2: [\"ne\", true, false] compares two constants\n",
+        ),
+    )
+}
+
+#[test]
+fn orders_of_numbers_that_are_texts(rt: HostRuntime) -> Result<(), Fail> {
+    writes_by(
+        &rt,
+        rt.alloc(),
+        "--plan plan --check 0 1 2",
+        ORDERS,
+        &[
+            "k,price,v\n1,10,7\n2,9.5,8\n",
+            "k,price,name\n1,3,x\n",
+            "k,price,name\n2,NA,y\n4,-1,\n",
+        ],
+        "",
+        (
+            0,
+            "",
+            "plan: warning: step 1: \"ge\" compares \"price\" as texts, but its fields are numbers\nplan: warning: step 4: \"max\" compares \"price\" as texts, but its fields are numbers\nplan: warning: step 6: \"gt\" compares \"v\" as texts, but its fields are numbers\nplan: warning: step 6: \"gt\" compares \"price\" as texts, but its fields are numbers\n",
+        ),
+    )
+}
+
+#[test]
+fn orders_of_other_texts(rt: HostRuntime) -> Result<(), Fail> {
+    writes_by(
+        &rt,
+        rt.alloc(),
+        "--plan plan --check 0 1 2",
+        ORDERS,
+        &[
+            "k,price,v\n",
+            "k,price,name\n1,3,7\n",
+            "k,price,name\n2,n/a,y\n3,8\n",
+        ],
+        "",
+        (
+            4,
+            "",
+            "2:3: 2 fields, the header has 3\n1 row of another width\nframeq: the files have problems\n",
         ),
     )
 }
