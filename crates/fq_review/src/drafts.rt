@@ -401,15 +401,18 @@ fn write_unreadable<E: Write>(source: &Source, names: &[&str], err: &mut E) -> O
     writeln!(err, ": {CONVERSION}").ok()
 }
 
-// Writes which row of a source is left out first, and how many others are.
+// Writes which row of a source is left out first, how many others are, and whether none is left that says anything of a column.
 fn write_left_out<E: Write>(source: &Source, names: &[&str], err: &mut E) -> Option<()> {
     let (rows, (file, line)) = source.left_out?;
     let name = names.get(usize::from(file))?;
     write!(err, "{name}:{line}: a row of another width is left out").ok()?;
-    match rows {
-        1 => writeln!(err, "").ok(),
-        _ => writeln!(err, ", and {} more", rows.saturating_sub(1)).ok(),
+    if rows > 1 {
+        write!(err, ", and {} more", rows.saturating_sub(1)).ok()?;
     }
+    if source.columns.iter().all(|column| column.1.is_empty()) {
+        err.write_all(b": no field is left").ok()?;
+    }
+    writeln!(err, "").ok()
 }
 
 // Writes that two sources have one header.

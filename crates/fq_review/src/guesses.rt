@@ -106,6 +106,11 @@ impl Guess {
         is_text && most > 0 && (are_few || self.lone_text().is_some())
     }
 
+    /// Whether no field was counted.
+    pub fn is_empty(&self) -> bool {
+        self.total() == 0
+    }
+
     // How many fields there are.
     fn total(&self) -> u64 {
         let texts = self.texts.total();

@@ -1,4 +1,5 @@
 use Rattle.std.proofs.Common.{◌∙◌, ◌++◌, ◌∷◌, [], List, ap, reverse, subst, sym}
+use Rattle.csv.specs.Reading.{default_config, records, strip_bom}
 use Rattle.csv.specs.Records.{fields_of}
 use Rattle.fq_csv.specs.File.{Record}
 use Rattle.fq_review.specs.Drafted.{AreSourcesOf, HasTaken}
@@ -22,5 +23,5 @@ returns-clause-sources g c bytes reads marks files are =
     (c.in_ok-take_rows.ensures.taken here.0 next.0 here.2 next.1 before) in
     let began = subst (λ ns. AreSourcesOf ns (front ++ source ∷ []) (files ++ (header ∷ []) ∷ [])) same-nulls (c.in_ok-source.ensures.sources files sources-before) in
     let all = with-rows nulls front source longer files header here.0 began c.in_ok-take_rows.ensures.files c.in_ok-take_rows.ensures.names taken in
-    subst (λ ss. AreSourcesOf nulls (ss ++ longer ∷ []) _) (sym (ap (λ (v : _). v.items) c.in_ok-note_flaws.ensures.sources))
+    subst (λ ss. AreSourcesOf nulls (ss ++ longer ∷ []) (files ++ records default_config (strip_bom bytes) ∷ [])) (sym (ap (λ (v : _). v.items) c.in_ok-note_flaws.ensures.sources))
     (subst (λ rs. AreSourcesOf nulls (front ++ longer ∷ []) (files ++ rs ∷ [])) (sym here.1) all)
