@@ -39,6 +39,7 @@ pub fn check_files<O: Opener, E: Write>(
     write_warnings(alloc, plan, options.plan().unwrap_or_default(), err)?;
     let mut check = Check::new(alloc, options.limit());
     read_files(alloc, plan, options.files(), &mut check, files, err)?;
+    write_orders(alloc, plan, options.plan().unwrap_or_default(), &check, err)?;
     if check.problems() == 0 {
         return Ok(());
     }
@@ -80,6 +81,25 @@ fn read_files<O: Opener, E: Write>(
         };
         check_file(alloc, check, source, number, name, files, err)?;
         number += 1;
+    }
+    Ok(())
+}
+
+// Writes each step of a plan that orders the texts of a column whose fields in these files are numbers.
+fn write_orders<E: Write>(
+    alloc: Global,
+    plan: &Plan,
+    name: &str,
+    check: &Check,
+    err: &mut E,
+) -> Result<(), Memory> {
+    for order in plan.text_orders(alloc)? {
+        let before = plan.sources().iter().take(order.source());
+        let first = before.map(|source| usize::from(source.files())).sum();
+        let files = plan.sources().get(order.source()).map_or(0, Source::files);
+        if check.has_only_numbers(first, usize::from(files), order.column()) {
+            let _ = writeln!(err, "{name}: warning: {order}, but its fields are numbers");
+        }
     }
     Ok(())
 }
@@ -133,11 +153,13 @@ fn answer_to(read: Result<(), Unread>, failure: Failure) -> Result<(), Failure>
     }
 }
 
-/// What the data files draft. `DraftTooLarge` if a plan may not have as many files, sources or texts that are null.
-pub fn draft_of<O: Opener>(
+/// What the data files draft. `DraftTooLarge` if a plan may not have as many files, sources or texts that are null. If there is no draft,
+/// writes on `err` what is said of each file that was read.
+pub fn draft_of<O: Opener, E: Write>(
     alloc: Global,
     options: &Options<'_>,
     files: &mut O,
+    err: &mut E,
 ) -> Result<Draft, Failure>
     ensures failed { IfErr result (λ f. f ≢ failure.Run fault.Write) }
 {
@@ -146,13 +168,31 @@ pub fn draft_of<O: Opener>(
         return Err(Failure::DraftTooLarge);
     }
     let mut draft = Draft::new(alloc, null_values(alloc, options)?);
+    match draft_files(alloc, &mut draft, names, files) {
+        Ok(()) => Ok(draft),
+        Err(failure) => {
+            draft.write_file_notes(names, err);
+            Err(failure)
+        }
+    }
+}
+
+// Drafts the files of these names.
+fn draft_files<O: Opener>(
+    alloc: Global,
+    draft: &mut Draft,
+    names: &[&str],
+    files: &mut O,
+) -> Result<(), Failure>
+    ensures failed { IfErr result (λ f. f ≢ failure.Run fault.Write) }
+{
     for name in names {
-        draft_file(alloc, &mut draft, name, files)?;
+        draft_file(alloc, draft, name, files)?;
         if draft.sources() > MAX_SOURCES {
             return Err(Failure::DraftTooLarge);
         }
     }
-    Ok(draft)
+    Ok(())
 }
 
 // The texts that are null.

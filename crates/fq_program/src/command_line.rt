@@ -323,7 +323,7 @@ fn draft_plan<O: Opener, W: Write, E: Write>(
     ensures unwritten { IfErr result (λ f. f ≢ failure.Run fault.Write → Keeps (W.contents out.old) (W.contents out.new)) }
 {
     let names = options.files();
-    let draft = draft_of(alloc, options, files)?;
+    let draft = draft_of(alloc, options, files, err)?;
     draft.write_notes(names, err);
     let text = draft.plan()?;
     checked_plan(alloc, text.as_bytes())?;

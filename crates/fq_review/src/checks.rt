@@ -10,7 +10,8 @@ ghost use Rattle.fq_places.specs.Marks.{HasMarks, IsSound, marks_of};
 ghost use Rattle.fq_places.specs.declared.marks.Mark.{Mark as MarkValue};
 ghost use Rattle.fq_review.specs.Checked.{are_rows, is_clean, is_flawless, is_row, layout_of, names_in};
 
-use crate::headers::{Header, has_names};
+use crate::headers::{Header, Separator, has_names};
+use crate::numbers::Numbers;
 use crate::problems::{BadField, Problem, Width};
 use crate::tallies::Tally;
 use csv::ByteRecord;
@@ -42,6 +43,8 @@ pub struct Check {
     long: u64,
     flaws: u64,
     fields: Vec<ColumnFields>,
+    // of each file, in the order in which they were read
+    numbers: Vec<Numbers>,
 }
 
 // The bad fields of a column.
@@ -73,6 +76,7 @@ impl Check {
             long: 0,
             flaws: 0,
             fields: Vec::new(alloc),
+            numbers: Vec::new(alloc),
         }
     }
 
@@ -107,8 +111,18 @@ impl Check {
             name,
             expected,
         };
+        self.begin_numbers(expected.columns)?;
         let mut records = LinedRecords::new(self.alloc, records, marks)?;
         self.judge_file(file, &mut records, err)
+    }
+
+    // Begins to count the numbers of a file with these columns.
+    fn begin_numbers(&mut self, columns: &[(String, Kind)]) -> Result<(), Memory>
+        ensures { self.new.problems ≡ self.old.problems }
+    {
+        let numbers = Numbers::of(self.alloc, columns)?;
+        self.numbers.push(numbers)?;
+        Ok(())
     }
 
     // Judges the records of a file.
@@ -208,11 +222,32 @@ impl Check {
             let differing = Header { header, columns };
             self.tell(file, line, Problem::Header(differing), err);
         }
+        if let Some(separator) = Separator::of(header) {
+            let _ = writeln!(err, "{}:{line}: warning: {separator}", file.name);
+        }
         header.len() == columns.len()
     }
 
-    // Judges a row of a file.
+    // Judges a row of a file, and counts its numbers.
     fn judge_row<E: Write>(
+        &mut self,
+        file: File<'_>,
+        line: u64,
+        row: &ByteRecord,
+        err: &mut E,
+    ) -> Result<(), Memory>
+        ensures { OnOk result ((self.new.problems == 0) ≡ ((self.old.problems == 0)
+            && is_row (layout_of file.entry.expected.columns.now file.entry.expected.nulls.now) (fields_of row.now))) }
+    {
+        self.judge_fields(file, line, row, err)?;
+        if let Some(numbers) = self.numbers.last_mut() {
+            numbers.take_row(row, file.expected.nulls);
+        }
+        Ok(())
+    }
+
+    // Judges the fields of a row of a file.
+    fn judge_fields<E: Write>(
         &mut self,
         file: File<'_>,
         line: u64,
@@ -283,6 +318,19 @@ impl Check {
         let name = String::from_str(self.alloc, column)?;
         self.fields.push(ColumnFields { name, texts })?;
         Ok(())
+    }
+
+    /// Whether a column of text has only numbers in so many files from this one on, counted in the order in which they were read: it has
+    /// some, and each of its fields is one that is not null and not in a row of another width.
+    pub fn has_only_numbers(&self, first: usize, files: usize, column: usize) -> bool {
+        let mut total = 0u64;
+        for numbers in self.numbers.iter().skip(first).take(files) {
+            match numbers.count(column) {
+                Some(count) => total = total.saturating_add(count),
+                None => return false,
+            }
+        }
+        total > 0
     }
 
     /// Writes how many problems of each sort there are, and the texts of the bad fields of each column. A failed write changes nothing.

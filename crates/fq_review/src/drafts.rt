@@ -14,10 +14,13 @@ ghost use Rattle.fq_review.specs.declared.drafts.Source.{Source as SourceValue};
 
 use crate::guesses::Guess;
 use crate::headers::has_names;
+use crate::notes::{CONVERSION, FileNote, Note, notes_of};
+use crate::null_options::NullOption;
+use crate::problems::wanted;
 use csv::ByteRecord;
-use fq_column::{MAX_COLUMNS, Memory, has_double};
+use fq_column::{Kind, MAX_COLUMNS, Memory, has_double};
 use fq_csv::{NullValues, kind_word};
-use fq_places::{LinedRecords, Quoted, Unread};
+use fq_places::{Flaw, LinedRecords, Mark, Quoted, Unread};
 use serde_json::to_string;
 use std::alloc::{AllocError, AllocFailed, Global};
 use std::fmt::Write as _;
@@ -74,6 +77,7 @@ pub struct Draft {
     nulls: NullValues,
     files: u16,
     sources: Vec<Source>,
+    notes: Vec<FileNote>,
 }
 
 // Files with one header.
@@ -132,6 +136,7 @@ impl Draft {
             nulls,
             files: 0,
             sources: Vec::new(alloc),
+            notes: Vec::new(alloc),
         }
     }
 
@@ -178,12 +183,31 @@ impl Draft {
             Ok(records) => records,
             Err(cause) => return Err(fault_of(file, cause)),
         };
-        if next_line(file, &mut records)?.is_none() {
+        let Some(line) = next_line(file, &mut records)? else {
             return Err(DraftFault::NoHeader { file });
-        }
+        };
+        self.note_header(file, line, &records.row)?;
         let mut source = self.take_source(file, &records.row)?;
         self.take_rows(file, &mut source, &mut records)?;
+        self.note_flaws(file, records.flaws.as_slice())?;
         Ok(source)
+    }
+
+    // Keeps what is to be said of a file with this header.
+    fn note_header(&mut self, file: u16, line: u64, header: &ByteRecord) -> Result<(), Memory>
+        ensures nulls { self.new.nulls ≡ self.old.nulls }
+        ensures sources { self.new.sources ≡ self.old.sources }
+    {
+        let (alloc, notes) = (self.alloc, &mut self.notes);
+        keep_notes(alloc, notes, file, line, header)
+    }
+
+    // Keeps what is to be said of the flaws that show where a file ends.
+    fn note_flaws(&mut self, file: u16, flaws: &[Mark]) -> Result<(), Memory>
+        ensures nulls { self.new.nulls ≡ self.old.nulls }
+        ensures sources { self.new.sources ≡ self.old.sources }
+    {
+        keep_open_quotes(&mut self.notes, file, flaws)
     }
 
     // Takes the rows that are left of a file of this number.
@@ -281,11 +305,14 @@ impl Draft {
         Ok(())
     }
 
-    /// Writes what a reader of the plan may want to know: each column that is a text for few of its fields alone, the first row of another
-    /// width and how many others are left out, and which sources have one header. A failed write changes nothing.
+    /// Writes what a reader of the plan may want to know: what is said of each file, and then of each source: each column that is a text
+    /// and nearly something else, the first field that is not valid UTF-8, the first row of another width and how many others are left
+    /// out, and which earlier source has the same header. A failed write changes nothing.
     pub fn write_notes<E: Write>(&self, names: &[&str], err: &mut E) {
+        self.write_file_notes(names, err);
         for (number, source) in self.sources.iter().enumerate() {
-            let _ = write_guesses(source, names, err);
+            let _ = self.write_guesses(source, names, err);
+            let _ = write_unreadable(source, names, err);
             let _ = write_left_out(source, names, err);
             let others = self.sources.iter().take(number);
             if let Some(other) = others.rev().find(|other| other.is_like(source)) {
@@ -293,29 +320,99 @@ impl Draft {
             }
         }
     }
-}
 
-// Writes each column of a source that is a text for few of its fields alone.
-fn write_guesses<E: Write>(source: &Source, names: &[&str], err: &mut E) -> Option<()> {
-    for column in &source.columns {
-        if column.1.is_nearly_other() {
-            write!(err, "{} is text: ", Quoted(column.0.as_bytes())).ok()?;
-            column.1.write(names, err)?;
-            writeln!(err, "").ok()?;
+    /// Writes what is said of each file, and what there is to say also if a file is refused. A failed write changes nothing.
+    pub fn write_file_notes<E: Write>(&self, names: &[&str], err: &mut E) {
+        for it in &self.notes {
+            if let Some(name) = names.get(usize::from(it.file)) {
+                let _ = writeln!(err, "{name}:{}: {}", it.line, it.note);
+            }
         }
     }
-    Some(())
+
+    // Writes each column of a source that is a text and nearly something else.
+    fn write_guesses<E: Write>(&self, source: &Source, names: &[&str], err: &mut E) -> Option<()> {
+        for column in &source.columns {
+            if column.1.is_notable() {
+                write!(err, "{} is text: ", Quoted(column.0.as_bytes())).ok()?;
+                column.1.write(names, err)?;
+                self.write_null_option(&column.1, err)?;
+                writeln!(err, "").ok()?;
+            }
+        }
+        Some(())
+    }
+
+    // Writes which option makes null what alone is not as the other fields of a column are.
+    fn write_null_option<E: Write>(&self, column: &Guess, err: &mut E) -> Option<()> {
+        let Some((text, kind)) = column.null_text() else {
+            return Some(());
+        };
+        let Some(option) = NullOption::of(&self.nulls, text) else {
+            return Some(());
+        };
+        match kind {
+            Kind::Text => write!(err, "; {option} makes these null").ok(),
+            _ => write!(err, "; {option} makes it {}", wanted(kind)).ok(),
+        }
+    }
 }
 
-// Writes which row of a source is left out first, and how many others are.
+// Adds to notes on which line of a file a quote opens that is not closed, if that is one of these flaws.
+fn keep_open_quotes(notes: &mut Vec<FileNote>, file: u16, flaws: &[Mark]) -> Result<(), Memory> {
+    for mark in flaws {
+        if mark.flaw == Some(Flaw::OpenQuote) {
+            let (line, note) = (mark.line, Note::OpenQuote);
+            notes.push(FileNote { file, line, note })?;
+        }
+    }
+    Ok(())
+}
+
+// Adds to notes what is to be said of a file with this header.
+fn keep_notes(
+    alloc: Global,
+    notes: &mut Vec<FileNote>,
+    file: u16,
+    line: u64,
+    header: &ByteRecord,
+) -> Result<(), Memory> {
+    for note in notes_of(alloc, header)? {
+        notes.push(FileNote { file, line, note })?;
+    }
+    Ok(())
+}
+
+// Writes which field of a source is the first that is not valid UTF-8, and how many others are not.
+fn write_unreadable<E: Write>(source: &Source, names: &[&str], err: &mut E) -> Option<()> {
+    let (mut fields, mut first) = (0u64, None);
+    for column in &source.columns {
+        if let Some(seen) = column.1.unreadable() {
+            fields = fields.saturating_add(seen.count);
+            first = Some(first.map_or(seen.first, |before: (u16, u64)| before.min(seen.first)));
+        }
+    }
+    let (file, line) = first?;
+    let name = names.get(usize::from(file))?;
+    write!(err, "{name}:{line}: a field is not valid UTF-8").ok()?;
+    if fields > 1 {
+        write!(err, ", and {} more", fields.saturating_sub(1)).ok()?;
+    }
+    writeln!(err, ": {CONVERSION}").ok()
+}
+
+// Writes which row of a source is left out first, how many others are, and whether none is left that says anything of a column.
 fn write_left_out<E: Write>(source: &Source, names: &[&str], err: &mut E) -> Option<()> {
     let (rows, (file, line)) = source.left_out?;
     let name = names.get(usize::from(file))?;
     write!(err, "{name}:{line}: a row of another width is left out").ok()?;
-    match rows {
-        1 => writeln!(err, "").ok(),
-        _ => writeln!(err, ", and {} more", rows.saturating_sub(1)).ok(),
+    if rows > 1 {
+        write!(err, ", and {} more", rows.saturating_sub(1)).ok()?;
     }
+    if source.columns.iter().all(|column| column.1.is_empty()) {
+        err.write_all(b": no field is left").ok()?;
+    }
+    writeln!(err, "").ok()
 }
 
 // Writes that two sources have one header.

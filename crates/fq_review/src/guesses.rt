@@ -3,12 +3,15 @@ ghost use Rattle.std.specs.Prelude.{◌≡◌, ◌∷◌, [], ℕ, List, OnOk, S
 ghost use Rattle.fq_review.specs.Drafted.{HasCounted, drafted_kind, is_int, kind_alone};
 ghost use Rattle.fq_csv.specs.Field.{is_null};
 
-use crate::tallies::Tally;
+use crate::tallies::Seen;
+use crate::texts::Texts;
 use fq_column::{Kind, Memory};
 use fq_csv::{NullValues, is_null, truth, whole};
 use fq_places::Quoted;
 use itoa::Buffer;
 use std::alloc::Global;
+use std::fmt;
+use std::fmt::{Display, Formatter};
 use std::io::Write;
 
 /// Of how many fields one may be a text in a column that is nearly of another kind.
@@ -42,7 +45,7 @@ fn kind_alone(field: &[u8]) -> Kind
 pub struct Guess {
     ints: u64,
     bools: u64,
-    texts: Tally,
+    texts: Texts,
 }
 
 impl Guess {
@@ -53,7 +56,7 @@ impl Guess {
         Guess {
             ints: 0,
             bools: 0,
-            texts: Tally::new(alloc),
+            texts: Texts::new(alloc),
         }
     }
 
@@ -89,57 +92,171 @@ impl Guess {
         }
     }
 
-    /// Whether the column is a text for a tenth of its fields or fewer.
-    pub fn is_nearly_other(&self) -> bool {
-        let most = self.ints.max(self.bools);
-        let least = self.ints.min(self.bools);
-        let others = least.saturating_add(self.texts.total());
-        most > 0 && others > 0 && others.saturating_mul(NEARLY) <= most.saturating_add(others)
+    /// The texts that are not valid UTF-8, if there are any.
+    pub fn unreadable(&self) -> Option<Seen> {
+        self.texts.unreadable()
     }
 
-    /// Writes what the fields are: `48740 ints, 248 "N/A", 29 others (first "85.3", line 195)`. Files are named if there are more than one.
+    /// Whether the column is a text whose fields are decimals, dates, or nearly all of one sort: numbers, bools or dates. Nearly all are
+    /// nine tenths, or all but one text that occurs more than once.
+    pub fn is_notable(&self) -> bool {
+        let (most, others) = (self.most(), self.others());
+        let is_text = matches!(self.kind(), Kind::Text);
+        let are_few = others.saturating_mul(NEARLY) <= self.total();
+        is_text && most > 0 && (are_few || self.lone_text().is_some())
+    }
+
+    /// Whether no field was counted.
+    pub fn is_empty(&self) -> bool {
+        self.total() == 0
+    }
+
+    // How many fields there are.
+    fn total(&self) -> u64 {
+        let texts = self.texts.total();
+        self.ints.saturating_add(self.bools).saturating_add(texts)
+    }
+
+    // How many fields are of the sort that most are of: numbers, bools or dates.
+    fn most(&self) -> u64 {
+        let numbers = self.ints.saturating_add(count_of(self.texts.decimals()));
+        numbers.max(self.bools).max(count_of(self.texts.dates()))
+    }
+
+    // How many fields are of no such sort.
+    fn others(&self) -> u64 {
+        self.total().saturating_sub(self.most())
+    }
+
+    // The text that all others are, if it occurs more than once.
+    fn lone_text(&self) -> Option<&[u8]> {
+        let (text, seen) = self.texts.others().text(0)?;
+        (seen.count > 1 && seen.count == self.others()).then_some(text)
+    }
+
+    /// The text that all fields are but those of the sort that most are of, if it occurs more than once, and the kind of the column where
+    /// it is null.
+    pub fn null_text(&self) -> Option<(&[u8], Kind)> {
+        let text = self.lone_text()?;
+        let forms = count_of(self.texts.decimals()).max(count_of(self.texts.dates()));
+        let kind = match (self.ints, forms) {
+            (_, 1..) => Kind::Text,
+            (1.., _) => Kind::Whole,
+            _ => Kind::Truth,
+        };
+        Some((text, kind))
+    }
+
+    /// Writes what the fields are: `48740 ints, 248 "N/A", 29 others (first "85,3", line 195)`. Files are named if there are more than one.
     pub fn write<E: Write>(&self, names: &[&str], err: &mut E) -> Option<()> {
         let mut comma = "";
-        for (count, word) in [(self.ints, "int"), (self.bools, "bool")] {
-            if count > 0 {
-                let plural = if count == 1 { "" } else { "s" };
-                write!(err, "{comma}{count} {word}{plural}").ok()?;
-                comma = ", ";
-            }
+        for (count, noun) in [(self.ints, "int"), (self.bools, "bool")] {
+            write_part(&mut comma, count, noun, err)?;
         }
-        let mut others = self.texts.total();
+        if let Some(decimals) = self.texts.decimals() {
+            let places = self.texts.places();
+            let plural = if places == 1 { "" } else { "s" };
+            write_part(&mut comma, decimals.count, "decimal", err)?;
+            write!(err, " to {places} place{plural}").ok()?;
+            self.write_few(decimals, names, err)?;
+        }
+        if let Some(dates) = self.texts.dates() {
+            write_part(&mut comma, dates.count, "date", err)?;
+            self.write_few(dates, names, err)?;
+        }
+        self.write_others(comma, names, err)
+    }
+
+    // Writes the place of the first of these fields, if they are a tenth or fewer.
+    fn write_few<E: Write>(&self, seen: Seen, names: &[&str], err: &mut E) -> Option<()> {
+        if seen.count.saturating_mul(NEARLY) > self.total() {
+            return Some(());
+        }
+        let place = Place::of(seen.first, names);
+        write!(err, " (first {place})").ok()
+    }
+
+    // Writes the text that occurs most often, and how many others there are.
+    fn write_others<E: Write>(
+        &self,
+        mut comma: &'static str,
+        names: &[&str],
+        err: &mut E,
+    ) -> Option<()> {
+        let texts = self.texts.others();
+        let mut others = texts.total();
         let most = self.most_frequent();
-        if let Some((text, seen)) = most.and_then(|most| self.texts.text(most)) {
+        if let Some((text, seen)) = most.and_then(|most| texts.text(most)) {
             write!(err, "{comma}{} {}", seen.count, Quoted(text)).ok()?;
             others = others.saturating_sub(seen.count);
             comma = ", ";
         }
-        if others > 0 {
-            let plural = if others == 1 { "" } else { "s" };
-            write!(err, "{comma}{others} other{plural}").ok()?;
-            self.write_first(most, names, err)?;
+        write_part(&mut comma, others, "other", err)?;
+        let first = if most == Some(0) { 1 } else { 0 };
+        match texts.text(first) {
+            Some((text, seen)) if others > 0 => {
+                let (text, place) = (Quoted(text), Place::of(seen.first, names));
+                write!(err, " (first {text}, {place})").ok()
+            }
+            _ => Some(()),
         }
-        Some(())
     }
 
     // The number of the text that occurs most often, if it does more than once.
     fn most_frequent(&self) -> Option<usize> {
-        let most = self.texts.next_frequent(None)?;
-        let (_, seen) = self.texts.text(most)?;
+        let texts = self.texts.others();
+        let most = texts.next_frequent(None)?;
+        let (_, seen) = texts.text(most)?;
         (seen.count > 1).then_some(most)
     }
+}
 
-    // Writes the first text but this one, and where it is.
-    fn write_first<E: Write>(&self, but: Option<usize>, names: &[&str], err: &mut E) -> Option<()> {
-        let number = if but == Some(0) { 1 } else { 0 };
-        let Some((text, seen)) = self.texts.text(number) else {
-            return Some(());
+// How many of some fields there are.
+fn count_of(seen: Option<Seen>) -> u64 {
+    seen.map_or(0, |seen| seen.count)
+}
+
+// Writes how many fields are of a sort, if any are, and what has to stand before the next part.
+fn write_part<E: Write>(
+    comma: &mut &'static str,
+    count: u64,
+    noun: &str,
+    err: &mut E,
+) -> Option<()> {
+    if count == 0 {
+        return Some(());
+    }
+    let plural = if count == 1 { "" } else { "s" };
+    write!(err, "{comma}{count} {noun}{plural}").ok()?;
+    *comma = ", ";
+    Some(())
+}
+
+// A line of a file, which is named if there are more than one.
+#[derive(Clone, Copy)]
+struct Place<'a> {
+    name: Option<&'a str>,
+    line: u64,
+}
+
+impl<'a> Place<'a> {
+    fn of(place: (u16, u64), names: &[&'a str]) -> Place<'a> {
+        let (file, line) = place;
+        let name = if names.len() > 1 {
+            names.get(usize::from(file)).copied()
+        } else {
+            None
         };
-        let (file, line) = seen.first;
-        let text = Quoted(text);
-        match names.get(usize::from(file)) {
-            Some(name) if names.len() > 1 => write!(err, " (first {text}, {name}:{line})").ok(),
-            _ => write!(err, " (first {text}, line {line})").ok(),
+        Place { name, line }
+    }
+}
+
+impl Display for Place<'_> {
+    fn fmt<W: fmt::Write>(&self, f: &mut Formatter<W>) -> fmt::Result {
+        let line = self.line;
+        match self.name {
+            Some(name) => write!(f, "{name}:{line}"),
+            None => write!(f, "line {line}"),
         }
     }
 }

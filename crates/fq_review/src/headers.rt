@@ -29,6 +29,39 @@ pub fn has_names<T>(header: &ByteRecord, columns: &[(String, T)]) -> bool
     true
 }
 
+/// A byte that most likely stands between the fields of a file, in place of the comma. Its text asks for it.
+#[derive(Clone, Copy)]
+pub struct Separator(u8);
+
+impl Separator {
+    /// That of a file whose header has one field: the semicolon, tab or bar that is there most often.
+    pub fn of(header: &ByteRecord) -> Option<Separator> {
+        if header.len() != 1 {
+            return None;
+        }
+        let field = header.get(0)?;
+        let mut most = None;
+        for separator in *b";\t|" {
+            let count = field.iter().filter(|byte| **byte == separator).count();
+            if count > most.map_or(0, |(_, before)| before) {
+                most = Some((separator, count));
+            }
+        }
+        most.map(|(separator, _)| Separator(separator))
+    }
+}
+
+impl Display for Separator {
+    fn fmt<W: Write>(&self, f: &mut Formatter<W>) -> fmt::Result {
+        let separator = [self.0];
+        write!(
+            f,
+            "is the separator {}? frameq reads commas",
+            Quoted(&separator)
+        )
+    }
+}
+
 /// A header that has not the names of these columns. Its text says where it differs.
 #[derive(Clone, Copy)]
 pub struct Header<'a> {

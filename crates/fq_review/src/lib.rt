@@ -9,8 +9,12 @@ mod drafts;
 mod guesses;
 mod headers;
 mod laws;
+mod notes;
+mod null_options;
+mod numbers;
 mod problems;
 mod tallies;
+mod texts;
 
 pub use checks::{Check, Expected};
 pub use drafts::{Draft, DraftFault};

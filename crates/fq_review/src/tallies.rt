@@ -19,6 +19,22 @@ pub struct Seen {
     pub first: (u16, u64),
 }
 
+impl Seen {
+    /// One more than these, if there are any, on a line of a file.
+    pub fn after(seen: Option<Seen>, place: (u16, u64)) -> Seen {
+        match seen {
+            None => Seen {
+                count: 1,
+                first: place,
+            },
+            Some(seen) => Seen {
+                count: seen.count.saturating_add(1),
+                first: seen.first,
+            },
+        }
+    }
+}
+
 /// How often each of some texts occurs. Of many texts only the first 1,000 are counted by themselves, and no long one is.
 #[derive(Drop)]
 pub struct Tally {

@@ -14,6 +14,10 @@ const TWO_INTS: &str =
 const CONSTANTS: &str =
     r#"{"version":2,"sources":[{"files":1,"columns":[["id","int"],["t","text"]]},{"files":2,"columns":[["id","int"],["ok","bool"]],"null_values":["?"]}],"steps":[{"filter":["eq","ok","true"]},{"with_columns":[["x",["add",1,2]],["y",["and",["lt",1,{"null":"int"}],["ge",{"col":"id"},0]]]]},{"filter":["is_null",["ne",true,false]]}]}"#;
 
+/// A plan whose steps order texts: of `price` and `v` of both sources, and of `name`.
+const ORDERS: &str =
+    r#"{"version":2,"sources":[{"files":1,"columns":[["k","int"],["price","text"],["v","text"]]},{"files":2,"columns":[["k","int"],["price","text"],["name","text"]],"null_values":["NA"]}],"steps":[{"join":{"source":0,"on":["k"],"how":"left"}},{"filter":["and",["ge",{"col":"price"},"5"],["lt","a",{"col":"name"}]]},{"with_columns":[["p",{"col":"price_right"}],["price",1],["n",{"col":"name"}]]},{"filter":["le",{"col":"price"},3]},{"group_by":{"keys":["n"],"aggs":[["m","max","p"],["low","min","price"],["v","last","v"]]}},{"select":[["m",{"col":"m"}],["v",{"col":"v"}]]},{"filter":["gt",{"col":"v"},{"col":"m"}]}]}"#;
+
 /// A file, the exit status of its check by the plan of two whole numbers, and what is said.
 type Row = (&'static str, u8, &'static str);
 
@@ -241,6 +245,48 @@ fn comparisons_of_constants(rt: HostRuntime) -> Result<(), Fail> {
 }
 
 #[test]
+fn orders_of_numbers_that_are_texts(rt: HostRuntime) -> Result<(), Fail> {
+    writes_by(
+        &rt,
+        rt.alloc(),
+        "--plan plan --check 0 1 2",
+        ORDERS,
+        &[
+            "k,price,v\n1,10,7\n2,9.5,8\n",
+            "k,price,name\n1,3,x\n",
+            "k,price,name\n2,NA,y\n4,-1,\n",
+        ],
+        "",
+        (
+            0,
+            "",
+            "plan: warning: step 1: \"ge\" compares \"price\" as texts, but its fields are numbers\nplan: warning: step 4: \"max\" compares \"price\" as texts, but its fields are numbers\nplan: warning: step 6: \"gt\" compares \"v\" as texts, but its fields are numbers\nplan: warning: step 6: \"gt\" compares \"price\" as texts, but its fields are numbers\n",
+        ),
+    )
+}
+
+#[test]
+fn orders_of_other_texts(rt: HostRuntime) -> Result<(), Fail> {
+    writes_by(
+        &rt,
+        rt.alloc(),
+        "--plan plan --check 0 1 2",
+        ORDERS,
+        &[
+            "k,price,v\n",
+            "k,price,name\n1,3,7\n",
+            "k,price,name\n2,n/a,y\n3,8\n",
+        ],
+        "",
+        (
+            4,
+            "",
+            "2:3: 2 fields, the header has 3\n1 row of another width\nframeq: the files have problems\n",
+        ),
+    )
+}
+
+#[test]
 fn a_draft_of_kinds(rt: HostRuntime) -> Result<(), Fail> {
     writes_by(
         &rt,
@@ -307,7 +353,7 @@ fn columns_that_are_nearly_ints(rt: HostRuntime) -> Result<(), Fail> {
         (
             0,
             "{\n  \"version\": 2,\n  \"sources\": [\n    {\n      \"files\": 1,\n      \"columns\": [\n        [\"v\", \"text\"],\n        [\"u\", \"text\"],\n        [\"s\", \"text\"]\n      ]\n    }\n  ],\n  \"steps\": []\n}\n",
-            "\"v\" is text: 19 ints, 1 other (first \"x\", line 20)\n\"u\" is text: 18 ints, 2 \"z\"\n\"s\" is text: 18 ints, 1 other (first \"1.5\", line 20)\n",
+            "\"v\" is text: 19 ints, 1 other (first \"x\", line 20)\n\"u\" is text: 18 ints, 2 \"z\"; --null-values z makes it an int\n\"s\" is text: 18 ints, 1 decimal to 1 place (first line 20)\n",
         ),
     )
 }
@@ -316,11 +362,14 @@ fn columns_that_are_nearly_ints(rt: HostRuntime) -> Result<(), Fail> {
 fn files_that_draft_nothing(rt: HostRuntime) -> Result<(), Fail> {
     for (file, said) in [
         ("", "frameq: file 0: no header\n"),
-        ("a,b,a\n", "frameq: file 0: name twice\n"),
+        (
+            "a,b,a\n",
+            "0:1: columns 0 and 2 are both \"a\"\nframeq: file 0: name twice\n",
+        ),
         ("\n\n", "frameq: file 0: no header\n"),
         (
             "c0,c1,c2,c3,c4,c5,c6,c7,c8,c9,c10,c11,c12,c13,c14,c15,c16,c17,c18,c19,c20,c21,c22,c23,c24,c25,c26,c27,c28,c29,c30,c31,c32,c33,c34,c35,c36,c37,c38,c39,c40,c41,c42,c43,c44,c45,c46,c47,c48,c49,c50,c51,c52,c53,c54,c55,c56,c57,c58,c59,c60,c61,c62,c63,c64\n",
-            "frameq: file 0: more than 64 columns\n",
+            "0:1: it has 65 columns\nframeq: file 0: more than 64 columns\n",
         ),
     ] {
         let files = &[file];

@@ -4,7 +4,7 @@ use Rattle.std.specs.List.{list_all}
 use Rattle.csv.specs.Records.{fields_of}
 use Rattle.fq_review.specs.Checked.{layout_of}
 use Rattle.fq_review.proofs.CheckLemmas.{is_of_column}
-use Rattle.fq_review.proofs.checks.Check.judge_row.Given as goal
+use Rattle.fq_review.proofs.checks.Check.judge_fields.Given as goal
 
 abbrev pub invariant-loop-place : goal.invariant-loop-place
 invariant-loop-place g l =

@@ -13,8 +13,8 @@ use Rattle.fq_csv.specs.Field.{cell_under}
 use Rattle.fq_review.specs.Checked.{layout_of}
 use Rattle.fq_review.specs.declared.checks.Check.{Check}
 use Rattle.fq_review.proofs.CheckLemmas.{and-false, and-true, cells-more, is_of_column}
-use Rattle.fq_review.proofs.checks.Check.judge_row.Goals as goal
-use Rattle.fq_review.proofs.checks.Check.judge_row.Goals.{then-not-is_cell+in_ok-count, else-not-is_cell}
+use Rattle.fq_review.proofs.checks.Check.judge_fields.Goals as goal
+use Rattle.fq_review.proofs.checks.Check.judge_fields.Goals.{then-not-is_cell+in_ok-count, else-not-is_cell}
 
 pub unreachable-requires : goal.unreachable-requires
 unreachable-requires g c =
