@@ -3,6 +3,7 @@ import contextlib
 import os
 import pty
 import select
+import shlex
 import shutil
 import signal
 import subprocess
@@ -187,6 +188,37 @@ def outputs(count, program, room):
     interrupted_outputs(count, program, room, steps, into)
 
 
+def descriptors(count, program, room):
+    """Files that take the frame and are named by a descriptor: a shell has written to them before, and writes to them afterwards."""
+    steps, data = write(f"{room}/descriptors.json", plan([source(1, "v int")], "")), write(f"{room}/descriptors.csv", "v\n1\n")
+    bad, out = write(f"{room}/bad-descriptors.csv", "v\nx\n"), f"{room}/descriptors.out"
+    run = f"{shlex.quote(program.path)} --plan {shlex.quote(steps)}"
+
+    def into(what, script, wanted, said):
+        write(out, "old\n")
+        ran = subprocess.run(["sh", "-c", script], cwd=room, capture_output=True, text=True, timeout=LONGEST_RUN, check=False)
+        with open(out, encoding="utf-8") as opened:
+            answer = Answer(ran.returncode, ran.stdout, ran.stderr + opened.read())
+        check(count, "output descriptor", f"{what}: {script}", answer, lambda it: it == Answer(wanted, "", said))
+
+    for descriptor, names in (1, ("/dev/stdout", "/dev/fd/1", "/proc/self/fd/1")), (2, ("/dev/stderr", "/dev/fd/2", "/proc/self/fd/2")):
+        for name in names:
+            around = f"{{ echo a >&{descriptor}; {run} -o {name} {data}; echo b >&{descriptor}; }} {descriptor}"
+            into("written over", f"{around}> {out}", 0, "a\nv\n1\nb\n")
+            into("written behind", f"{around}>> {out}", 0, "old\na\nv\n1\nb\n")
+    for name in ("/dev/fd/3", "/proc/self/fd/3"):
+        into("of a number, written over", f"{{ echo a >&3; {run} -o {name} {data}; }} 3> {out}", 0, "a\nv\n1\n")
+        into("of a number, written behind", f"{{ echo a >&3; {run} -o {name} {data}; echo b >&3; }} 3>> {out}", 0, "old\na\nv\n1\nb\n")
+        into("of a pipe", f"{run} -o {name} {data} 3>&1 | cat > {out}", 0, "v\n1\n")
+        into("a fault", f"{run} -o {name} {bad} 3>> {out}", 4, "frameq: file 0, row 1, column 0: bad cell\nold\n")
+        # (the files of the run have these numbers)
+        into("of a file that is read", f"{run} -o {name} {out.replace('.out', '.csv')}", 5, WRITE_LINE + "old\n")
+    into("that is read alone", f"{run} -o /dev/fd/3 {data} 3< {out}", 5, WRITE_LINE + "old\n")
+    into("that is not open", f"{run} -o /dev/fd/9 {data}", 5, WRITE_LINE + "old\n")
+    with open(data, encoding="utf-8") as opened:
+        check(count, "output descriptor", "what was read", Answer(0, opened.read(), ""), lambda it: it == frame("v\n1\n"))
+
+
 @contextlib.contextmanager
 def waiting_run(program, room, steps, path):
     """A run into a file that waits for the rows of a pipe, and the end of that pipe."""
@@ -333,7 +365,7 @@ def try_system(count, pool, program, room):
     parts = [(stack_sizes, count, program, rows), (devices, count, program, rows), (early_reader, count, program, rows),
              (open_files, count, program, small + rows), (folders, count, program, room), (pipes, count, program, room),
              (shrinking_files, count, program, room),
-             (outputs, count, program, room), (terminal, count, program, room),
+             (outputs, count, program, room), (descriptors, count, program, room), (terminal, count, program, room),
              (threads, count, program, small + rows)]
     together(parts, pool)
     address_spaces(count, pool, program, rows + small)

@@ -1,31 +1,65 @@
-//! How a column is written, where a text stands that may mean one.
-use fq_column::Schema;
+//! What to do about operands of the wrong kind.
+use fq_column::{Kind, Schema};
 use fq_expr::Expr;
 use fq_places::Quoted;
 use std::fmt;
 use std::fmt::{Display, Formatter, Write};
 
-/// How the column of a name is written, after what is said of a text: `; a column is {"col": "t"}`. Nothing without a name.
+/// What to do about operands, after what is said of them.
 #[derive(Clone, Copy)]
-pub struct Hint<'a>(Option<&'a str>);
+pub enum Hint<'a> {
+    /// Nothing is known.
+    Nothing,
+    /// A text may mean the column of its name: `; a column is {"col": "t"}`.
+    Column(&'a str),
+    /// A column of texts stands where a number has to: `; give "t" the kind "int"`.
+    Number(&'a str),
+}
 
 impl<'a> Hint<'a> {
-    /// The hint of the first operand that is a text and, where a schema is given, names a column of it.
+    /// Of the first operand that is a text and, where a schema is given, names a column of it.
     pub fn of(operands: &[&'a Expr], schema: Option<&Schema>) -> Hint<'a> {
         for operand in operands {
             if let Expr::Text(text) = operand
                 && schema.is_none_or(|schema| schema.position(text.as_str()).is_some())
             {
-                return Hint(Some(text.as_str()));
+                return Hint::Column(text.as_str());
             }
         }
-        Hint(None)
+        Hint::Nothing
+    }
+
+    /// The same of operands that have to be numbers, or else of the first that is a column of texts.
+    pub fn of_numbers(operands: &[&'a Expr], schema: &Schema) -> Hint<'a> {
+        match Hint::of(operands, Some(schema)) {
+            Hint::Nothing => Hint::of_text_column(operands, schema),
+            hint => hint,
+        }
+    }
+
+    // Of the first operand that is a column of texts.
+    fn of_text_column(operands: &[&'a Expr], schema: &Schema) -> Hint<'a> {
+        for operand in operands {
+            if let Expr::Col(name) = operand
+                && matches!(schema.kind_of(name.as_str()), Ok(Kind::Text))
+            {
+                return Hint::Number(name.as_str());
+            }
+        }
+        Hint::Nothing
     }
 }
 
 impl Display for Hint<'_> {
     fn fmt<W: Write>(&self, f: &mut Formatter<W>) -> fmt::Result {
-        let Some(name) = self.0 else { return Ok(()) };
-        write!(f, "; a column is {{\"col\": {}}}", Quoted(name.as_bytes()))
+        match self {
+            Hint::Nothing => Ok(()),
+            Hint::Column(name) => {
+                write!(f, "; a column is {{\"col\": {}}}", Quoted(name.as_bytes()))
+            }
+            Hint::Number(name) => {
+                write!(f, "; give {} the kind \"int\"", Quoted(name.as_bytes()))
+            }
+        }
     }
 }

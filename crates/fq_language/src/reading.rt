@@ -15,6 +15,7 @@ use std::alloc::Global;
 mod aggregates;
 mod explanations;
 mod expressions;
+mod flaws;
 mod json;
 mod lists;
 mod plans;

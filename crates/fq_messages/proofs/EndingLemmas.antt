@@ -11,7 +11,7 @@ use Rattle.fq_language.specs.declared.faults.PlanFault.TheVariants as plan
 use Rattle.fq_messages.specs.Ending.{status_of_fault, status_of, number_of, done, bad_device, no_memory, code_of, IsOutside}
 use Rattle.fq_messages.specs.declared.failures.Failure.{Failure}
 use Rattle.fq_messages.specs.declared.status.Status.TheVariants.{BadPlan, NoMemory}
-use Rattle.fq_messages.specs.declared.failures.Failure.TheVariants.{Arguments, InputTwice, PlanFile, Plan, Check, Run, Problems, Draft, DraftTooLarge}
+use Rattle.fq_messages.specs.declared.failures.Failure.TheVariants.{Arguments, InputTwice, PlanReplaced, PlanFile, Plan, Check, Run, Problems, Draft, DraftTooLarge}
 use Rattle.fq_review.specs.declared.drafts.DraftFault.TheVariants as draft
 
 -- a run's fault: it did not start, or the fault is the plan's meaning, or it came from outside
@@ -61,6 +61,7 @@ refusal-fails code.Memory = omega arith
 fails : (f : Failure) → 1 ≤ number_of (status_of f)
 fails Arguments = omega arith
 fails InputTwice = omega arith
+fails PlanReplaced = omega arith
 fails PlanFile = omega arith
 fails (Plan plan.Json) = omega arith
 fails (Plan plan.Shape) = omega arith

@@ -9,7 +9,7 @@ use Rattle.fq_language.specs.declared.faults.PlanFault.TheVariants as plan
 use Rattle.fq_messages.specs.declared.failures.Failure.{Failure}
 use Rattle.fq_review.specs.declared.drafts.DraftFault.{DraftFault}
 use Rattle.fq_review.specs.declared.drafts.DraftFault.TheVariants as draft
-use Rattle.fq_messages.specs.declared.failures.Failure.TheVariants.{Arguments, InputTwice, PlanFile, Plan, Check, Run, Problems, Draft, DraftTooLarge}
+use Rattle.fq_messages.specs.declared.failures.Failure.TheVariants.{Arguments, InputTwice, PlanReplaced, PlanFile, Plan, Check, Run, Problems, Draft, DraftTooLarge}
 use Rattle.fq_messages.specs.declared.status.Status.{Status}
 use Rattle.fq_messages.specs.declared.status.Status.TheVariants.{Done, BadArguments, BadPlan, BadFile, BadDevice, NoMemory}
 
@@ -30,6 +30,7 @@ status_of_refusal refusal = elim refusal.code [ code.Memory ↦ NoMemory | _ ↦
 abbrev pub status_of : Failure → Status
 status_of Arguments = BadArguments
 status_of InputTwice = BadArguments
+status_of PlanReplaced = BadArguments
 status_of PlanFile = BadDevice
 status_of (Plan plan.Memory) = NoMemory
 status_of (Plan fault) = BadPlan
@@ -71,6 +72,9 @@ number_of NoMemory = 6
 
 abbrev pub done : ℕ
 done = number_of Done
+
+abbrev pub bad_arguments : ℕ
+bad_arguments = number_of BadArguments
 
 abbrev pub bad_device : ℕ
 bad_device = number_of BadDevice

@@ -60,6 +60,7 @@ pub fn write_details<O: Opener, E: Write>(
     let _ = match failure {
         Failure::Arguments | Failure::Problems | Failure::DraftTooLarge | Failure::Draft(_) => None,
         Failure::InputTwice => write_inputs(options, err),
+        Failure::PlanReplaced => write_replaced(options, err),
         Failure::PlanFile => write_cause(files, options.plan().unwrap_or_default(), err),
         Failure::Plan(_) => write_reason(alloc, options.plan().unwrap_or_default(), text, err),
         Failure::Check(_) => write_refusal(alloc, text, err),
@@ -80,6 +81,12 @@ fn write_inputs<E: Write>(options: &Options<'_>, err: &mut E) -> Option<()> {
         }
     }
     Some(())
+}
+
+// The names of the plan and of the file that takes the frame.
+fn write_replaced<E: Write>(options: &Options<'_>, err: &mut E) -> Option<()> {
+    writeln!(err, "  the plan is {}", options.plan()?).ok()?;
+    writeln!(err, "  --output is {}", options.output()?).ok()
 }
 
 // Why a file cannot be read.

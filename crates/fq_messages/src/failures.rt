@@ -24,6 +24,9 @@ pub enum Failure {
     /// The arguments name standard input more than once.
     #[error("standard input (-) can be read only once")]
     InputTwice,
+    /// The frame would take the place of the plan file.
+    #[error("the frame would replace the plan")]
+    PlanReplaced,
     /// The plan file cannot be opened or read.
     #[error("cannot read plan")]
     PlanFile,
@@ -56,8 +59,10 @@ impl Failure {
         ensures { result ≡ status_of self }
     {
         match self {
-            Failure::Arguments | Failure::InputTwice | Failure::DraftTooLarge =>
-                Status::BadArguments,
+            Failure::Arguments
+            | Failure::InputTwice
+            | Failure::PlanReplaced
+            | Failure::DraftTooLarge => Status::BadArguments,
             Failure::PlanFile => Status::BadDevice,
             Failure::Plan(PlanFault::Memory) => Status::NoMemory,
             Failure::Plan(_) => Status::BadPlan,

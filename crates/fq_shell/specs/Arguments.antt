@@ -1,6 +1,6 @@
 -- The arguments of a run, `--plan PLAN [--batch N] [--workers N] [--output OUT] [--details] [--progress] FILE..`, and of a check of files,
 -- `--plan PLAN --check [--limit N] [--details] FILE..`, as the crate clap reads them (https://docs.rs/clap), and the files that they name.
-use Rattle.std.specs.Prelude.{true, false, ℕ, ◌+◌, Bool, List, [], ◌∷◌, codes, count_by, nat_lt, pos, Option, Some, None, option_and_then, unwrap_or, if◌then◌else◌}
+use Rattle.std.specs.Prelude.{true, false, ℕ, ◌+◌, Bool, ◌||◌, List, [], ◌∷◌, codes, count_by, nat_lt, pos, Option, Some, None, option_and_then, unwrap_or, if◌then◌else◌}
 use Rattle.std.specs.Option.{option_map_or}
 use Rattle.std.specs.Str.{bytes_eq}
 use Rattle.clap.specs.Lexer.{usize_max}
@@ -83,12 +83,16 @@ pub record Names : Type 0 where
 abbrev pub is_standard : Text → Bool
 is_standard name = bytes_eq name (codes "-")
 
+-- so the system names the descriptor of standard output, too
+abbrev pub is_standard_output : Text → Bool
+is_standard_output name = is_standard name || (bytes_eq name (codes "/dev/stdout") || (bytes_eq name (codes "/dev/fd/1") || bytes_eq name (codes "/proc/self/fd/1")))
+
 -- by what clap has found of each argument
 abbrev pub names_in : List Row → Names
 names_in rows = record {
   plan = first_of (codes "plan") rows;
   files = unwrap_or (all_of (codes "file") rows) [];
-  output = option_and_then (λ name. if is_standard name then None else Some name) (first_of (codes "output") rows);
+  output = option_and_then (λ name. if is_standard_output name then None else Some name) (first_of (codes "output") rows);
 }
 
 -- what the arguments of a run name
@@ -102,6 +106,10 @@ names_to_check arguments = names_in (matches_of check_app arguments)
 -- what options name that were read
 unfoldable pub named_by : Options → Names
 named_by options = names_in (rows_of (found_of options.0))
+
+-- whether the plan and the file that takes the frame have one name
+unfoldable pub replaces_plan : Names → Bool
+replaces_plan names = option_map_or (λ plan. option_map_or (λ output. bytes_eq output plan) names.output false) names.plan false
 
 -- whether more than one of the plan and the files is standard input
 unfoldable pub reads_input_twice : Names → Bool

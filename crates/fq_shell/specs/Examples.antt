@@ -18,11 +18,14 @@ abbrev pub Hyphens : Type 0
 Hyphens = NamesThese (codes "--plan" ∷ codes "-" ∷ codes "a" ∷ []) (codes "-") (codes "a" ∷ []) None
     × NamesThese (codes "--plan" ∷ codes "p" ∷ codes "--" ∷ codes "-x" ∷ codes "--plan" ∷ []) (codes "p") (codes "-x" ∷ codes "--plan" ∷ []) None
 
--- `-` is standard output
+-- `-` is standard output, and so are the names of its descriptor, and no others
 abbrev pub Outputs : Type 0
 Outputs = NamesThese (codes "--plan=p" ∷ codes "-o" ∷ codes "out" ∷ codes "a" ∷ []) (codes "p") (codes "a" ∷ []) (Some (codes "out"))
     × NamesThese (codes "--plan=p" ∷ codes "a" ∷ codes "-oout" ∷ []) (codes "p") (codes "a" ∷ []) (Some (codes "out"))
     × NamesThese (codes "--plan=p" ∷ codes "--output=-" ∷ codes "a" ∷ []) (codes "p") (codes "a" ∷ []) None
+    × NamesThese (codes "--plan=p" ∷ codes "--output=/dev/stdout" ∷ codes "a" ∷ []) (codes "p") (codes "a" ∷ []) None
+    × NamesThese (codes "--plan=p" ∷ codes "-o/proc/self/fd/1" ∷ codes "a" ∷ []) (codes "p") (codes "a" ∷ []) None
+    × NamesThese (codes "--plan=p" ∷ codes "-o" ∷ codes "/dev/fd/10" ∷ codes "a" ∷ []) (codes "p") (codes "a" ∷ []) (Some (codes "/dev/fd/10"))
 
 -- no plan, no file, a number out of range, an option that is repeated, and what asks for something else than a run
 abbrev pub Others : Type 0

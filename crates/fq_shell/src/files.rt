@@ -1,5 +1,5 @@
 //! What opens files by name.
-ghost use Rattle.std.specs.Prelude.{◌≡◌, ℕ, List, Option, Some, None, IfOk};
+ghost use Rattle.std.specs.Prelude.{◌≡◌, ℕ, List, Option, Some, None, IfOk, true};
 
 use crate::outputs::{Output, SystemOutput};
 use crate::progress::{Line, Watched};
@@ -7,7 +7,8 @@ use fq_places::Unread;
 use std::alloc::Global;
 use std::fs::{File, Files, OpenFile};
 use std::io;
-use std::io::{ErrorKind, Read, Write};
+use std::io::{ErrorKind, IsTerminal, Read, Write};
+use std::os::unix::fs::MetadataExt;
 
 /// The name of standard input among the names of files.
 pub const STANDARD_INPUT: &str = "-";
@@ -56,6 +57,14 @@ pub trait Opener {
     /// What takes the place of the file of this name, once it is kept. Fails if nothing can be written there.
     fn output_of(&mut self, alloc: Global, name: &str) -> Result<Self::Output, OpenFault>;
 
+    /// Whether two names are those of one file. An opener may know no more of this than the names say.
+    fn is_same_file(&mut self, one: &str, other: &str) -> bool
+        ensures same { bytes_of self.new ≡ bytes_of self.old }
+        ensures named { one.now ≡ other.now → result ≡ true }
+    {
+        one == other
+    }
+
     /// A second reader of the file of this name, from its start: before the first, for a check or a draft, or after a run, for details.
     /// `Once` if the bytes come only once; a check or a draft then reads them into memory. An opener may have no second reader.
     fn reader_again(&mut self, _name: &str) -> Result<Self::Reader, Unread>
@@ -74,26 +83,25 @@ pub trait Opener {
     fn clear_progress(&mut self) {}
 }
 
-/// The files of a system, and its standard input under the name `-`, which can be opened once. The scanner of a file has a buffer of
-/// its own, so a file is read as it is.
+/// The files of a system, its standard input under the name `-`, which can be opened once, and its standard error, which shows progress if
+/// it is a terminal. The scanner of a file has a buffer of its own, so a file is read as it is.
 #[derive(Drop)]
 pub struct SystemFiles<'a, F: Files, I: Read, L: Write> {
     files: &'a F,
     // none once it is opened
     input: Option<I>,
-    // where progress is shown, if anywhere
-    log: Option<L>,
+    error: L,
     // the number of the next file that shows how far it is read, if files do
     shown: Option<usize>,
 }
 
 impl<'a, F: Files, I: Read, L: Write> SystemFiles<'a, F, I, L> {
-    /// These files and this standard input. Progress is shown on `log`, if there is one.
-    pub fn new(files: &'a F, input: I, log: Option<L>) -> SystemFiles<'a, F, I, L> {
+    /// These files, this standard input and this standard error.
+    pub fn new(files: &'a F, input: I, error: L) -> SystemFiles<'a, F, I, L> {
         SystemFiles {
             files,
             input: Some(input),
-            log,
+            error,
             shown: None,
         }
     }
@@ -113,26 +121,39 @@ impl<F: Files, I: Read, L: Write> SystemFiles<'_, F, I, L> {
     }
 }
 
-impl<'a, F: Files<File = File>, I: Read + Drop + Send, L: Write + Copy + Drop + Send> Opener
-    for SystemFiles<'a, F, I, L> {
+impl<
+    'a,
+    F: Files<File = File>,
+    I: Read + Drop + Send,
+    L: Write + IsTerminal + Copy + Drop + Send,
+> Opener for SystemFiles<'a, F, I, L> {
     type Reader = Watched<SystemReader<File, I>, L>;
 
-    type Output = SystemOutput<'a, F>;
+    type Output = SystemOutput<'a, F, L>;
 
     fn reader_of(&mut self, name: &str) -> Result<Self::Reader, OpenFault> {
         let reader = self.open(name)?;
-        let line = match (self.shown, self.log) {
-            (Some(file), Some(log)) => {
+        let line = match self.shown {
+            Some(file) => {
                 self.shown = Some(file.saturating_add(1));
-                Some(Line::new(log, file, reader.size()))
+                Some(Line::new(self.error, file, reader.size()))
             }
-            _ => None,
+            None => None,
         };
         Ok(Watched::new(reader, line))
     }
 
-    fn output_of(&mut self, alloc: Global, name: &str) -> Result<SystemOutput<'a, F>, OpenFault> {
-        SystemOutput::create(alloc, self.files, name).map_err(OpenFault::of)
+    fn output_of(
+        &mut self,
+        alloc: Global,
+        name: &str,
+    ) -> Result<SystemOutput<'a, F, L>, OpenFault> {
+        SystemOutput::create(alloc, self.files, self.error, name).map_err(OpenFault::of)
+    }
+
+    fn is_same_file(&mut self, one: &str, other: &str) -> bool {
+        let place = place_of(self.files, one);
+        one == other || (place.is_some() && place == place_of(self.files, other))
     }
 
     fn reader_again(&mut self, name: &str) -> Result<Self::Reader, Unread> {
@@ -148,14 +169,25 @@ impl<'a, F: Files<File = File>, I: Read + Drop + Send, L: Write + Copy + Drop + 
     }
 
     fn show_progress(&mut self) {
-        self.shown = Some(0);
+        self.shown = self.error.is_terminal().then_some(0);
     }
 
     fn clear_progress(&mut self) {
-        if let Some(log) = &mut self.log {
-            let _ = log.write_all(CLEAR_LINE.as_bytes());
+        if self.shown.is_some() {
+            let _ = self.error.write_all(CLEAR_LINE.as_bytes());
         }
     }
+}
+
+// Where the regular file of a name stands: its device and its number there. Standard input has a name among the files, too.
+fn place_of<F: Files>(files: &F, name: &str) -> Option<(u64, u64)> {
+    let name = if name == STANDARD_INPUT {
+        "/dev/stdin"
+    } else {
+        name
+    };
+    let there = files.metadata(name).ok()?;
+    there.is_file().then_some((there.dev(), there.ino()))
 }
 
 /// An open file of a system, or its standard input.

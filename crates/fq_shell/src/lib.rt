@@ -3,6 +3,7 @@
 //! [`Options`] are the program's arguments. An [`Opener`] opens files by name, and an [`Output`] takes the place of one.
 #![tactic(auto)]
 
+mod descriptors;
 mod files;
 mod options;
 mod outputs;
@@ -12,5 +13,5 @@ mod usage;
 pub use files::{OpenFault, Opener, STANDARD_INPUT, SystemFiles};
 pub use fq_places::Unread;
 pub use options::{BATCH_SIZE, Options, WORKERS};
-pub use outputs::{Noted, Output, SystemOutput};
+pub use outputs::{NewFile, Noted, Output, SystemOutput};
 pub use usage::write_refusal;

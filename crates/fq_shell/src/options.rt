@@ -1,10 +1,10 @@
 //! The arguments of the command line.
-ghost use Rattle.std.specs.Prelude.{◌≡◌, ◌≤◌, true, false, codes, map, option_map, string_bytes, count_by, IfOk, IfErr};
+ghost use Rattle.std.specs.Prelude.{◌≡◌, ◌≤◌, None, true, false, codes, map, option_map, string_bytes, count_by, IfOk, IfErr};
 ghost use Rattle.std.specs.Option.{option_map_or};
 ghost use Rattle.clap.specs.Words.{app_of, kind_of, rule_of};
-ghost use Rattle.fq_shell.specs.Arguments.{option_rule, number_rule, limit_rule, flag_rule, output_rule, file_rule, run_app, check_app, is_run, is_check, is_standard, names_of, names_to_check, named_by, reads_input_twice};
+ghost use Rattle.fq_shell.specs.Arguments.{option_rule, number_rule, limit_rule, flag_rule, output_rule, file_rule, run_app, check_app, is_run, is_check, is_standard, is_standard_output, names_of, names_to_check, named_by, reads_input_twice, replaces_plan};
 
-use crate::files::{STANDARD_INPUT, STANDARD_OUTPUT};
+use crate::files::{Opener, STANDARD_INPUT, STANDARD_OUTPUT};
 use clap::error::ErrorKind;
 use clap::{Arg, ArgAction, ArgMatches, Command, Error, value_parser};
 use fq_csv::MAX_BATCH_SIZE;
@@ -91,13 +91,25 @@ impl<'a> Options<'a> {
     {
         match self.0.get_str("output") {
             Some(name) => {
-                if name == STANDARD_OUTPUT {
+                if is_standard_output(name) {
                     None
                 } else {
                     Some(name)
                 }
             }
             None => None,
+        }
+    }
+
+    /// Whether the file that takes the frame is that of the plan, so that the frame would replace the plan.
+    pub fn replaces_plan<O: Opener>(&self, files: &mut O) -> bool
+        ensures same { O.bytes_of files.new ≡ O.bytes_of files.old }
+        ensures named { replaces_plan (named_by self.now) ≡ true → result ≡ true }
+        ensures elsewhere { (named_by self.now).output ≡ None → result ≡ false }
+    {
+        match (self.plan(), self.output()) {
+            (Some(plan), Some(output)) => files.is_same_file(output, plan),
+            _ => false,
         }
     }
 
@@ -160,6 +172,16 @@ impl<'a> Options<'a> {
             None => false,
         }
     }
+}
+
+// Whether this is a name of standard output.
+fn is_standard_output(name: &str) -> bool
+    ensures { result ≡ is_standard_output name.now }
+{
+    name == STANDARD_OUTPUT
+        || name == "/dev/stdout"
+        || name == "/dev/fd/1"
+        || name == "/proc/self/fd/1"
 }
 
 // How many of these names are standard input.
@@ -234,8 +256,11 @@ fn with_reviews<'a>(alloc: Global, command: Command<'a>) -> Result<Command<'a>, 
     let command = command
         .arg(explain(alloc))?
         .arg(check.conflicts_with("output")?)?;
-    let limit = limit(alloc).overrides_with("limit")?;
-    let command = command.arg(limit.requires_arg("check")?)?;
+    let limit = limit(alloc)
+        .overrides_with("limit")?
+        .conflicts_with("explain")?;
+    let limit = limit.conflicts_with("draft")?.requires_arg("check")?;
+    let command = command.arg(limit)?;
     let command = command.arg(draft(alloc)?)?;
     command.arg(null_values(alloc)?)
 }
@@ -340,6 +365,9 @@ fn null_values<'a>(alloc: Global) -> Result<Arg<'a>, AllocError> {
         .value_delimiter(',')
         .action(ArgAction::Append)
         .help("Texts that --draft takes as null, with commas between them")
+        .conflicts_with("plan")?
+        .conflicts_with("explain")?
+        .conflicts_with("check")?
         .requires_arg("draft")
 }
 

@@ -1,6 +1,7 @@
 //! The file that takes the frame: it is written whole, or stays as it was.
 ghost use Rattle.std.specs.Prelude.{◌≡◌, None, Some, IfErr, OnOk};
 
+use crate::descriptors::{Descriptor, open_at_end};
 use std::alloc::Global;
 use std::fs::{File, Files, Metadata, OpenOptions, TryLockError};
 use std::io;
@@ -65,32 +66,39 @@ pub trait Output: Write + Drop {
     fn discard(self);
 }
 
-/// A new file of a system beside the one whose place it is to take. A place that is not a regular file, such as a pipe or a
-/// device, is written as it is.
-///
-/// Until it takes the place, nobody else may read a new file that is to replace one, and it is locked: so what a run has left that was
-/// killed is told from what another run still writes, and is removed by the next one.
+/// What takes a frame in a system.
 #[derive(Drop)]
-pub struct SystemOutput<'a, F: Files<File = File>> {
-    files: &'a F,
-    place: PathBuf,
-    /// What is known of the file that is there.
-    there: Option<Metadata>,
-    file: File,
-    /// The name of the new file, if the place is not written as it is.
-    new: Option<PathBuf>,
+pub enum SystemOutput<'a, F: Files<File = File>, L: Write> {
+    /// A new file, for the place of another.
+    New(NewFile<'a, F>),
+    /// What is written as it is: a pipe, a device, or the file of a descriptor.
+    AsItIs(File),
+    /// Standard error.
+    Error(L),
 }
 
-impl<'a, F: Files<File = File>> SystemOutput<'a, F> {
-    /// What takes the place of the file of this name, which need not be there. A link is followed; one to nothing is refused, since what
-    /// it leads to could not stay as it was.
-    pub fn create(alloc: Global, files: &'a F, name: &str) -> io::Result<SystemOutput<'a, F>> {
+impl<'a, F: Files<File = File>, L: Write + Drop> SystemOutput<'a, F, L> {
+    /// What takes the place of the file of this name, which need not be there, or, if it is not a regular file or is named by its
+    /// descriptor, what is written there. A link is followed; one to nothing is refused, since what it leads to could not stay as it was.
+    pub fn create(
+        alloc: Global,
+        files: &'a F,
+        error: L,
+        name: &str,
+    ) -> io::Result<SystemOutput<'a, F, L>> {
+        match Descriptor::named(name) {
+            Some(Descriptor::Error) => return Ok(SystemOutput::Error(error)),
+            Some(Descriptor::Numbered(number)) => {
+                return Ok(SystemOutput::AsItIs(open_at_end(alloc, files, number)?));
+            }
+            None => {}
+        }
         match files.metadata(name) {
             Ok(there) if there.is_file() => {
                 let place = files.canonicalize(alloc, name)?;
                 SystemOutput::beside(alloc, files, place, Some(there))
             }
-            Ok(_) => SystemOutput::as_it_is(files, PathBuf::from_str(alloc, name)?),
+            Ok(_) => Ok(SystemOutput::AsItIs(File::create(files, name)?)),
             Err(error)
                 if error.kind() == ErrorKind::NotFound && files.symlink_metadata(name).is_err() => {
                 SystemOutput::beside(alloc, files, PathBuf::from_str(alloc, name)?, None)
@@ -99,39 +107,73 @@ impl<'a, F: Files<File = File>> SystemOutput<'a, F> {
         }
     }
 
-    // The place itself, opened to be written.
-    fn as_it_is(files: &'a F, place: PathBuf) -> io::Result<SystemOutput<'a, F>> {
-        let file = File::create(files, place.as_path())?;
-        Ok(SystemOutput {
-            files,
-            place,
-            there: None,
-            file,
-            new: None,
-        })
-    }
-
     // A new file in the folder of the place.
     fn beside(
         alloc: Global,
         files: &'a F,
         place: PathBuf,
         there: Option<Metadata>,
-    ) -> io::Result<SystemOutput<'a, F>> {
+    ) -> io::Result<SystemOutput<'a, F, L>> {
+        Ok(SystemOutput::New(NewFile::beside(alloc, files, place, there)?))
+    }
+}
+
+/// A new file of a system beside the one whose place it is to take.
+///
+/// Until it takes the place, nobody else may read a new file that is to replace one, and it is locked: so what a run has left that was
+/// killed is told from what another run still writes, and is removed by the next one.
+#[derive(Drop)]
+pub struct NewFile<'a, F: Files<File = File>> {
+    files: &'a F,
+    place: PathBuf,
+    /// What is known of the file that is there.
+    there: Option<Metadata>,
+    file: File,
+    name: PathBuf,
+}
+
+impl<'a, F: Files<File = File>> NewFile<'a, F> {
+    // A new file in the folder of the place.
+    fn beside(
+        alloc: Global,
+        files: &'a F,
+        place: PathBuf,
+        there: Option<Metadata>,
+    ) -> io::Result<NewFile<'a, F>> {
         for number in 0..MAX_TRIES {
             let name = format!(in alloc; ".frameq-{number}")?;
-            let new = place.with_file_name(alloc, name.as_str())?;
-            if let Some(file) = new_file(files, new.as_path(), there.is_some())? {
-                return Ok(SystemOutput {
+            let name = place.with_file_name(alloc, name.as_str())?;
+            if let Some(file) = new_file(files, name.as_path(), there.is_some())? {
+                return Ok(NewFile {
                     files,
                     place,
                     there,
                     file,
-                    new: Some(new),
+                    name,
                 });
             }
         }
         Err(io::Error::from(ErrorKind::AlreadyExists))
+    }
+
+    // Takes the place, or is removed.
+    fn keep(self) -> io::Result<()> {
+        let NewFile {
+            files,
+            place,
+            there,
+            file,
+            name,
+        } = self;
+        let kept = put(files, file, there, name.as_path(), place.as_path());
+        if kept.is_err() {
+            let _ = files.remove_file(name.as_str());
+        }
+        kept
+    }
+
+    fn remove(self) {
+        let _ = self.files.remove_file(self.name.as_str());
     }
 }
 
@@ -188,45 +230,36 @@ fn is_at<F: Files<File = File>>(files: &F, file: &File, name: Path<'_>) -> bool 
     }
 }
 
-impl<F: Files<File = File>> Write for SystemOutput<'_, F> {
+impl<F: Files<File = File>, L: Write> Write for SystemOutput<'_, F, L> {
     fn write(&mut self, buffer: &[u8]) -> io::Result<usize> {
-        self.file.write(buffer)
+        match self {
+            SystemOutput::New(new) => new.file.write(buffer),
+            SystemOutput::AsItIs(file) => file.write(buffer),
+            SystemOutput::Error(error) => error.write(buffer),
+        }
     }
 
     fn flush(&mut self) -> io::Result<()> {
-        self.file.flush()
+        match self {
+            SystemOutput::New(new) => new.file.flush(),
+            SystemOutput::AsItIs(file) => file.flush(),
+            SystemOutput::Error(error) => error.flush(),
+        }
     }
 }
 
-impl<F: Files<File = File>> Output for SystemOutput<'_, F> {
+impl<F: Files<File = File>, L: Write + Drop> Output for SystemOutput<'_, F, L> {
     fn keep(self) -> io::Result<()> {
-        let SystemOutput {
-            files,
-            place,
-            there,
-            file,
-            new,
-        } = self;
-        let Some(new) = new else {
-            return Ok(());
-        };
-        let kept = put(files, file, there, new.as_path(), place.as_path());
-        if kept.is_err() {
-            let _ = files.remove_file(new.as_str());
+        match self {
+            SystemOutput::New(new) => new.keep(),
+            SystemOutput::AsItIs(_) | SystemOutput::Error(_) => Ok(()),
         }
-        kept
     }
 
     fn discard(self) {
-        let SystemOutput {
-            files,
-            place: _,
-            there: _,
-            file: _,
-            new,
-        } = self;
-        if let Some(new) = new {
-            let _ = files.remove_file(new.as_str());
+        match self {
+            SystemOutput::New(new) => new.remove(),
+            SystemOutput::AsItIs(_) | SystemOutput::Error(_) => {}
         }
     }
 }

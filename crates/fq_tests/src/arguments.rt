@@ -252,6 +252,91 @@ fn numbers_that_are_refused(rt: HostRuntime) -> Result<(), Fail> {
     Ok(())
 }
 
+// A word that begins with a hyphen is no value of an option before it, and is passed as one or as a file in other ways.
+#[test]
+fn words_that_begin_with_a_hyphen(rt: HostRuntime) -> Result<(), Fail> {
+    let alloc = rt.alloc();
+    for (line, word) in [
+        ("--plan -x 0", "-x"),
+        ("--plan plan -o -x 0", "-x"),
+        ("--plan plan --batch -1 0", "-1"),
+        ("--plan plan -é 0", "-é"),
+    ] {
+        let text = format!(in alloc;
+            "error: unexpected argument '{word}' found\n\n  tip: to pass '{word}' as a file, use '-- {word}'; as the value of an option, use '=', as in '--plan={word}'\n\nUsage: frameq [OPTIONS] [FILE]...\n\nFor more information, try '--help'.\n"
+        )?;
+        let wanted = (2, "", text.as_str());
+        writes_by(&rt, alloc, line, "", &["v\n1\n"], "", wanted)?;
+    }
+    let line = "--plan=-x 0";
+    fails_by(&rt, alloc, line, "", &[""], "", 5, "cannot read plan")
+}
+
+// An argument that would change nothing beside another is refused.
+#[test]
+fn arguments_that_another_excludes(rt: HostRuntime) -> Result<(), Fail> {
+    let alloc = rt.alloc();
+    for (line, one, other, usage) in [
+        (
+            "--plan plan --null-values NA 0",
+            "--plan <PLAN>",
+            "--null-values <TEXTS>",
+            "--plan <PLAN> <FILE>...",
+        ),
+        (
+            "--plan plan --check --null-values NA 0",
+            "--plan <PLAN>",
+            "--null-values <TEXTS>",
+            "--plan <PLAN> --check <FILE>...",
+        ),
+        (
+            "--plan plan --explain --null-values NA",
+            "--plan <PLAN>",
+            "--null-values <TEXTS>",
+            "--plan <PLAN> --explain [FILE]...",
+        ),
+        (
+            "--draft --limit 5 0",
+            "--draft",
+            "--limit <N>",
+            "--draft <FILE>...",
+        ),
+        (
+            "--plan plan --explain --limit 5",
+            "--explain",
+            "--limit <N>",
+            "--plan <PLAN> --explain [FILE]...",
+        ),
+    ] {
+        let text = format!(in alloc;
+            "error: the argument '{one}' cannot be used with '{other}'\n\nUsage: frameq {usage}\n\nFor more information, try '--help'.\n"
+        )?;
+        let wanted = (2, "", text.as_str());
+        writes_by(&rt, alloc, line, "", &["v\n1\n"], "", wanted)?;
+    }
+    Ok(())
+}
+
+#[test]
+fn names_of_standard_output(rt: HostRuntime) -> Result<(), Fail> {
+    let alloc = rt.alloc();
+    let plan = r#"{"version":1,"sources":[{"files":1,"columns":[["v","int"]]}],"steps":[]}"#;
+    for name in ["-", "/dev/stdout", "/dev/fd/1", "/proc/self/fd/1"] {
+        let line = format!(in alloc; "--plan plan --output {name} 0")?;
+        prints_by(&rt, alloc, line.as_str(), plan, &["v\n1\n"], "", "v\n1\n")?;
+    }
+    fails_by(
+        &rt,
+        alloc,
+        "--plan plan --output /dev/fd/10 0",
+        plan,
+        &["v\n1\n"],
+        "",
+        5,
+        "write failed",
+    )
+}
+
 #[test]
 fn the_version(rt: HostRuntime) -> Result<(), Fail> {
     prints_by(&rt, rt.alloc(), "--version", "", &[], "", "frameq 0.1.0\n")

@@ -285,6 +285,57 @@ fn texts_that_are_not_json(rt: HostRuntime) -> Result<(), Fail> {
             ("{'version': 1}", "1:2: found \"'\""),
             ("{\"a\": é}", "1:7: found \"é\""),
             ("{\"version\": 1} {}", "1:16: found \"{\""),
+            ("{\"a\" \"b\"}", "1:6: found \"\\\"\""),
+        ],
+    )
+}
+
+#[test]
+fn strings_that_are_not_json(rt: HostRuntime) -> Result<(), Fail> {
+    texts_fail(
+        &rt,
+        rt.alloc(),
+        &[
+            (
+                r#"{"a": "\N"}"#,
+                r#"1:8: "\N" is not an escape; a backslash is written \\"#,
+            ),
+            (
+                r#"["C:\\data", "\"\é"]"#,
+                r#"1:17: "\é" is not an escape; a backslash is written \\"#,
+            ),
+            (
+                "[\"\\\t\"]",
+                r#"1:3: "\" is not an escape; a backslash is written \\"#,
+            ),
+            (
+                r#"{"\u00e9\u12x4": 1}"#,
+                r#"1:9: "\u" needs four hexadecimal digits"#,
+            ),
+            (
+                "{\n \"a\": \"é\\ud800\"}",
+                r#"2:10: "\ud800" is half of a surrogate pair"#,
+            ),
+            (
+                r#"["\ud83d\ude00\ude00"]"#,
+                r#"1:15: "\ude00" is half of a surrogate pair"#,
+            ),
+            (
+                r#"["\ud83dA\ude00"]"#,
+                r#"1:3: "\ud83d" is half of a surrogate pair"#,
+            ),
+            (
+                "{\"a\": \"b\tc\"}",
+                r"1:9: a string has the control character U+0009; it is written \u0009",
+            ),
+            (
+                "[\n\"b\u{1f}\"]",
+                r"2:3: a string has the control character U+001F; it is written \u001f",
+            ),
+            (
+                "{\"a\": \"b\r\nc\"}",
+                r"1:9: the line ends in a string; close its quote, or write the line break as \n",
+            ),
         ],
     )
 }
@@ -509,7 +560,27 @@ fn steps_that_the_check_refuses(rt: HostRuntime) -> Result<(), Fail> {
         ),
         (
             r#"{"group_by":{"keys":["t"],"aggs":[["n","len"],["s","sum","t"]]}}"#,
-            "wrong kind\n  \"s\": sum: \"t\" is text",
+            "wrong kind\n  \"s\": sum: \"t\" is text; give it the kind \"int\"",
+        ),
+        (
+            r#"{"group_by":{"keys":["t"],"aggs":[["s","sum","b"]]}}"#,
+            "wrong kind\n  \"s\": sum: \"b\" is bool",
+        ),
+        (
+            r#"{"rolling_sum":{"column":"t","window":2,"name":"r"}}"#,
+            "wrong kind\n  \"t\" is text; give it the kind \"int\"",
+        ),
+        (
+            r#"{"with_columns":[["w",["mul",{"col":"t"},100]]]}"#,
+            "wrong kind\n  \"w\": mul: text and int; give \"t\" the kind \"int\"",
+        ),
+        (
+            r#"{"filter":["gt",["neg",{"col":"t"}],0]}"#,
+            "wrong kind\n  neg: text; give \"t\" the kind \"int\"",
+        ),
+        (
+            r#"{"filter":["gt",["add","id",{"col":"t"}],0]}"#,
+            "wrong kind\n  add: text and text; a column is {\"col\": \"id\"}",
         ),
         (
             r#"{"with_columns":[["v",1],["w",["not",{"col":"id"}]]]}"#,

@@ -23,8 +23,7 @@ fn main(rt: HostRuntime) -> ExitCode {
             one_input(&rt, alloc, rt.stdin(), &mut out, &mut err)
         }
         Ok(words) => {
-            let log = rt.stderr().is_terminal().then(|| rt.stderr());
-            let mut files = SystemFiles::new(&rt, rt.stdin(), log);
+            let mut files = SystemFiles::new(&rt, rt.stdin(), rt.stderr());
             with_words(&rt, alloc, words, &mut files, &mut out, &mut err)
         }
     })

@@ -1,4 +1,5 @@
 //! Why a text is not JSON, and where.
+use crate::reading::flaws::{Flaw, first_character};
 use crate::reasons::{Reason, Segment};
 use fq_column::Memory;
 use fq_places::Quoted;
@@ -8,12 +9,30 @@ use std::str;
 
 /// Why a text that was refused with an error is not JSON, with its line and its column, in bytes, from 1.
 pub fn no_json(alloc: Global, text: &[u8], error: Error) -> Result<Reason, Memory> {
-    let (line, column) = (error.line(), error.column().max(1));
+    let (line, mut column) = (error.line(), error.column().max(1));
     let said = match str::from_utf8(text) {
-        Ok(text) => reason_at(alloc, rest_of_line(text, line, column), error)?,
+        Ok(text) => {
+            let rest = rest_of_line(text, line, column);
+            match flaw_at(alloc, rest, error)? {
+                Some(flaw) => {
+                    column = column.saturating_add(flaw.place);
+                    format!(in alloc; "{flaw}")?
+                }
+                None => reason_at(alloc, rest, error)?,
+            }
+        }
         Err(_) => String::from_str(alloc, "invalid UTF-8")?,
     };
     Reason::new(alloc, said).within(Segment::Text { line, column })
+}
+
+// What is wrong in the string at the place of the error, if it is not only cut short.
+fn flaw_at(alloc: Global, rest: &[u8], error: Error) -> Result<Option<Flaw<'_>>, Memory> {
+    if error.is_eof() {
+        Ok(None)
+    } else {
+        Flaw::of_string(alloc, rest)
+    }
 }
 
 // The rest of a line of a text from a column on, both from 1.
@@ -40,9 +59,4 @@ fn reason_at(alloc: Global, rest: &[u8], error: Error) -> Result<String, Memory>
         }
         _ => Ok(String::from_str(alloc, said)?),
     }
-}
-
-// The character with which bytes begin.
-fn first_character(bytes: &[u8]) -> Option<&str> {
-    (1..5).find_map(|length| str::from_utf8(bytes.get(..length)?).ok())
 }

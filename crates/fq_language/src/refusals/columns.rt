@@ -49,13 +49,17 @@ pub fn explain_column(alloc: Global, schema: &Schema, name: &str, place: &str) -
     Err(PartFault::of(alloc, Ok(text)))
 }
 
-/// Nothing if a schema has a column of this name that can be summed.
+/// Nothing if a schema has a column of this name that can be summed. A column of texts may be one of numbers, which another kind reads.
 pub fn explain_sum(alloc: Global, schema: &Schema, name: &str, sum: &str) -> Explained {
     explain_column(alloc, schema, name, "")?;
     match schema.kind_of(name) {
         Ok(kind) if kind != Kind::Whole => {
-            let (name, kind) = (Quoted(name.as_bytes()), kind_word(kind));
-            bail!(alloc, "{sum}{name} is {kind}")
+            let (name, word) = (Quoted(name.as_bytes()), kind_word(kind));
+            let hint = match kind {
+                Kind::Text => "; give it the kind \"int\"",
+                _ => "",
+            };
+            bail!(alloc, "{sum}{name} is {word}{hint}")
         }
         _ => Ok(()),
     }

@@ -12,7 +12,7 @@ returns-clause-hyphens c = ((refl, refl), (refl, refl))
 
 pub returns-clause-outputs : goal.returns-clause-outputs
 unfolding arguments_on_literals
-returns-clause-outputs c = ((refl, refl), (refl, refl), (refl, refl))
+returns-clause-outputs c = ((refl, refl), (refl, refl), (refl, refl), (refl, refl), (refl, refl), (refl, refl))
 
 pub returns-clause-others : goal.returns-clause-others
 unfolding arguments_on_literals
