@@ -10,15 +10,16 @@ use Rattle.fq_messages.proofs.reviews.read_files.Goals as goal
 
 pub loop-name-preserved : goal.loop-name-preserved
 loop-name-preserved g c = (
-    omega (arith, c.loop-name.invariant.0),
-    c.in_ok-check_file.ensures.same ∙ c.loop-name.invariant.1,
-    λ inputs tell.
-    next-clean (g.O.Opener.bytes_of c.args.files.now) (λ (name : Bor (List ℕ)). name.now) c.args.names.now inputs (file_layouts c.args.plan.now)
-    c.loop-name.name-index c.loop-name.number _ (layout_of (source_data c.in-Some.source.now))
-    (c.args.check.now.problems == 0) (c.loop-name.check.problems == 0) (c.check_file.new.check.problems == 0)
-    tell c.loop-name-test.true c.loop-name.invariant.0 (sym c.in-Some.ensures.source)
-    (λ bytes known. c.in_ok-check_file.ensures.judged bytes (rw c.loop-name.invariant.1 known))
-    (c.loop-name.invariant.2 inputs tell))
+  omega (arith, c.loop-name.invariant.0),
+  c.in_ok-check_file.ensures.same ∙ c.loop-name.invariant.1,
+  λ inputs tell.
+      next-clean (g.O.Opener.bytes_of c.args.files.now) (λ (name : Bor (List ℕ)). name.now) c.args.names.now inputs (file_layouts c.args.plan.now)
+      c.loop-name.name-index c.loop-name.number _ (layout_of (source_data c.in-Some.source.now))
+      (c.args.check.now.problems == 0) (c.loop-name.check.problems == 0) (c.check_file.new.check.problems == 0)
+      tell c.loop-name-test.true c.loop-name.invariant.0 (sym c.in-Some.ensures.source)
+      (λ bytes known. c.in_ok-check_file.ensures.judged bytes (rw c.loop-name.invariant.1 known))
+      (c.loop-name.invariant.2 inputs tell),
+)
 
 pub returns-in_default-clause-judged : goal.returns-in_default-clause-judged
 returns-in_default-clause-judged g c inputs tell counted =
