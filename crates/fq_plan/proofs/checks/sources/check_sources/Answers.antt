@@ -21,9 +21,9 @@ returns-in-Err-clause-refused c =
           ∙ source-refused before (source_data c.in-Some.source) (map source_data left) c.in-Err.code c.loop-source.invariant.passed e
           ∙ ap (λ n. Some (refused_at (place.Source n) c.in-Err.code)) (sym number))
       | inr memory ↦ inr (λ steps. (
-          memory,
-          omega (arith, number, length-map c.loop-source.yielded source_data, ap length parts, length-append c.loop-source.yielded (c.in-Some.source ∷ left)),
-        ))
+        memory,
+        omega (arith, number, length-map c.loop-source.yielded source_data, ap length parts, length-append c.loop-source.yielded (c.in-Some.source ∷ left)),
+      ))
     ]
 
 pub loop-source-preserved : goal.loop-source-preserved
