@@ -1,5 +1,5 @@
 -- A plan, by its sources with their schemas, its leading row-wise steps and the stages after them, as a physical plan.
-use Rattle.std.proofs.Common.{◌≡◌, ℕ, ◌+◌, List, [], ◌∷◌, ◌++◌, map, length, Option, Some, None, Result, Ok, Err, refl, ap, sym, ◌∙◌, subst, arith, append-nil}
+use Rattle.std.proofs.Common.{◌≡◌, ◌+◌, List, [], ◌∷◌, ◌++◌, map, length, Option, Some, None, Result, Ok, Err, refl, ap, sym, ◌∙◌, subst, arith, append-nil}
 use Rattle.std.specs.Prelude.{IsOk}
 use Rattle.std.specs.Result.{result_map_both}
 use Rattle.std.proofs.lemmas.List.{length-map, map-append}
@@ -8,7 +8,7 @@ use Rattle.fq_expr.specs.Front.{NumberedSteps}
 use Rattle.fq_expr.specs.Kinds.{steps_schema}
 use Rattle.fq_expr.specs.Steps.{fields_after_all}
 use Rattle.fq_language.specs.Judged.{checked, judged, judged_steps, source_refusal}
-use Rattle.fq_language.specs.Plan.{PlanStep, row_wise, PlanData, IsWithinLimits, files_wanted, side_fields, main_fields}
+use Rattle.fq_language.specs.Plan.{row_wise, PlanData, IsWithinLimits, files_wanted, side_fields, main_fields}
 use Rattle.fq_csv.specs.Sources.{Source, but_last, last_or}
 use Rattle.fq_plan.specs.Stages.{columns_of, leading_stage, query_of, stage_steps, IsChecked, Leads}
 use Rattle.fq_run.specs.Physical.{Physical}
