@@ -146,6 +146,7 @@ class MemoryError(FrameqError, builtins.MemoryError):
 _LINES: Tuple[Tuple[str, Type[FrameqError]], ...] = (
     (r"inputs: wanted \d+, got \d+", InputsError),
     (r"standard input \(-\) can be read only once", ArgumentsError),
+    (r"the frame would replace the plan", ArgumentsError),
     (r"plan: not JSON", PlanJsonError),
     (r"plan: wrong shape", PlanShapeError),
     (r"plan: (?:source \d+|step (?P<s>\d+)): no such column", ColumnNotFoundError),

@@ -182,6 +182,12 @@ def outputs(count, program, room):
     os.symlink("nothing.csv", f"{room}/dangling.csv")
     into("a link to nothing", f"{room}/dangling.csv", data, failed, None)
     check(count, "output file", "what it leads to", Answer(int(os.path.exists(f"{room}/nothing.csv")), "", ""), lambda it: it.status == 0)
+    refused, own_plan = fault(2, "the frame would replace the plan"), plan([source(1, "v int")], "")
+    os.symlink("plan.json", f"{room}/plan-link.json")
+    os.link(steps, f"{room}/plan-other.json")
+    for name in ("plan.json", "./plan.json", "plan-link.json", "plan-other.json"):
+        into(f"the plan by {name}", f"{room}/{name}", data, refused, own_plan)
+        into(f"the plan by {name}, before a file is opened", f"{room}/{name}", f"{room}/none.csv", refused, own_plan)
     into("a folder that is not there", f"{room}/none/new.csv", data, failed, None)
     into("a folder", room, data, failed, None)
     into("a full device", "/dev/full", data, failed, None)

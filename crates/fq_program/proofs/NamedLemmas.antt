@@ -9,81 +9,100 @@ use Rattle.fq_csv.specs.Printed.{printed}
 use Rattle.fq_language.specs.Plan.{PlanData, files_wanted}
 use Rattle.fq_run.specs.Run.{Tell}
 use Rattle.fq_run.specs.declared.faults.Fault.TheVariants.{Inputs, Memory}
-use Rattle.fq_shell.specs.Arguments.{Names, reads_input_twice}
+use Rattle.fq_shell.specs.Arguments.{Names, reads_input_twice, replaces_plan}
 use Rattle.fq_messages.specs.Ending.{IsOutside, code_of, number_of, status_of}
 use Rattle.fq_messages.specs.declared.status.Status.TheVariants.{BadDevice, NoMemory}
 use Rattle.fq_messages.specs.declared.failures.Failure.{Failure}
-use Rattle.fq_messages.specs.declared.failures.Failure.TheVariants.{InputTwice, Run}
+use Rattle.fq_messages.specs.declared.failures.Failure.TheVariants.{InputTwice, PlanReplaced, Run}
 use Rattle.fq_program.specs.Program.{AreSettings, checked_plan, frame_of}
 use Rattle.fq_program.specs.Named.{EndsAt, Prints, early_failure, outcome_of}
 
 -- ---- the outcome
 
-pub outcome-twice : (names : Names) (text : List ℕ) (files : List (List ℕ)) → reads_input_twice names ≡ true → outcome_of names text files ≡ Err InputTwice
+pub outcome-replaced : (names : Names) (text : List ℕ) (files : List (List ℕ)) → replaces_plan names ≡ true → outcome_of names text files ≡ Err PlanReplaced
 unfolding outcome_of
-outcome-twice names text files twice = rw twice refl
+outcome-replaced names text files replaced = rw replaced refl
 
-pub outcome-refused : (names : Names) (text : List ℕ) (files : List (List ℕ)) (f : Failure) → reads_input_twice names ≡ false → checked_plan text ≡ Err f →
-    outcome_of names text files ≡ Err f
+-- names that are judged: the frame does not replace the plan, and standard input is read once
+pub record IsApart (names : Names) : Type 0 where
+  pub kept : replaces_plan names ≡ false
+  pub once : reads_input_twice names ≡ false
+
+pub outcome-twice : (names : Names) (text : List ℕ) (files : List (List ℕ)) → replaces_plan names ≡ false → reads_input_twice names ≡ true →
+    outcome_of names text files ≡ Err InputTwice
 unfolding outcome_of
-outcome-refused names text files f once refused = rw (once, refused) refl
+outcome-twice names text files kept twice = rw (kept, twice) refl
 
-pub outcome-checked : (names : Names) (text : List ℕ) (files : List (List ℕ)) (plan : PlanData) → reads_input_twice names ≡ false → checked_plan text ≡ Ok plan →
+pub outcome-refused : (names : Names) (text : List ℕ) (files : List (List ℕ)) (f : Failure) → IsApart names → checked_plan text ≡ Err f → outcome_of names text files ≡ Err f
+unfolding outcome_of
+outcome-refused names text files f apart refused = rw (apart.kept, apart.once, refused) refl
+
+pub outcome-checked : (names : Names) (text : List ℕ) (files : List (List ℕ)) (plan : PlanData) → IsApart names → checked_plan text ≡ Ok plan →
     outcome_of names text files ≡ frame_of plan files
 unfolding outcome_of
-outcome-checked names text files plan once checked = rw (once, checked) refl
+outcome-checked names text files plan apart checked = rw (apart.kept, apart.once, checked) refl
 
 -- ---- a refusal before a data file is opened
 
 abbrev pub AnswersEarly : {X : Type 0} → Result X Failure → Option Failure → Type 0
 AnswersEarly result early = IfSome early (λ refusal. IsErrAnd result (λ f. (f ≡ refusal) ⊎ IsOutside f))
 
-early-is-twice : (names : Names) (text : List ℕ) → reads_input_twice names ≡ true → early_failure names text ≡ Some InputTwice
+early-is-replaced : (names : Names) (text : List ℕ) → replaces_plan names ≡ true → early_failure names text ≡ Some PlanReplaced
 unfolding early_failure
-early-is-twice names text twice = rw twice refl
+early-is-replaced names text replaced = rw replaced refl
 
-early-is-refused : (names : Names) (text : List ℕ) (f : Failure) → reads_input_twice names ≡ false → checked_plan text ≡ Err f → early_failure names text ≡ Some f
+early-is-twice : (names : Names) (text : List ℕ) → replaces_plan names ≡ false → reads_input_twice names ≡ true → early_failure names text ≡ Some InputTwice
 unfolding early_failure
-early-is-refused names text f once refused = rw (once, refused) refl
+early-is-twice names text kept twice = rw (kept, twice) refl
 
-early-is-wrong : (names : Names) (text : List ℕ) (plan : PlanData) → reads_input_twice names ≡ false → checked_plan text ≡ Ok plan →
+early-is-refused : (names : Names) (text : List ℕ) (f : Failure) → IsApart names → checked_plan text ≡ Err f → early_failure names text ≡ Some f
+unfolding early_failure
+early-is-refused names text f apart refused = rw (apart.kept, apart.once, refused) refl
+
+early-is-wrong : (names : Names) (text : List ℕ) (plan : PlanData) → IsApart names → checked_plan text ≡ Ok plan →
     (length names.files == files_wanted plan) ≡ false → early_failure names text ≡ Some (Run (Inputs (files_wanted plan) (length names.files)))
 unfolding early_failure
-early-is-wrong names text plan once checked wrong = rw (once, checked, wrong) refl
+early-is-wrong names text plan apart checked wrong = rw (apart.kept, apart.once, checked, wrong) refl
 
-early-is-none : (names : Names) (text : List ℕ) (plan : PlanData) → reads_input_twice names ≡ false → checked_plan text ≡ Ok plan →
+early-is-none : (names : Names) (text : List ℕ) (plan : PlanData) → IsApart names → checked_plan text ≡ Ok plan →
     (length names.files == files_wanted plan) ≡ true → early_failure names text ≡ None
 unfolding early_failure
-early-is-none names text plan once checked right = rw (once, checked, right) refl
+early-is-none names text plan apart checked right = rw (apart.kept, apart.once, checked, right) refl
 
-pub early-twice : (X : Type 0) (names : Names) (text : List ℕ) → reads_input_twice names ≡ true → (let r : Result X Failure = Err InputTwice in AnswersEarly r (early_failure names text))
-early-twice X names text twice =
+pub early-replaced : (X : Type 0) (names : Names) (text : List ℕ) → replaces_plan names ≡ true → (let r : Result X Failure = Err PlanReplaced in AnswersEarly r (early_failure names text))
+early-replaced X names text replaced =
+    let r : Result X Failure = Err PlanReplaced in
+    subst (AnswersEarly r) (sym (early-is-replaced names text replaced)) (inl refl)
+
+pub early-twice : (X : Type 0) (names : Names) (text : List ℕ) → replaces_plan names ≡ false → reads_input_twice names ≡ true →
+    (let r : Result X Failure = Err InputTwice in AnswersEarly r (early_failure names text))
+early-twice X names text kept twice =
     let r : Result X Failure = Err InputTwice in
-    subst (AnswersEarly r) (sym (early-is-twice names text twice)) (inl refl)
+    subst (AnswersEarly r) (sym (early-is-twice names text kept twice)) (inl refl)
 
 outside-early : (X : Type 0) (f : Failure) (early : Option Failure) → IsOutside f → (let r : Result X Failure = Err f in AnswersEarly r early)
 outside-early X f None outside = tt
 outside-early X f (Some refusal) outside = inr outside
 
-pub early-refused : (X : Type 0) (names : Names) (text : List ℕ) (f : Failure) → reads_input_twice names ≡ false → (checked_plan text ≡ Err f) ⊎ IsOutside f →
+pub early-refused : (X : Type 0) (names : Names) (text : List ℕ) (f : Failure) → IsApart names → (checked_plan text ≡ Err f) ⊎ IsOutside f →
     (let r : Result X Failure = Err f in AnswersEarly r (early_failure names text))
-early-refused X names text f once why = elim why [
+early-refused X names text f apart why = elim why [
   | inl refused ↦
       let r : Result X Failure = Err f in
-      subst (AnswersEarly r) (sym (early-is-refused names text f once refused)) (inl refl)
+      subst (AnswersEarly r) (sym (early-is-refused names text f apart refused)) (inl refl)
   | inr outside ↦ outside-early X f (early_failure names text) outside
 ]
 
-pub early-checked : {X : Type 0} (names : Names) (text : List ℕ) (plan : PlanData) (r : Result X Failure) → reads_input_twice names ≡ false → checked_plan text ≡ Ok plan →
+pub early-checked : {X : Type 0} (names : Names) (text : List ℕ) (plan : PlanData) (r : Result X Failure) → IsApart names → checked_plan text ≡ Ok plan →
     (length names.files ≢ files_wanted plan → r ≡ Err (Run (Inputs (files_wanted plan) (length names.files)))) → AnswersEarly r (early_failure names text)
-early-checked {X} names text plan r once checked counted = go (length names.files == files_wanted plan) refl
+early-checked {X} names text plan r apart checked counted = go (length names.files == files_wanted plan) refl
   where
     go : (b : Bool) → (length names.files == files_wanted plan) ≡ b → AnswersEarly r (early_failure names text)
-    go true e = subst (AnswersEarly r) (sym (early-is-none names text plan once checked e)) tt
+    go true e = subst (AnswersEarly r) (sym (early-is-none names text plan apart checked e)) tt
     go false e =
         let differs : length names.files ≢ files_wanted plan = λ same. let bad = eq-eqb _ _ same in absurd (cc) in
         let answered : AnswersEarly r (Some (Run (Inputs (files_wanted plan) (length names.files)))) = rw (counted differs) (inl refl) in
-        subst (AnswersEarly r) (sym (early-is-wrong names text plan once checked e)) answered
+        subst (AnswersEarly r) (sym (early-is-wrong names text plan apart checked e)) answered
 
 -- ---- a run of a checked plan
 

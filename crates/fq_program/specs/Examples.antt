@@ -13,7 +13,7 @@ use Rattle.fq_shell.specs.Arguments.{names_of}
 use Rattle.fq_program.specs.Named.{early_failure, outcome_of}
 use Rattle.fq_program.specs.Program.{program}
 use Rattle.fq_messages.specs.declared.failures.Failure.{Failure}
-use Rattle.fq_messages.specs.declared.failures.Failure.TheVariants.{InputTwice, Plan, Check, Run}
+use Rattle.fq_messages.specs.declared.failures.Failure.TheVariants.{InputTwice, PlanReplaced, Plan, Check, Run}
 
 -- the output of an input, or its failure
 abbrev pub output : List ℕ → Result (List ℕ) Failure
@@ -46,7 +46,8 @@ Statuses = (code_of (output (line (codes "1") over_ten ++ codes "id,v\n")) ≡ 0
     × (code_of (output (codes "{")) ≡ 3)
     × (code_of (output (line (codes "1") over_ten)) ≡ 4)
 
--- two files of columns id and v, in the order in which they are named; no plan; the wrong number of files; standard input named twice
+-- two files of columns id and v, in the order in which they are named; no plan; the wrong number of files; standard input named twice; a
+-- frame that would replace the plan
 abbrev pub NamedFiles : Type 0
 NamedFiles =
     (result_map_both printed (λ failure. failure) (outcome_of (names_of (codes "--plan=p" ∷ codes "1" ∷ codes "0" ∷ [])) (line (codes "2") over_ten)
@@ -55,3 +56,4 @@ NamedFiles =
     × (early_failure (names_of (codes "--plan=p" ∷ codes "1" ∷ [])) (codes "{") ≡ Some (Plan Json))
     × (early_failure (names_of (codes "--plan=p" ∷ codes "1" ∷ [])) (line (codes "2") over_ten) ≡ Some (Run (Inputs 2 1)))
     × (early_failure (names_of (codes "--plan=-" ∷ codes "-" ∷ [])) (line (codes "1") over_ten) ≡ Some InputTwice)
+    × (early_failure (names_of (codes "--plan=p" ∷ codes "-op" ∷ codes "1" ∷ [])) (codes "{") ≡ Some PlanReplaced)

@@ -1,31 +1,28 @@
 -- A run and a check of the files that arguments name: what they come to, by the text of the plan and the bytes of the files in their order.
-use Rattle.std.specs.Prelude.{◌≡◌, ◌⊎◌, ◌==◌, not, ℕ, true, false, List, length, Option, Some, None, option_and_then, Result, Ok, Err, OnOk, IfErr, IsOk, MatchResult, if◌then◌else◌}
+use Rattle.std.specs.Prelude.{◌≡◌, ◌⊎◌, ◌==◌, not, ℕ, true, false, List, length, Option, Some, None, Result, Ok, Err, OnOk, IfErr, IsOk, MatchResult, if◌then◌else◌}
 use Rattle.std.specs.Io.KnownBytes.{Appends}
 use Rattle.fq_column.specs.Frame.{Frame}
 use Rattle.fq_csv.specs.Printed.{printed}
 use Rattle.fq_language.specs.Plan.{PlanData, file_layouts, files_wanted}
 use Rattle.fq_review.specs.Checked.{are_clean}
 use Rattle.fq_run.specs.declared.faults.Fault.TheVariants.{Inputs}
-use Rattle.fq_shell.specs.Arguments.{Names, is_check, is_run, names_of, names_to_check, reads_input_twice}
+use Rattle.fq_shell.specs.Arguments.{Names, is_check, is_run, names_of, names_to_check, plan_text, reads_input_twice, replaces_plan}
 use Rattle.fq_messages.specs.Ending.{bad_device, no_memory, IsOutside}
 use Rattle.fq_messages.specs.declared.failures.Failure.{Failure}
-use Rattle.fq_messages.specs.declared.failures.Failure.TheVariants.{InputTwice, Problems, Run}
+use Rattle.fq_messages.specs.declared.failures.Failure.TheVariants.{InputTwice, PlanReplaced, Problems, Run}
 use Rattle.fq_program.specs.Program.{checked_plan, frame_of}
-
--- the text of the plan, if it is known
-abbrev pub plan_text : (List ℕ → Option (List ℕ)) → Names → Option (List ℕ)
-plan_text bytes_of names = option_and_then bytes_of names.plan
 
 -- these are the arguments of a run, and this is the text of the plan that they name
 pub record IsRun (bytes_of : List ℕ → Option (List ℕ)) (arguments : List (List ℕ)) (text : List ℕ) : Type 0 where
   pub taken : is_run arguments ≡ true
   pub plan : plan_text bytes_of (names_of arguments) ≡ Some text
 
--- why a run ends before a data file is opened: standard input is named twice, the text is no plan, the check refuses it, or the number of
--- files is not the plan's
+-- why a run ends before a data file is opened: the frame would replace the plan, standard input is named twice, the text is no plan, the
+-- check refuses it, or the number of files is not the plan's
 unfoldable pub early_failure : Names → List ℕ → Option Failure
 early_failure names text =
-    if reads_input_twice names then Some InputTwice
+    if replaces_plan names then Some PlanReplaced
+    else if reads_input_twice names then Some InputTwice
     else elim (checked_plan text) [
       | Err failure ↦ Some failure
       | Ok plan ↦ if length names.files == files_wanted plan then None else Some (Run (Inputs (files_wanted plan) (length names.files)))
@@ -34,7 +31,8 @@ early_failure names text =
 -- the frame that a run comes to, or why it comes to none
 unfoldable pub outcome_of : Names → List ℕ → List (List ℕ) → Result Frame Failure
 outcome_of names text files =
-    if reads_input_twice names then Err InputTwice
+    if replaces_plan names then Err PlanReplaced
+    else if reads_input_twice names then Err InputTwice
     else elim (checked_plan text) [ Err failure ↦ Err failure | Ok plan ↦ frame_of plan files ]
 
 -- these are the arguments of a check, and not of a run, and this is the text of the plan that they name

@@ -6,11 +6,11 @@ ghost use Rattle.fq_csv.specs.Printed.{printed};
 ghost use Rattle.fq_language.specs.Plan.{files_wanted};
 ghost use Rattle.fq_run.specs.declared.faults.Fault.TheVariants as fault;
 ghost use Rattle.fq_run.specs.Run.{Tell};
-ghost use Rattle.fq_shell.specs.Arguments.{is_run, names_of, names_to_check, named_by};
+ghost use Rattle.fq_shell.specs.Arguments.{is_run, names_of, names_to_check, named_by, plan_text};
 ghost use Rattle.fq_messages.specs.Ending.{done, bad_device, code_of, number_of, status_of, IsOutside};
 ghost use Rattle.fq_messages.specs.declared.failures.Failure.TheVariants as failure;
 ghost use Rattle.fq_program.specs.Program.{checked_plan as checked_plan_of, frame_of};
-ghost use Rattle.fq_program.specs.Named.{check_of, early_failure, outcome_of, plan_text, review_of, ComesTo, EndsAt, FailsAs, IsCheck, IsRun, Prints};
+ghost use Rattle.fq_program.specs.Named.{check_of, early_failure, outcome_of, review_of, ComesTo, EndsAt, FailsAs, IsCheck, IsRun, Prints};
 
 use crate::program::{checked_plan, run_over};
 use clap::error::ErrorKind;
@@ -223,6 +223,9 @@ fn run_options<T: Threads + Wait + Sync, O: Opener, W: Write, E: Write>(
     if options.check() {
         return check_named(alloc, options, files, err, learned);
     }
+    if options.replaces_plan(files) {
+        return Err(Failure::PlanReplaced);
+    }
     if options.reads_input_twice() {
         return Err(Failure::InputTwice);
     }
@@ -384,6 +387,9 @@ fn run_named<T: Threads + Wait + Sync, O: Opener, W: Write>(
     ensures elsewhere { IsSome (named_by options.now).output → Keeps (W.contents out.old) (W.contents out.new) }
     ensures unwritten { IfErr result (λ f. f ≢ failure.Run fault.Write → Keeps (W.contents out.old) (W.contents out.new)) }
 {
+    if options.replaces_plan(files) {
+        return Err(Failure::PlanReplaced);
+    }
     if options.reads_input_twice() {
         return Err(Failure::InputTwice);
     }

@@ -107,6 +107,10 @@ names_to_check arguments = names_in (matches_of check_app arguments)
 unfoldable pub named_by : Options → Names
 named_by options = names_in (rows_of (found_of options.0))
 
+-- the text of the plan, if it is known
+abbrev pub plan_text : (List ℕ → Option (List ℕ)) → Names → Option (List ℕ)
+plan_text bytes_of names = option_and_then bytes_of names.plan
+
 -- whether the plan and the file that takes the frame have one name
 unfoldable pub replaces_plan : Names → Bool
 replaces_plan names = option_map_or (λ plan. option_map_or (λ output. bytes_eq output plan) names.output false) names.plan false

@@ -1,5 +1,6 @@
 //! What opens files by name.
 ghost use Rattle.std.specs.Prelude.{◌≡◌, ℕ, List, Option, Some, None, IfOk, true};
+ghost use Rattle.std.specs.Str.{bytes_eq};
 
 use crate::outputs::{Output, SystemOutput};
 use crate::progress::{Line, Watched};
@@ -57,10 +58,12 @@ pub trait Opener {
     /// What takes the place of the file of this name, once it is kept. Fails if nothing can be written there.
     fn output_of(&mut self, alloc: Global, name: &str) -> Result<Self::Output, OpenFault>;
 
-    /// Whether two names are those of one file. An opener may know no more of this than the names say.
+    /// Whether two names are those of one file. An opener may know no more of this than the names say, and does not if it tells the bytes of
+    /// the second.
     fn is_same_file(&mut self, one: &str, other: &str) -> bool
         ensures same { bytes_of self.new ≡ bytes_of self.old }
         ensures named { one.now ≡ other.now → result ≡ true }
+        ensures told { (bytes : List ℕ) → bytes_of self.old other.now ≡ Some bytes → result ≡ bytes_eq one.now other.now }
     {
         one == other
     }

@@ -1,8 +1,8 @@
 //! The arguments of the command line.
-ghost use Rattle.std.specs.Prelude.{◌≡◌, ◌≤◌, None, true, false, codes, map, option_map, string_bytes, count_by, IfOk, IfErr};
+ghost use Rattle.std.specs.Prelude.{◌≡◌, ◌≤◌, ℕ, List, None, Some, true, false, codes, map, option_map, string_bytes, count_by, IfOk, IfErr};
 ghost use Rattle.std.specs.Option.{option_map_or};
 ghost use Rattle.clap.specs.Words.{app_of, kind_of, rule_of};
-ghost use Rattle.fq_shell.specs.Arguments.{option_rule, number_rule, limit_rule, flag_rule, output_rule, file_rule, run_app, check_app, is_run, is_check, is_standard, is_standard_output, names_of, names_to_check, named_by, reads_input_twice, replaces_plan};
+ghost use Rattle.fq_shell.specs.Arguments.{option_rule, number_rule, limit_rule, flag_rule, output_rule, file_rule, run_app, check_app, is_run, is_check, is_standard, is_standard_output, names_of, names_to_check, named_by, plan_text, reads_input_twice, replaces_plan};
 
 use crate::files::{Opener, STANDARD_INPUT, STANDARD_OUTPUT};
 use clap::error::ErrorKind;
@@ -106,6 +106,7 @@ impl<'a> Options<'a> {
         ensures same { O.bytes_of files.new ≡ O.bytes_of files.old }
         ensures named { replaces_plan (named_by self.now) ≡ true → result ≡ true }
         ensures elsewhere { (named_by self.now).output ≡ None → result ≡ false }
+        ensures told { (text : List ℕ) → plan_text (O.bytes_of files.old) (named_by self.now) ≡ Some text → result ≡ replaces_plan (named_by self.now) }
     {
         match (self.plan(), self.output()) {
             (Some(plan), Some(output)) => files.is_same_file(output, plan),

@@ -317,6 +317,23 @@ fn arguments_that_another_excludes(rt: HostRuntime) -> Result<(), Fail> {
     Ok(())
 }
 
+// The frame would replace the plan: that is said before a file is opened, of a plan that is there or not, and whatever else is wrong.
+#[test]
+fn a_frame_in_the_place_of_the_plan(rt: HostRuntime) -> Result<(), Fail> {
+    let alloc = rt.alloc();
+    let said = "the frame would replace the plan";
+    let detailed = "the frame would replace the plan\n  the plan is plan\n  --output is plan";
+    for (line, plan, fault) in [
+        ("--plan plan --output plan none", "{", said),
+        ("--plan none -o none 0 1", "", said),
+        ("-oplan --plan=plan 0 --details", "{}", detailed),
+        ("--plan plan --batch 1 --batch 2 --output plan 0", "{", said),
+    ] {
+        fails_by(&rt, alloc, line, plan, &["v\n1\n"], "", 2, fault)?;
+    }
+    Ok(())
+}
+
 #[test]
 fn names_of_standard_output(rt: HostRuntime) -> Result<(), Fail> {
     let alloc = rt.alloc();

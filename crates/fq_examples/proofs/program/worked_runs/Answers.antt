@@ -6,4 +6,4 @@ use Rattle.fq_examples.proofs.program.worked_runs.Goals as goal
 
 pub returns : goal.returns
 unfolding plans_on_literals arguments_on_literals early_failure outcome_of
-returns c = record { named = (refl, refl, refl, refl, refl) }
+returns c = record { named = (refl, refl, refl, refl, refl, refl) }
