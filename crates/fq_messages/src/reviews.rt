@@ -94,14 +94,22 @@ fn write_orders<E: Write>(
     err: &mut E,
 ) -> Result<(), Memory> {
     for order in plan.text_orders(alloc)? {
-        let before = plan.sources().iter().take(order.source());
-        let first = before.map(|source| usize::from(source.files())).sum();
+        let first = files_before(plan, order.source());
         let files = plan.sources().get(order.source()).map_or(0, Source::files);
         if check.has_only_numbers(first, usize::from(files), order.column()) {
             let _ = writeln!(err, "{name}: warning: {order}, but its fields are numbers");
         }
     }
     Ok(())
+}
+
+// How many files the sources before that of a number have.
+fn files_before(plan: &Plan, number: usize) -> usize {
+    let mut files = 0usize;
+    for source in plan.sources().iter().take(number) {
+        files = files.saturating_add(usize::from(source.files()));
+    }
+    files
 }
 
 // Checks a file of a source.

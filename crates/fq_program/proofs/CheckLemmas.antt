@@ -7,7 +7,6 @@ use Rattle.fq_language.specs.Judged.{checked, judged}
 use Rattle.fq_language.specs.declared.faults.CheckFault.{CheckFault}
 use Rattle.fq_language.specs.Plan.{PlanData, file_layouts, files_wanted}
 use Rattle.fq_language.specs.Spelling.{read_as_plan}
-use Rattle.fq_language.specs.declared.faults.PlanFault.{PlanFault}
 use Rattle.fq_review.specs.Checked.{are_clean}
 use Rattle.fq_run.specs.Run.{Tell}
 use Rattle.fq_run.specs.declared.faults.Fault.TheVariants.{Inputs}
@@ -54,27 +53,27 @@ review-counted bytes_of plan names files tell same = sym (many bytes_of names fi
 -- what a check of the files has answered is what it comes to
 pub review-comes : {X : Type 0} (plan read : PlanData) (files : List (List ℕ)) (r : Result X Failure) → read ≡ plan → length files ≡ files_wanted plan →
     IsVerdict (are_clean (file_layouts read) files) r → ComesTo (review_of plan files) r
-review-comes plan read files r same counted verdict =
+review-comes {X} plan read files r same counted verdict =
     go (are_clean (file_layouts plan) files) r refl (subst (λ (p : PlanData). IsVerdict (are_clean (file_layouts p) files) r) same verdict)
   where
     enough : (length files == files_wanted plan) ≡ true
     enough = eq-eqb _ _ counted
 
     clean : (b : Bool) → are_clean (file_layouts plan) files ≡ b → b ≡ true → review_of plan files ≡ Ok tt
-    clean b e yes = rw (enough, e ∙ yes) refl
+    clean b e right = rw (enough, e ∙ right) refl
 
     problems : (b : Bool) → are_clean (file_layouts plan) files ≡ b → b ≡ false → review_of plan files ≡ Err Problems
-    problems b e no = rw (enough, e ∙ no) refl
+    problems b e wrong = rw (enough, e ∙ wrong) refl
 
     go : (b : Bool) (s : Result X Failure) → are_clean (file_layouts plan) files ≡ b → IsVerdict b s → ComesTo (review_of plan files) s
-    go b (Ok x) e yes = rw (clean b e yes) tt
+    go b (Ok x) e right = rw (clean b e right) refl
     go b (Err f) e why = elim why [
-      | inl no ↦ inl (problems b e no.1 ∙ ap Err (sym no.0))
+      | inl found ↦ inl (problems b e found.1 ∙ ap Err (sym found.0))
       | inr outside ↦ inr outside
     ]
 
 spells : (text : List ℕ) (read : PlanData) → read_as_plan text ≡ Ok read → checked_plan text ≡ result_map_both (λ p. p) Check (checked read)
-spells text read spelled = rw spelled refl
+spells text read spelled = rw (spelled, checked_plan) refl
 
 mapped : {X : Type 0} (r : Result X CheckFault) (read plan : PlanData) → result_map_both (λ p. p) Check (result_map_both (λ _. read) (λ e. e) r) ≡ Ok plan → read ≡ plan
 mapped (Ok x) read plan e = cc
@@ -84,17 +83,11 @@ mapped (Err f) read plan e = absurd (cc)
 pub read-checked : (text : List ℕ) (read plan : PlanData) → read_as_plan text ≡ Ok read → checked_plan text ≡ Ok plan → read ≡ plan
 read-checked text read plan spelled fine = mapped (judged read) read plan (sym (spells text read spelled) ∙ fine)
 
--- a text that spells a checked plan is read
-pub read-fine : (text : List ℕ) (fault : PlanFault) (plan : PlanData) → read_as_plan text ≡ Err fault → checked_plan text ≡ Ok plan → ⊥
-read-fine text fault plan misread fine =
-    let is : checked_plan text ≡ Err (Plan fault) = rw misread refl in
-    absurd (cc)
-
 -- ---- the status
 
 pub comes-ends : {X Y : Type 0} (outcome : Result X Failure) (r : Result Y Failure) → ComesTo outcome r → EndsAt (code_of outcome) (code_of r)
 comes-ends (Ok x) (Ok y) h = inl refl
-comes-ends (Err f) (Ok y) h = absurd h
+comes-ends (Err f) (Ok y) h = let bad : false ≡ true = h in absurd (cc)
 comes-ends outcome (Err f) h = elim h [
   | inl same ↦ inl (sym (ap code_of same))
   | inr outside ↦ elim outside [ inl device ↦ inr (inl (ap number_of device)) | inr memory ↦ inr (inr (ap number_of memory)) ]

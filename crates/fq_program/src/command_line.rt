@@ -244,8 +244,7 @@ fn check_named<O: Opener, E: Write>(
     err: &mut E,
     learned: &mut Learned,
 ) -> Result<(), Failure>
-    ensures device { IfErr result (λ f. f ≢ failure.Run fault.Write) }
-    ensures judged { (text : List ℕ) (inputs : List (List ℕ)) → plan_text (O.bytes_of files.old) (named_by options.now) ≡ Some text →
+    ensures { (text : List ℕ) (inputs : List (List ℕ)) → plan_text (O.bytes_of files.old) (named_by options.now) ≡ Some text →
         Tell (O.bytes_of files.old) (named_by options.now).files inputs → ComesTo (check_of (named_by options.now) text inputs) result }
 {
     if options.reads_input_twice() {
@@ -266,8 +265,7 @@ fn check_counted<O: Opener, E: Write>(
     err: &mut E,
     text: &[u8],
 ) -> Result<(), Failure>
-    ensures device { IfErr result (λ f. f ≢ failure.Run fault.Write) }
-    ensures judged { (inputs : List (List ℕ)) → Tell (O.bytes_of files.old) (named_by options.now).files inputs → checked_plan_of text.now ≡ Ok plan.now →
+    ensures { (inputs : List (List ℕ)) → Tell (O.bytes_of files.old) (named_by options.now).files inputs → checked_plan_of text.now ≡ Ok plan.now →
         ComesTo (review_of plan.now inputs) result }
 {
     count_files(plan, options.files())?;

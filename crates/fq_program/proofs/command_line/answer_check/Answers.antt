@@ -8,4 +8,4 @@ use Rattle.fq_program.proofs.command_line.answer_check.Goals as goal
 pub returns : goal.returns
 returns g c text inputs known tell =
     subst (λ (n : ℕ). EndsAt (code_of (check_of (named_by c.args.options.now) text inputs)) n) (sym c.answer_ending.ensures.code)
-    (comes-ends (check_of (named_by c.args.options.now) text inputs) c.check_named-ending.result (c.check_named-ending.ensures.judged text inputs known tell))
+    (comes-ends (check_of (named_by c.args.options.now) text inputs) c.check_named-ending.result (c.check_named-ending.ensures text inputs known tell))
