@@ -393,7 +393,7 @@ finished:	/* without a fault everything was handed out */
 	};
 	goto close;
 
-failed:	/* run_hub; what is forgotten here is not used again */
+failed:	/* run_hub, drain_all; what is forgotten here is not used again */
 	atomic {
 		n = 0;
 		do

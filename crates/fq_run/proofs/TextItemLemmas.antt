@@ -25,7 +25,7 @@ use Rattle.fq_lanes.specs.Beside.{Each}
 use Rattle.fq_lanes.specs.Engine.{IsWorked}
 use Rattle.fq_lanes.specs.Numbering.{AllNumbered, numbered, numbered_file}
 use Rattle.fq_run.specs.EngineRun.{items_of_files, records_of_files}
-use Rattle.fq_run.specs.Feeding.{AllTextItems, AreTextItems, Feeding, IsTextItem, MayCome, end_item, runs_from, scanned_items}
+use Rattle.fq_run.specs.Feeding.{AllTextItems, AreTextItems, Feeding, IsTextItem, MayCome, end_item, runs_from}
 use Rattle.fq_run.specs.Working.{piece_of, piece_until, rows_of_run, work_on}
 use Rattle.fq_run.specs.declared.file_feeds.FileItem.{FileItem}
 use Rattle.fq_run.specs.declared.file_feeds.FileItem.TheVariants as file_item
