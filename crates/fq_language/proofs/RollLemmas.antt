@@ -1,24 +1,17 @@
 -- An object that spells a rolling sum and has a member "min_samples" has four members.
-use Rattle.std.proofs.Common.{◌≡◌, ◌∙◌, ℕ, ◌+◌, ◌≤◌, ℤ, Bool, true, false, ◌||◌, List, [], ◌∷◌, length, Option, Some, None, refl, ap, sym, subst, arith, Ordering}
+use Rattle.std.proofs.Common.{◌≡◌, ◌∙◌, ℕ, ◌≤◌, Bool, true, false, ◌||◌, List, [], ◌∷◌, length, Option, Some, None, refl, ap, sym, subst, arith, Ordering}
 use Rattle.std.specs.Prelude.{◌==◌, codes, is_some, if◌then◌else◌}
 use Rattle.std.specs.Ordering.{nat_cmp, match_ordering, is_eq}
 use Rattle.std.specs.declared.cmp.Ordering.TheVariants.{Less, Equal, Greater}
 use Rattle.std.specs.Cmp.Lexicographic.{bytes_decides, slice_cmp, texts_ties}
 use Rattle.std.proofs.lemmas.Bool.Decides.{nat_tests}
 use Rattle.serde_json.specs.Data.{Data, null, boolean, number, string, array, object, Members, no_members, member as member_then}
-use Rattle.serde_json.specs.Find.{as_bool, get, get_member}
-use Rattle.fq_column.specs.Frame.{Fields, Name, has_name, same_name}
-use Rattle.fq_csv.specs.Sources.{Source}
+use Rattle.serde_json.specs.Find.{get, get_member}
+use Rattle.fq_column.specs.Frame.{Name, has_name, same_name}
 use Rattle.fq_expr.proofs.DistinctLemmas.{distinct-le}
-use Rattle.fq_ops.specs.declared.joins.How.{How}
-use Rattle.fq_language.specs.Parts.{given, only_if, count_of_members, each_of, has_members, member, name_of, pair_of, whole, whole_from_to, with_length, word}
+use Rattle.fq_language.specs.Parts.{given, only_if, count_of_members, has_members, name_of, whole}
 use Rattle.fq_language.specs.Plan.{PlanStep, rolling_sum}
-use Rattle.fq_language.specs.Reading.{matches_nulls, null_texts}
-use Rattle.fq_language.specs.Spelling.{hows, join_of, join_with, kinds, names, roll_of, roll_with, source_of, source_with}
-use Rattle.fq_language.specs.declared.plans.Version.{Version}
-use Rattle.fq_language.specs.declared.plans.Version.TheVariants.{One, Two}
-use Rattle.fq_language.specs.declared.plans.TheConstants.{MAX_NULL_VALUES}
-use Rattle.fq_csv.specs.declared.sources.TheConstants.{MAX_FILES}
+use Rattle.fq_language.specs.Spelling.{roll_of, roll_with}
 
 -- ---- nothing is given in the end
 

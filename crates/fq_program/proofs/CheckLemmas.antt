@@ -1,6 +1,5 @@
 -- What a check of named files comes to, case by case.
-use Rattle.std.proofs.Common.{◌≡◌, ◌≢◌, ◌∙◌, ◌==◌, ℕ, Bool, true, false, List, length, Option, Some, None, Result, Ok, Err, refl, ap, sym, subst, inl, inr, eq-eqb, eqb-true}
-use Rattle.std.specs.Prelude.{◌⊎◌}
+use Rattle.std.proofs.Common.{◌≡◌, ◌≢◌, ◌∙◌, ◌==◌, ℕ, Bool, true, false, List, length, Option, Some, Result, Ok, Err, refl, ap, sym, subst, inl, inr, eq-eqb, eqb-true}
 use Rattle.std.proofs.lemmas.List.{length-map}
 use Rattle.std.specs.Result.{result_map_both}
 use Rattle.fq_language.specs.Judged.{checked, judged}
@@ -11,10 +10,10 @@ use Rattle.fq_review.specs.Checked.{are_clean}
 use Rattle.fq_run.specs.Run.{Tell}
 use Rattle.fq_run.specs.declared.faults.Fault.TheVariants.{Inputs}
 use Rattle.fq_shell.specs.Arguments.{Names, reads_input_twice}
-use Rattle.fq_messages.specs.Ending.{IsOutside, code_of, number_of}
+use Rattle.fq_messages.specs.Ending.{code_of, number_of}
 use Rattle.fq_messages.specs.Reviewed.{IsVerdict}
 use Rattle.fq_messages.specs.declared.failures.Failure.{Failure}
-use Rattle.fq_messages.specs.declared.failures.Failure.TheVariants.{Check, InputTwice, Plan, Problems, Run}
+use Rattle.fq_messages.specs.declared.failures.Failure.TheVariants.{Check, InputTwice, Problems, Run}
 use Rattle.fq_program.specs.Named.{ComesTo, EndsAt, check_of, review_of}
 use Rattle.fq_program.specs.Program.{checked_plan}
 

@@ -1,4 +1,4 @@
-use Rattle.std.proofs.Common.{◌≡◌, ◌∙◌, ◌+◌, ◌≤◌, ℕ, List, Option, None, length, ap, arith, sym}
+use Rattle.std.proofs.Common.{◌≡◌, ◌∙◌, ◌≤◌, ℕ, List, None, length, ap, arith, sym}
 use Rattle.std.specs.Prelude.{◌==◌, ◌&&◌, option_map, slice_get}
 use Rattle.std.specs.Borrow.{Bor}
 use Rattle.fq_csv.specs.Sources.{layout_of}

@@ -1,9 +1,9 @@
 use Rattle.std.proofs.Common.{◌≡◌, ◌∙◌, Some, None, map, sym, subst, ap, inr, string_bytes}
 use Rattle.std.specs.Prelude.{IfSome, IsSome}
 use Rattle.fq_run.specs.Run.{Tell}
-use Rattle.fq_shell.specs.Arguments.{Names, names_of, named_by}
+use Rattle.fq_shell.specs.Arguments.{Names, names_of, named_by, plan_text}
 use Rattle.fq_messages.specs.Ending.{code_of, done, number_of, status_of}
-use Rattle.fq_program.specs.Named.{EndsAt, early_failure, outcome_of, plan_text}
+use Rattle.fq_program.specs.Named.{EndsAt, early_failure, outcome_of}
 use Rattle.fq_program.proofs.NamedLemmas.{any-early}
 use Rattle.fq_program.proofs.command_line.with_words.Goals as goal
 

@@ -1,4 +1,4 @@
-use Rattle.std.proofs.Common.{◌≡◌, ◌∙◌, Some, codes, ap, [], ◌∷◌}
+use Rattle.std.proofs.Common.{◌∙◌, Some, codes, ap, [], ◌∷◌}
 use Rattle.clap.specs.Words.{Rule, rule_of}
 use Rattle.clap.specs.declared.builder.value_parser.ValueParser.TheVariants.{Unsigned}
 use Rattle.fq_shell.proofs.RuleLemmas.{parsed-by}
