@@ -4,6 +4,7 @@ import functools
 import os
 import random
 import re
+import signal
 import subprocess
 import sys
 
@@ -157,6 +158,7 @@ def name_of(answer, own):
     return {5: "read or write failed", 6: "out of memory"}.get(answer.status, f"status {answer.status}")
 
 
+ENDS = (signal.SIGHUP, signal.SIGINT, signal.SIGQUIT, signal.SIGTERM, signal.SIGKILL)
 SORTS = ("memory", "thread", "open", "read", "write", "interrupt", "short-read", "short-write", "keep")
 
 
@@ -240,6 +242,34 @@ class IntoFile:
         return answer._replace(out=held if answer.status == 0 else "")
 
 
+def end_into_file(count, program, folder, library, ends):
+    """Runs into a file that a signal ends before each call of a run in turn: the file stays as it was, or holds the frame, and what is left
+    beside it the next run takes away."""
+    os.mkdir(folder)
+    steps, data = write(f"{folder}/plan.json", plan([source(1, "v int")], OVER_TEN)), write(f"{folder}/v.csv", "v\n5\n20\n")
+    taken, kind = f"{folder}/frame.csv", f"program, ended by {ends.name}"
+    run = functools.partial(program.run, ["--output", taken, "--plan", steps, data])
+
+    def held():
+        with open(taken, encoding="utf-8") as file:
+            return file.read()
+
+    for number in range(1, MOST_CALLS):
+        write(taken, "other\n")
+        answer, is_met = refuse(run, library, "signal", f"{number} {ends.value}")
+        own, texts = (Answer(-ends, "", ""), ("other\n", "v\n20\n")) if is_met else (frame(""), ("v\n20\n",))
+        is_right = answer == own and held() in texts
+        count.add(kind, "met none" if not is_met else "replaced" if held() != "other\n" else "as it was",
+                  None if is_right else f"call {number}: {answer}, {held()!r}")
+        after = run()
+        left = sorted(os.listdir(folder))
+        is_right = after == frame("") and held() == "v\n20\n" and left == ["frame.csv", "plan.json", "v.csv"]
+        count.add(kind, "the run after it", None if is_right else f"after call {number}: {after}, {held()!r}, {left}")
+        if not is_met:
+            return
+    count.add(kind, "without end", "there is always one more call")
+
+
 def with_names(text, paths):
     """A text with these paths where the letters for them stand before a colon. All at once, since a path may hold such a letter."""
     return re.sub("[PF](?=:)", lambda letter: paths[letter[0]], text)
@@ -321,6 +351,7 @@ def try_program(count, pool, program, library, room):
     together(((try_sort, count, *it, library, sort) for it in runs for sort in SORTS), pool)
     own = frame("v\n20\n")
     together(((try_sort, count, "into a file", IntoFile(program, f"{room}/into-{sort}"), own, library, sort) for sort in SORTS), pool)
+    together(((end_into_file, count, program, f"{room}/ended-{ends.name}", library, ends) for ends in ENDS), pool)
     for sort in SORTS:
         if not any(kind == f"program, {sort}" and ending != "met none" for kind, ending in count.endings):
             count.add(f"program, {sort}", "never met", "no run makes a call that refuse.c refuses")

@@ -11,11 +11,13 @@
        write         write answers EIO
        short-write   write takes one byte
        keep          fsync and rename answer EIO
+       signal        open, openat, read, write, fsync and rename are made once the program was sent a signal,
+                     whose number stands last, as in 'signal 7 15'
 
    If a call is refused, a byte goes to the descriptor REFUSE_TELL. Needs no header. */
 
 #define RTLD_NEXT ((void *)-1L)
-enum { EINTR = 4, EIO = 5, EAGAIN = 11, ENOMEM = 12, EMFILE = 24, READ = 0, WRITE = 1, FSYNC = 74, RENAME = 82, OPENAT = 257, HERE = -100 };
+enum { EINTR = 4, EIO = 5, EAGAIN = 11, ENOMEM = 12, EMFILE = 24, READ = 0, WRITE = 1, GETPID = 39, KILL = 62, FSYNC = 74, RENAME = 82, OPENAT = 257, HERE = -100 };
 
 typedef unsigned long size_t;
 
@@ -31,14 +33,15 @@ long syscall(long, ...);
 int *__errno_location(void);
 
 static const char *sort = "";
-static long number, tell, calls;
+static long number, ends, tell, calls;
 
 __attribute__((constructor)) static void begin(void) {
     const char *refuse = getenv("REFUSE"), *descriptor = getenv("REFUSE_TELL");
     char *space;
     if (!refuse || !descriptor) return;
     for (space = (char *)refuse; *space && *space != ' '; space++) {}
-    number = strtol(space, 0, 10);
+    number = strtol(space, &space, 10);
+    ends = strtol(space, 0, 10);
     tell = strtol(descriptor, 0, 10);
     sort = refuse;
 }
@@ -50,6 +53,11 @@ static int is_refused(const char *name) {
     if (__atomic_add_fetch(&calls, 1, __ATOMIC_SEQ_CST) != number) return 0;
     syscall(WRITE, tell, "!", 1L);
     return 1;
+}
+
+/* Sends the program the signal that is to end it before this call, if it is the one. */
+static void meet_signal(void) {
+    if (is_refused("signal")) syscall(KILL, syscall(GETPID), ends);
 }
 
 static long fails(int error) {
@@ -74,6 +82,7 @@ void *realloc(void *old, size_t size) {
 }
 
 long read(int file, void *buffer, size_t size) {
+    meet_signal();
     if (is_refused("read")) return fails(EIO);
     if (is_refused("interrupt")) return fails(EINTR);
     if (size > 1 && is_refused("short-read")) size = 1;
@@ -81,6 +90,7 @@ long read(int file, void *buffer, size_t size) {
 }
 
 long write(int file, const void *buffer, size_t size) {
+    meet_signal();
     if (is_refused("write")) return fails(EIO);
     if (size > 1 && is_refused("short-write")) size = 1;
     return syscall(WRITE, (long)file, buffer, size);
@@ -91,6 +101,7 @@ long __write(int file, const void *buffer, size_t size) {
 }
 
 int openat(int folder, const char *path, int flags, unsigned mode) {
+    meet_signal();
     if (is_refused("open")) return fails(EMFILE);
     return syscall(OPENAT, (long)folder, path, (long)flags, (long)mode);
 }
@@ -104,10 +115,12 @@ int open64(const char *path, int flags, unsigned mode) {
 }
 
 int fsync(int file) {
+    meet_signal();
     return is_refused("keep") ? fails(EIO) : syscall(FSYNC, (long)file);
 }
 
 int rename(const char *from, const char *to) {
+    meet_signal();
     return is_refused("keep") ? fails(EIO) : syscall(RENAME, from, to);
 }
 
