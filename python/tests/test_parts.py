@@ -535,11 +535,22 @@ class Parts(unittest.TestCase):
         os.mkfifo(began)
         os.mkfifo(go)
         slow = self.script(f'case "$*" in *main-0.csv) echo > "{began}"; cat "{go}";; esac')
-        pool = ThreadPoolExecutor(1)
+        submitted = threading.Semaphore(0)
+
+        class Counting(ThreadPoolExecutor):
+            def submit(self, *call, **named):
+                future = super().submit(*call, **named)
+                submitted.release()
+                return future
+
+        pool = Counting(1)
 
         def end():
-            with open(began, encoding="utf-8"):
-                pool.shutdown(wait=False, cancel_futures=True)
+            for _ in range(3):  # (a task for each file: one that came later would be refused)
+                submitted.acquire()
+            with open(began, encoding="utf-8") as said:
+                said.read()  # (a script that nobody reads is ended)
+            pool.shutdown(wait=False, cancel_futures=True)
             with open(go, "w", encoding="utf-8"):
                 pass
 
