@@ -1,0 +1,5 @@
+pub mod DigitLemmas
+pub mod DecimalLemmas
+pub mod PrintLemmas
+pub mod DateLemmas
+pub mod LawLemmas
