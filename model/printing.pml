@@ -51,7 +51,7 @@ active proctype Caller() {
 		if
 		:: atomic { THREADS > 1 -> prints[n] = 1; printers++; assert(printers <= THREADS); run Printer(n); part = n }
 		:: part = TEXT			/* no thread is started, or it is refused */
-		:: goto stop			/* so too, and the text is refused */
+		:: goto stop			/* so too, and the text is refused; or the thread's copy of the notations is */
 		fi;
 		/* push_back */
 		if

@@ -3,6 +3,7 @@ pub mod ArrayLemmas
 pub mod BatchLemmas
 pub mod ColumnLemmas
 pub mod FaultLemmas
+pub mod HasNameLemmas
 pub mod KindLemmas
 pub mod ListLemmas
 pub mod MaskedLemmas

@@ -9,6 +9,7 @@ use Rattle.fq_column.specs.declared.cells.Kind.{Kind}
 use Rattle.fq_column.specs.Column.{Cells}
 use Rattle.fq_column.specs.Frame.{Fields, Row, kinds_of}
 use Rattle.fq_column.specs.Lists.{zip_with, all_or_missing}
+use Rattle.fq_column.specs.Masked.{masked}
 use Rattle.fq_column.specs.Stream.{Stream, done, faulted, one_by_one, then_stream}
 use Rattle.fq_csv.specs.Field.{cell_under}
 use Rattle.fq_csv.specs.File.{Record, row_of, rows_after}
@@ -18,11 +19,6 @@ use Rattle.fq_csv.specs.declared.faults.ScanFault.{ScanFault}
 use Rattle.fq_csv.specs.declared.faults.ScanFault.TheVariants.{BadCell, Width}
 
 -- ---- one record
-
-by_kinds : (nulls : List (List ℕ)) (fields : Fields) (fs : Record) → zip_with (λ f field. cell_under nulls f.1 field) fields fs ≡ zip_with (cell_under nulls) (kinds_of fields) fs
-by_kinds nulls [] fs = refl
-by_kinds nulls (f ∷ fields) [] = refl
-by_kinds nulls (f ∷ fields) (x ∷ fs) = ap (λ os. cell_under nulls f.1 x ∷ os) (by_kinds nulls fields fs)
 
 one-row : {X F : Type 0} (step : X → Result (List Row) F) (x : X) (xs : List X) (rows : List Row) → step x ≡ Ok rows → one_by_one step (x ∷ xs) ≡ then_stream (done rows) (one_by_one step xs)
 one-row step x xs rows e = rw (e, one_by_one) refl
@@ -34,17 +30,15 @@ module _ (file : ℕ) (layout : Layout) (limit : ℕ) where
   pub row-width : (n : ℕ) (fs : Record) → n ≤ limit → length fs ≢ length layout.schema → row_of file layout limit n fs ≡ Err (Width file n)
   row-width n fs h w = let e : (length fs == length layout.schema) ≡ false = grind (arith, nat_tests) in rw (le-ltb limit n h, e) refl
 
-  pub row-bad : (n : ℕ) (fs : Record) (i : ℕ) → n ≤ limit → length fs ≡ length layout.schema → row_by_kinds layout.nulls (kinds_of layout.schema) fs ≡ Err i → row_of file layout limit n fs ≡ Err (BadCell file n i)
+  pub row-bad : (n : ℕ) (fs : Record) (i : ℕ) → n ≤ limit → length fs ≡ length layout.schema → row_by_kinds layout.nulls layout.notations (kinds_of layout.schema) fs ≡ Err i → row_of file layout limit n fs ≡ Err (BadCell file n i)
   row-bad n fs i h w b =
       let e : (length fs == length layout.schema) ≡ true = grind (arith, nat_tests) in
-      let s : all_or_missing (zip_with (λ f field. cell_under layout.nulls f.1 field) layout.schema fs) ≡ Err i = ap all_or_missing (by_kinds layout.nulls layout.schema fs) ∙ b in
-      rw (le-ltb limit n h, e, s) refl
+      rw (le-ltb limit n h, e, b) refl
 
-  pub row-good : (n : ℕ) (fs : Record) (row : Row) → n ≤ limit → length fs ≡ length layout.schema → row_by_kinds layout.nulls (kinds_of layout.schema) fs ≡ Ok row → row_of file layout limit n fs ≡ Ok (row ∷ [])
+  pub row-good : (n : ℕ) (fs : Record) (row : Row) → n ≤ limit → length fs ≡ length layout.schema → row_by_kinds layout.nulls layout.notations (kinds_of layout.schema) fs ≡ Ok row → row_of file layout limit n fs ≡ Ok (masked layout.projection row ∷ [])
   row-good n fs row h w b =
       let e : (length fs == length layout.schema) ≡ true = grind (arith, nat_tests) in
-      let s : all_or_missing (zip_with (λ f field. cell_under layout.nulls f.1 field) layout.schema fs) ≡ Ok row = ap all_or_missing (by_kinds layout.nulls layout.schema fs) ∙ b in
-      rw (le-ltb limit n h, e, s) refl
+      rw (le-ltb limit n h, e, b) refl
 
   -- the stream goes on after a row, and ends at a fault
   pub after-row : (n : ℕ) (fs : Record) (rs : List Record) (row : Row) → row_of file layout limit (n + 1) fs ≡ Ok (row ∷ []) → rows_after file layout limit n (fs ∷ rs) ≡ then_stream (done (row ∷ [])) (rows_after file layout limit (n + 1) rs)

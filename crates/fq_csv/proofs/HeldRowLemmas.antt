@@ -1,6 +1,6 @@
 -- Columns to which rows are added.
-use Rattle.std.specs.Prelude.{slice_get, All, replicate}
-use Rattle.std.proofs.Common.{◌≡◌, ◌<◌, ◌≤◌, ◌+◌, ◌++◌, ℕ, zero, suc, List, [], ◌∷◌, Option, Some, None, Ok, Err, length, map, take, drop, get_or, set, refl, sym, ap, arith, ◌∙◌}
+use Rattle.std.specs.Prelude.{slice_get, slice_index_or, All, replicate}
+use Rattle.std.proofs.Common.{◌≡◌, ◌<◌, ◌≤◌, ◌+◌, ◌++◌, ℕ, zero, suc, Bool, true, List, [], ◌∷◌, Option, Some, None, Ok, Err, length, map, take, drop, get_or, set, refl, sym, ap, arith, ◌∙◌}
 use Rattle.std.proofs.lemmas.List.{length-append, set-get_or, take_all}
 use Rattle.fq_column.specs.declared.cells.Kind.{Kind}
 use Rattle.fq_column.specs.declared.cells.Cell.{Cell}
@@ -8,11 +8,18 @@ use Rattle.fq_column.specs.Batch.{frame_of, height_of, without_cells}
 use Rattle.fq_column.specs.Column.{Cells}
 use Rattle.fq_column.specs.Frame.{Fields, Frame, Row, kinds_of, rows_of}
 use Rattle.fq_column.specs.Lists.{zip_with, all_or_missing}
+use Rattle.fq_column.specs.Masked.{masked, masked_cell}
 use Rattle.fq_column.proofs.FaultLemmas.{kinds-without, none-in, rows-without}
 use Rattle.fq_column.proofs.ListLemmas.{zip_with-append, length-zip_with}
+use Rattle.fq_column.proofs.MaskedLemmas.{length-masked, masked-snoc}
+use Rattle.fq_notation.specs.declared.notations.Notation.{Notation}
+use Rattle.fq_notation.specs.declared.notations.Notation.TheVariants.{Plain}
 use Rattle.fq_csv.specs.Field.{cell_under}
-use Rattle.fq_csv.specs.File.{Record}
+use Rattle.fq_csv.specs.File.{Record, cells_by}
+use Rattle.fq_csv.specs.Readings.{reading_at}
 use Rattle.fq_csv.specs.Rows.{Holds, first_cells, kinds_in, row_by_kinds, with_cell, with_row}
+use Rattle.fq_csv.specs.declared.layouts.Layout.{Layout}
+use Rattle.fq_csv.specs.declared.readings.Reading.{Reading}
 
 -- ---- a row, cell by cell
 
@@ -20,9 +27,13 @@ use Rattle.fq_csv.specs.Rows.{Holds, first_cells, kinds_in, row_by_kinds, with_c
 abbrev pub columns_after : List Cells → ℕ → List Cell → List Cells
 columns_after columns i cells = with_row (take i columns) cells ++ drop i columns
 
+-- the cell, or none, that each field of a record is
+abbrev pub options : List (List ℕ) → List Notation → List Cells → Record → List (Option Cell)
+options nulls ns columns fs = cells_by (cell_under nulls) ns (kinds_in columns) fs
+
 -- the cells that the first i fields of a record are
-abbrev pub AreCells : List (List ℕ) → List Cells → Record → ℕ → List Cell → Type 0
-AreCells nulls columns fs i cells = (length cells ≡ i) × (map Some cells ≡ take i (zip_with (cell_under nulls) (kinds_in columns) fs))
+abbrev pub AreCells : List (List ℕ) → List Notation → List Cells → Record → ℕ → List Cell → Type 0
+AreCells nulls ns columns fs i cells = (length cells ≡ i) × (map Some cells ≡ take i (options nulls ns columns fs))
 
 -- the next column is as it was
 pub column-at : (columns : List Cells) (i : ℕ) (cells : List Cell) (d : Cells) → length cells ≡ i → i < length columns → get_or (columns_after columns i cells) i d ≡ get_or columns i d
@@ -40,12 +51,15 @@ columns-step (x ∷ xs) (suc i) [] cell d e h = absurd (omega (arith, e))
 columns-step (x ∷ xs) (suc i) (c ∷ cells) cell d e h = ap (λ ys. with_cell x c ∷ ys) (columns-step xs i cells cell d (omega (arith, e)) (omega (arith, h)))
 
 -- the cell, or none, that the next field is
-pub cell-at : (nulls : List (List ℕ)) (columns : List Cells) (fs : Record) (i : ℕ) (d : Cells) (f : List ℕ) → i < length columns → Some f ≡ slice_get fs i
-    → slice_get (zip_with (cell_under nulls) (kinds_in columns) fs) i ≡ Some (cell_under nulls (get_or columns i d).kind f)
-cell-at nulls [] fs i d f h e = absurd (omega (arith, h))
-cell-at nulls (x ∷ xs) [] i d f h e = cc e
-cell-at nulls (x ∷ xs) (g ∷ fs) zero d f h e = let s : f ≡ g = cc in rw s refl
-cell-at nulls (x ∷ xs) (g ∷ fs) (suc i) d f h e = cell-at nulls xs fs i d f (omega (arith, h)) e
+pub cell-at : (nulls : List (List ℕ)) (ns : List Notation) (columns : List Cells) (fs : Record) (i : ℕ) (d : Cells) (f : List ℕ) → i < length columns → Some f ≡ slice_get fs i
+    → slice_get (options nulls ns columns fs) i ≡ Some (cell_under nulls (get_or columns i d).kind (slice_index_or ns i Plain) f)
+cell-at nulls ns [] fs i d f h e = absurd (omega (arith, h))
+cell-at nulls [] (x ∷ xs) [] i d f h e = cc e
+cell-at nulls (n ∷ ns) (x ∷ xs) [] i d f h e = cc e
+cell-at nulls [] (x ∷ xs) (g ∷ fs) zero d f h e = let s : f ≡ g = cc in rw s refl
+cell-at nulls (n ∷ ns) (x ∷ xs) (g ∷ fs) zero d f h e = let s : f ≡ g = cc in rw s refl
+cell-at nulls [] (x ∷ xs) (g ∷ fs) (suc i) d f h e = cell-at nulls [] xs fs i d f (omega (arith, h)) e
+cell-at nulls (n ∷ ns) (x ∷ xs) (g ∷ fs) (suc i) d f h e = cell-at nulls ns xs fs i d f (omega (arith, h)) e
 
 pub cells-step : (os : List (Option Cell)) (i : ℕ) (cells : List Cell) (cell : Cell) → map Some cells ≡ take i os → slice_get os i ≡ Some (Some cell) → map Some (cells ++ cell ∷ []) ≡ take (suc i) os
 cells-step [] i cells cell e s = cc s
@@ -71,13 +85,16 @@ missing-at (o ∷ os) (suc i) (c ∷ cells) e s =
     rw (first, missing-at os i cells rest s) refl
 
 -- the whole row
-pub row-done : (nulls : List (List ℕ)) (columns : List Cells) (fs : Record) (cells : List Cell) → length fs ≡ length columns → AreCells nulls columns fs (length columns) cells → row_by_kinds nulls (kinds_in columns) fs ≡ Ok cells
-row-done nulls columns fs cells e h = ap all_or_missing (sym (h.1 ∙ take_all _ _ (short columns fs))) ∙ all-there cells
+pub row-done : (nulls : List (List ℕ)) (ns : List Notation) (columns : List Cells) (fs : Record) (cells : List Cell) → AreCells nulls ns columns fs (length columns) cells
+    → row_by_kinds nulls ns (kinds_in columns) fs ≡ Ok cells
+row-done nulls ns columns fs cells h = ap all_or_missing (sym (h.1 ∙ take_all _ _ (short ns columns fs))) ∙ all-there cells
   where
-    short : (xs : List Cells) (gs : Record) → length (zip_with (cell_under nulls) (kinds_in xs) gs) ≤ length xs
-    short [] gs = omega arith
-    short (x ∷ xs) [] = omega arith
-    short (x ∷ xs) (g ∷ gs) = omega (arith, short xs gs)
+    short : (ms : List Notation) (xs : List Cells) (gs : Record) → length (options nulls ms xs gs) ≤ length xs
+    short ms [] gs = omega arith
+    short [] (x ∷ xs) [] = omega arith
+    short (m ∷ ms) (x ∷ xs) [] = omega arith
+    short [] (x ∷ xs) (g ∷ gs) = omega (arith, short [] xs gs)
+    short (m ∷ ms) (x ∷ xs) (g ∷ gs) = omega (arith, short ms xs gs)
 
 pub columns-done : (columns : List Cells) (cells : List Cell) → columns_after columns (length columns) cells ≡ with_row columns cells
 columns-done [] cells = refl
@@ -115,46 +132,65 @@ taken-back h (x ∷ xs) (suc i) (c ∷ cells) e a =
 
 -- ---- one field of a record
 
--- the columns that are being added to, and the cells that were added
-abbrev pub Added : List (List ℕ) → List Cells → Record → ℕ → List Cells → Type 0
-Added nulls columns fs i now = (cells : List Cell) × AreCells nulls columns fs i cells × (now ≡ columns_after columns i cells)
+-- the columns that are being added to, and the cells that the fields were, of which those of the columns that are kept were added
+abbrev pub Added : Layout → List Cells → Record → ℕ → List Cells → Type 0
+Added layout columns fs i now = (cells : List Cell) × AreCells layout.nulls layout.notations columns fs i cells × (now ≡ columns_after columns i (masked layout.projection cells))
 
-option-at : (nulls : List (List ℕ)) (columns : List Cells) (fs : Record) (i : ℕ) (now : List Cells) (d : Cells) (f : List ℕ) → (a : Added nulls columns fs i now) → i < length columns → Some f ≡ slice_get fs i
-    → slice_get (zip_with (cell_under nulls) (kinds_in columns) fs) i ≡ Some (cell_under nulls (get_or now i d).kind f)
-option-at nulls columns fs i now d f a h e =
-    let cells = a.0 in
-    let same : get_or now i d ≡ get_or columns i d = ap (λ ys. get_or ys i d) a.2 ∙ column-at columns i cells d a.1.0 h in
-    cell-at nulls columns fs i d f h e ∙ ap (λ (y : Cells). Some (cell_under nulls y.kind f)) (sym same)
+module _ (layout : Layout) (columns : List Cells) (fs : Record) (i : ℕ) (now : List Cells) (a : Added layout columns fs i now) where
+  abbrev nulls : List (List ℕ)
+  nulls = layout.nulls
 
-pub Added-more : (nulls : List (List ℕ)) (columns : List Cells) (fs : Record) (i : ℕ) (now : List Cells) (d new : Cells) (f : List ℕ) (cell : Cell) → Added nulls columns fs i now → i < length columns → Some f ≡ slice_get fs i
-    → cell_under nulls (get_or now i d).kind f ≡ Some cell → new ≡ with_cell (get_or now i d) cell → Added nulls columns fs (i + 1) (set now i new)
-Added-more nulls columns fs i now d new f cell a h e g n =
-    let cells = a.0 in
-    let up : suc i ≡ i + 1 = omega arith in
-    let same : get_or now i d ≡ get_or columns i d = ap (λ ys. get_or ys i d) a.2 ∙ column-at columns i cells d a.1.0 h in
-    let set_is : set now i new ≡ columns_after columns (suc i) (cells ++ cell ∷ []) =
-    ap (set now i) (n ∙ ap (λ y. with_cell y cell) same) ∙ ap (λ ys. set ys i (with_cell (get_or columns i d) cell)) a.2 ∙ columns-step columns i cells cell d a.1.0 h in
-    let count : length (cells ++ cell ∷ []) ≡ i + 1 = simp length-append (omega (arith, a.1.0)) in
-    let more = cells-step (zip_with (cell_under nulls) (kinds_in columns) fs) i cells cell a.1.1 (option-at nulls columns fs i now d f a h e ∙ ap Some g) in
-    (cells ++ cell ∷ [], (count, more ∙ ap (λ n. take n (zip_with (cell_under nulls) (kinds_in columns) fs)) up), set_is ∙ ap (λ n. columns_after columns n (cells ++ cell ∷ [])) up)
+  abbrev ns : List Notation
+  ns = layout.notations
 
--- a field that is not a cell
-pub Added-bad : (nulls : List (List ℕ)) (height : ℕ) (columns : List Cells) (fs : Record) (i : ℕ) (now : List Cells) (d new : Cells) (f : List ℕ) → Added nulls columns fs i now → i < length columns → Some f ≡ slice_get fs i
-    → cell_under nulls (get_or now i d).kind f ≡ None → new ≡ get_or now i d → All (λ (c : Cells). length c.cells ≡ height) columns
-    → (row_by_kinds nulls (kinds_in columns) fs ≡ Err i) × (map (first_cells height) (set now i new) ≡ columns)
-Added-bad nulls height columns fs i now d new f a h e g n lengths = (
-  missing-at (zip_with (cell_under nulls) (kinds_in columns) fs) i a.0 a.1.1 (option-at nulls columns fs i now d f a h e ∙ ap Some g),
-  ap (map (first_cells height)) (ap (set now i) n ∙ set-get_or now i d ∙ a.2) ∙ taken-back height columns i a.0 a.1.0 lengths,
-)
+  abbrev marks : List Bool
+  marks = layout.projection
 
--- the whole record
-pub Added-done : (nulls : List (List ℕ)) (columns : List Cells) (fs : Record) (i : ℕ) (now : List Cells) → Added nulls columns fs i now → length columns ≤ i → i ≤ length columns → length fs ≡ length columns
-    → (row : Row) × (row_by_kinds nulls (kinds_in columns) fs ≡ Ok row) × (now ≡ with_row columns row) × (length row ≡ length columns)
-Added-done nulls columns fs i now a up down e =
-    let n : i ≡ length columns = omega (arith, up, down) in
-    let cells = a.0 in
-    let are : AreCells nulls columns fs (length columns) cells = (a.1.0 ∙ n, a.1.1 ∙ ap (λ k. take k (zip_with (cell_under nulls) (kinds_in columns) fs)) n) in
-    (cells, row-done nulls columns fs cells e are, a.2 ∙ ap (λ k. columns_after columns k cells) n ∙ columns-done columns cells, a.1.0 ∙ n)
+  -- how the fields of the next column are read
+  abbrev next : Reading
+  next = reading_at layout i
+
+  -- as many cells were added
+  size : length (masked marks a.0) ≡ i
+  size = length-masked marks a.0 ∙ a.1.0
+
+  same-at : (d : Cells) → i < length columns → get_or now i d ≡ get_or columns i d
+  same-at d h = ap (λ ys. get_or ys i d) a.2 ∙ column-at columns i (masked marks a.0) d size h
+
+  option-at : (d : Cells) (f : List ℕ) → i < length columns → Some f ≡ slice_get fs i → slice_get (options nulls ns columns fs) i ≡ Some (cell_under nulls (get_or now i d).kind next.notation f)
+  option-at d f h e = cell-at nulls ns columns fs i d f h e ∙ ap (λ (y : Cells). Some (cell_under nulls y.kind next.notation f)) (sym (same-at d h))
+
+  pub Added-more : (d new : Cells) (f : List ℕ) (cell : Cell) → i < length columns → Some f ≡ slice_get fs i
+      → cell_under nulls (get_or now i d).kind next.notation f ≡ Some cell → new ≡ with_cell (get_or now i d) (masked_cell next.is_kept cell) → Added layout columns fs (i + 1) (set now i new)
+  Added-more d new f cell h e g n =
+      let cells = a.0 in
+      let kept = masked marks cells in
+      let here : Cell = masked_cell next.is_kept cell in
+      let up : suc i ≡ i + 1 = omega arith in
+      let all : kept ++ here ∷ [] ≡ masked marks (cells ++ cell ∷ []) = sym (masked-snoc marks cells cell ∙ ap (λ k. kept ++ masked_cell (slice_index_or marks k true) cell ∷ []) a.1.0) in
+      let set_is : set now i new ≡ columns_after columns (suc i) (kept ++ here ∷ []) =
+      ap (set now i) (n ∙ ap (λ y. with_cell y here) (same-at d h)) ∙ ap (λ ys. set ys i (with_cell (get_or columns i d) here)) a.2 ∙ columns-step columns i kept here d size h in
+      let count : length (cells ++ cell ∷ []) ≡ i + 1 = simp length-append (omega (arith, a.1.0)) in
+      let more = cells-step (options nulls ns columns fs) i cells cell a.1.1 (option-at d f h e ∙ ap Some g) in
+      (cells ++ cell ∷ [], (count, more ∙ ap (λ n. take n (options nulls ns columns fs)) up), set_is ∙ (λ j. columns_after columns (up j) (all j)))
+
+  -- a field that is not a cell
+  pub Added-bad : (height : ℕ) (d new : Cells) (f : List ℕ) → i < length columns → Some f ≡ slice_get fs i
+      → cell_under nulls (get_or now i d).kind next.notation f ≡ None → new ≡ get_or now i d → All (λ (c : Cells). length c.cells ≡ height) columns
+      → (row_by_kinds nulls ns (kinds_in columns) fs ≡ Err i) × (map (first_cells height) (set now i new) ≡ columns)
+  Added-bad height d new f h e g n lengths = (
+    missing-at (options nulls ns columns fs) i a.0 a.1.1 (option-at d f h e ∙ ap Some g),
+    ap (map (first_cells height)) (ap (set now i) n ∙ set-get_or now i d ∙ a.2) ∙ taken-back height columns i (masked marks a.0) size lengths,
+  )
+
+  -- the whole record
+  pub Added-done : length columns ≤ i → i ≤ length columns
+      → (row : Row) × (row_by_kinds nulls ns (kinds_in columns) fs ≡ Ok row) × (now ≡ with_row columns (masked marks row)) × (length row ≡ length columns)
+  Added-done up down =
+      let n : i ≡ length columns = omega (arith, up, down) in
+      let cells = a.0 in
+      let are : AreCells nulls ns columns fs (length columns) cells = (a.1.0 ∙ n, a.1.1 ∙ ap (λ k. take k (options nulls ns columns fs)) n) in
+      (cells, row-done nulls ns columns fs cells are, a.2 ∙ ap (λ k. columns_after columns k (masked marks cells)) n ∙ columns-done columns (masked marks cells), a.1.0 ∙ n)
 
 -- ---- the rows that stand in columns
 

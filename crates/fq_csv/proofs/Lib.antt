@@ -1,4 +1,3 @@
-mod DigitLemmas
 pub mod FieldReadingLemmas
 pub mod BufferLemmas
 pub mod CuttingLemmas
@@ -7,6 +6,8 @@ pub mod RecordLemmas
 pub mod ReaderLemmas
 pub mod HeldRowLemmas
 pub mod FileStreamLemmas
+pub mod KeptColumnLemmas
+pub mod NotedLemmas
 pub mod TakingLemmas
 pub mod CellLemmas
 pub mod RecordStepLemmas

@@ -1,25 +1,16 @@
--- The cell that a field is, by the kind of its column. A whole number is read as Rust reads one, a truth value as Polars writes one but in any letter case;
--- texts that stand for null are those that Polars calls `null_values`.
-use Rattle.std.specs.Prelude.{◌&&◌, Bool, true, false, ℕ, ℤ, List, [], ◌∷◌, Option, Some, None, option_map, map, if◌then◌else◌}
+-- The cell that a field is, by the kind of its column and the notation of its ints. A truth value is read as Polars writes one but in any
+-- letter case; texts that stand for null are those that Polars calls `null_values`.
+use Rattle.std.specs.Prelude.{Bool, true, false, ℕ, List, [], ◌∷◌, Option, Some, None, option_map, map, if◌then◌else◌}
 use Rattle.std.specs.List.{list_any}
-use Rattle.std.specs.Str.{is_utf8, all_ascii_digits, bytes_eq}
+use Rattle.std.specs.Str.{is_utf8, bytes_eq}
 use Rattle.std.specs.Char.{to_ascii_lowercase}
-use Rattle.std.specs.Str.Parse.{signed_digits_value, without_leading_sign, true_text, false_text}
+use Rattle.std.specs.Str.Parse.{true_text, false_text}
 use Rattle.fq_column.specs.declared.cells.Kind.{Kind}
 use Rattle.fq_column.specs.declared.cells.Kind.TheVariants as kind
 use Rattle.fq_column.specs.declared.cells.Cell.{Cell}
 use Rattle.fq_column.specs.declared.cells.Cell.TheVariants.{Null, Whole, Text, Truth}
-use Rattle.fq_column.specs.Cell.{fits}
-
--- one decimal digit or more
-abbrev pub is_numeral : List ℕ → Bool
-is_numeral [] = false
-is_numeral (c ∷ cs) = all_ascii_digits (c ∷ cs)
-
--- the whole number that a field spells: an optional sign and digits, within 64 bits
-abbrev pub whole_of : List ℕ → Option ℤ
-whole_of field =
-    if is_numeral (without_leading_sign field) && fits (signed_digits_value 10 field) then Some (signed_digits_value 10 field) else None
+use Rattle.fq_notation.specs.Notation.{int_under}
+use Rattle.fq_notation.specs.declared.notations.Notation.{Notation}
 
 -- the truth value that a field names, in any ASCII letter case
 abbrev pub truth_of : List ℕ → Option Bool
@@ -32,20 +23,20 @@ truth_of field =
 abbrev pub text_of : List ℕ → Option (List ℕ)
 text_of field = if is_utf8 field then Some field else None
 
--- the cell of a column's kind that a field is, if it is one; an empty field is null
-abbrev pub cell_of : Kind → List ℕ → Option Cell
-cell_of k [] = Some Null
-cell_of kind.Whole (c ∷ cs) = option_map Whole (whole_of (c ∷ cs))
-cell_of kind.Text (c ∷ cs) = option_map Text (text_of (c ∷ cs))
-cell_of kind.Truth (c ∷ cs) = option_map Truth (truth_of (c ∷ cs))
+-- the cell of a column's kind that a field is, if it is one, in a notation of ints; an empty field is null
+abbrev pub cell_of : Kind → Notation → List ℕ → Option Cell
+cell_of k n [] = Some Null
+cell_of kind.Whole n (c ∷ cs) = option_map Whole (int_under n (c ∷ cs))
+cell_of kind.Text n (c ∷ cs) = option_map Text (text_of (c ∷ cs))
+cell_of kind.Truth n (c ∷ cs) = option_map Truth (truth_of (c ∷ cs))
 
 -- whether a field is one of these texts, byte for byte
 abbrev pub is_one_of : List (List ℕ) → List ℕ → Bool
 is_one_of texts field = list_any (λ text. bytes_eq text field) texts
 
 -- the same, in a file where these texts are read as null, whatever the kind of their column
-abbrev pub cell_under : List (List ℕ) → Kind → List ℕ → Option Cell
-cell_under nulls k field = if is_one_of nulls field then Some Null else cell_of k field
+abbrev pub cell_under : List (List ℕ) → Kind → Notation → List ℕ → Option Cell
+cell_under nulls k n field = if is_one_of nulls field then Some Null else cell_of k n field
 
 -- whether a field is null in a column of any kind
 abbrev pub is_null : List (List ℕ) → List ℕ → Bool

@@ -15,3 +15,5 @@ pub mod Writing
 pub mod HandedOut
 pub mod Taking
 pub mod RecordScan
+pub mod Words
+pub mod Readings

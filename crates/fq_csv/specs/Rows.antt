@@ -5,8 +5,9 @@ use Rattle.fq_column.specs.declared.cells.Cell.{Cell}
 use Rattle.fq_column.specs.Column.{Cells}
 use Rattle.fq_column.specs.Frame.{Row, rows_of}
 use Rattle.fq_column.specs.Lists.{zip_with, all_or_missing}
+use Rattle.fq_notation.specs.declared.notations.Notation.{Notation}
 use Rattle.fq_csv.specs.Field.{cell_under}
-use Rattle.fq_csv.specs.File.{Record}
+use Rattle.fq_csv.specs.File.{Record, cells_by}
 use Rattle.fq_csv.specs.Records.{IsOfText}
 use Rattle.fq_csv.specs.declared.file_stages.Stage.{Stage}
 use Rattle.fq_csv.specs.declared.file_stages.Stage.TheVariants as stage
@@ -22,9 +23,10 @@ with_cell column cell = record { kind = column.kind; cells = column.cells ++ cel
 abbrev pub with_row : List Cells → Row → List Cells
 with_row columns row = zip_with with_cell columns row
 
--- the row that a record's fields are under columns of these kinds, where these texts are null, or the place of the first field that is not a cell
-abbrev pub row_by_kinds : List (List ℕ) → List Kind → Record → Result Row ℕ
-row_by_kinds nulls kinds record_fields = all_or_missing (zip_with (cell_under nulls) kinds record_fields)
+-- the row that a record's fields are under columns of these kinds and notations, where these texts are null, or the place of the first field
+-- that is not a cell
+abbrev pub row_by_kinds : List (List ℕ) → List Notation → List Kind → Record → Result Row ℕ
+row_by_kinds nulls notations kinds fs = all_or_missing (cells_by (cell_under nulls) notations kinds fs)
 
 -- the columns have these kinds and hold these rows
 pub record Holds (kinds : List Kind) (columns : List Cells) (rows : List Row) : Type 0 where

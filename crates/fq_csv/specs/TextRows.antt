@@ -1,6 +1,5 @@
 -- The rows that the records of a text are.
 use Rattle.std.specs.Prelude.{◌≡◌, ◌<◌, ◌≤◌, ◌+◌, ◌==◌, false, IfSome, ℕ, List, length, Option, None, option_map, Err}
-use Rattle.fq_column.specs.declared.cells.Kind.{Kind}
 use Rattle.fq_column.specs.Column.{Cells}
 use Rattle.fq_column.specs.Frame.{Row, kinds_of}
 use Rattle.fq_csv.specs.File.{Record, rows_after}
@@ -12,9 +11,9 @@ use Rattle.fq_csv.specs.declared.text_rows.NoRow.{NoRow}
 use Rattle.fq_csv.specs.declared.text_rows.NoRow.TheVariants as no
 
 -- why a record is not a row under columns
-abbrev pub IsNoRow : List (List ℕ) → List Cells → Record → NoRow → Type 0
-IsNoRow nulls columns fs no.Width = (length fs == length columns) ≡ false
-IsNoRow nulls columns fs (no.BadCell i) = (length fs ≡ length columns) × (row_by_kinds nulls (kinds_in columns) fs ≡ Err i) × (i < length columns)
+abbrev pub IsNoRow : Layout → List Cells → Record → NoRow → Type 0
+IsNoRow layout columns fs no.Width = (length fs == length columns) ≡ false
+IsNoRow layout columns fs (no.BadCell i) = (length fs ≡ length columns) × (row_by_kinds layout.nulls layout.notations (kinds_in columns) fs ≡ Err i) × (i < length columns)
 
 -- the fault of a record that is not a row, by its number
 abbrev pub fault_by : ℕ → ℕ → NoRow → ScanFault
@@ -25,11 +24,10 @@ fault_by file n (no.BadCell column) = BadCell file n column
 abbrev pub run_fault : ℕ → ℕ → ℕ × NoRow → ScanFault
 run_fault file before place = fault_by file (before + place.0 + 1) place.1
 
--- columns hold the rows that records are, where these texts are null, up to the first that is not a row, at this place
-pub record HoldsRowsOf (nulls : List (List ℕ)) (kinds : List Kind) (rs : List Record) (columns : List Cells) (bad : Option (ℕ × NoRow)) : Type 0 where
+-- columns hold the rows that records are, up to the first that is not a row, at this place
+pub record HoldsRowsOf (layout : Layout) (rs : List Record) (columns : List Cells) (bad : Option (ℕ × NoRow)) : Type 0 where
   pub rows : List Row
-  pub held : Holds kinds columns rows
+  pub held : Holds (kinds_of layout.schema) columns rows
   pub all : bad ≡ None → length rows ≡ length rs
   pub place : IfSome bad (λ p. (p.0 ≡ length rows) × (length rows < length rs))
-  pub stream : (file before limit : ℕ) (layout : Layout) → layout.nulls ≡ nulls → kinds_of layout.schema ≡ kinds → before + length rs ≤ limit
-      → rows_after file layout limit before rs ≡ record { rows = rows; fault = option_map (run_fault file before) bad }
+  pub stream : (file before limit : ℕ) → before + length rs ≤ limit → rows_after file layout limit before rs ≡ record { rows = rows; fault = option_map (run_fault file before) bad }

@@ -1,8 +1,13 @@
 //! How the records of a file are read.
 ghost use Rattle.std.specs.Prelude.{◌≡◌, IfOk, map, string_bytes};
 ghost use Rattle.fq_csv.specs.Field.{is_one_of};
+ghost use Rattle.fq_csv.specs.Readings.{AreReadings};
 
-use fq_column::{Memory, Schema, copy_strings};
+use crate::projections::Projection;
+use crate::readings::Reading;
+use arrayvec::ArrayVec;
+use fq_column::{MAX_COLUMNS, Memory, Schema, copy_strings};
+use fq_notation::Notations;
 use std::alloc::Global;
 use std::marker::Model;
 
@@ -58,13 +63,18 @@ impl NullValues {
     }
 }
 
-/// How the records of a file are read: its columns, and the texts that are null in each of them.
+/// How the records of a file are read: its columns, the texts that are null in each of them, how their ints are written, and which of the
+/// columns are kept.
 #[derive(Debug, Drop)]
 pub struct Layout {
     /// The names that the header must have, and the kinds of the columns.
     pub schema: Schema,
     /// The texts that are read as null.
     pub nulls: NullValues,
+    /// How the ints of each column are written.
+    pub notations: Notations,
+    /// The columns that are kept; null stands in the others.
+    pub projection: Projection,
 }
 
 impl Layout {
@@ -75,6 +85,22 @@ impl Layout {
         Ok(Layout {
             schema: self.schema.copy(alloc)?,
             nulls: self.nulls.copy(alloc)?,
+            notations: self.notations.copy(alloc)?,
+            projection: self.projection.copy(alloc)?,
         })
+    }
+
+    /// How the fields of each column are read.
+    pub(crate) fn readings(&self) -> ArrayVec<Reading, MAX_COLUMNS>
+        ensures { AreReadings self.now result.items }
+    {
+        let mut readings = ArrayVec::new();
+        for column in 0..self.schema.len() {
+            readings.push(Reading {
+                notation: self.notations.of(column),
+                is_kept: self.projection.keeps(column),
+            });
+        }
+        readings
     }
 }

@@ -1,6 +1,5 @@
 //! Runs of records, and the batches that they are.
 ghost use Rattle.std.specs.Prelude.{◌≡◌, ◌≤◌, ◌<◌, ◌+◌, length, option_map, IfOk, IfSome};
-ghost use Rattle.fq_column.specs.Frame.{kinds_of};
 ghost use Rattle.fq_csv.specs.Records.{IsOfText};
 ghost use Rattle.csv.specs.Reading.{default_config, records};
 ghost use Rattle.fq_csv.specs.Taking.{ReadsRun};
@@ -55,9 +54,9 @@ impl RecordRun {
     }
 
     /// The rows that the records are, in a batch, and the fault that ends them: `Width` at the first record with more or fewer
-    /// fields than there are columns, or `BadCell` at one with a field that is not a cell of its column.
+    /// fields than there are columns, or `BadCell` at one with a field that is not a cell of its column, whether that is kept or not.
     ///
-    /// Allocates for the batch's columns, for texts over 24 bytes, and for one record. `Memory` if an allocation fails.
+    /// Allocates for the batch's columns, for texts over 24 bytes in those that are kept, and for one record. `Memory` if an allocation fails.
     pub fn into_batch(self, alloc: Global) -> Result<Piece<ScanFault>, Memory>
         ensures { IfOk result (λ p. ReadsRun self p.batch p.fault) }
     {
@@ -85,11 +84,11 @@ fn columns_of(
     count: u32,
 ) -> Result<(Vec<Column>, Option<(u32, NoRow)>), Memory>
     requires { length (records default_config text) ≡ count }
-    ensures rows { IfOk result (λ r. HoldsRowsOf layout.now.nulls (kinds_of layout.now.schema) (records default_config text) r.0.items r.1) }
+    ensures rows { IfOk result (λ r. HoldsRowsOf layout.now (records default_config text) r.0.items r.1) }
     ensures some { IfOk result (λ r. 0 < length r.0.items) }
 {
     let mut columns = empty_columns(alloc, &layout.schema, count as usize)?;
-    let bad = push_records(alloc, columns.as_mut_slice(), text, count, &layout.nulls)?;
+    let bad = push_records(alloc, columns.as_mut_slice(), text, count, layout)?;
     Ok((columns, bad))
 }
 

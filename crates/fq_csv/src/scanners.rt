@@ -1,5 +1,5 @@
 //! Scanners: the rows of a file, handed out in batches.
-ghost use Rattle.std.specs.Prelude.{◌≡◌, ◌≤◌, ◌<◌, ◌⊎◌, Option, Some, None, false, length, IfOk, IfErr, IsOk, option_map};
+ghost use Rattle.std.specs.Prelude.{◌≡◌, ◌≤◌, ◌<◌, ◌⊎◌, Option, Some, None, [], false, length, IfOk, IfErr, IsOk, option_map};
 ghost use Rattle.fq_column.specs.Stream.{Stream};
 ghost use Rattle.fq_csv.specs.File.{file_stream};
 ghost use Rattle.fq_csv.specs.Scan.{HandsOut, HasForm};
@@ -9,10 +9,12 @@ ghost use Rattle.fq_csv.specs.declared.faults.ScanFault.TheVariants as fault;
 
 use crate::faults::ScanFault;
 use crate::layouts::{Layout, NullValues};
+use crate::projections::Projection;
 use crate::record_runs::RecordRun;
 use crate::record_scanners::RecordScanner;
 use crate::scans::Scan;
 use fq_column::{Memory, Piece, Schema};
+use fq_notation::Notations;
 use std::alloc::Global;
 use std::io::Read;
 use std::marker::Model;
@@ -58,8 +60,8 @@ impl<R: Read> Scanner<R> {
     /// A scan of the file number `file`, whose bytes a reader gives, in batches of `batch_size` rows.
     ///
     /// The first record must be the schema's names. In each later one a field that is one of `nulls`, byte for byte, is null,
-    /// whatever the kind of its column; so is an empty one. More rows than `limit` are a fault. The reader's bytes are buffered
-    /// here. Nothing is read yet, and nothing is allocated, so there is always a scanner.
+    /// whatever the kind of its column; so is an empty one. All columns are kept. More rows than `limit` are a fault. The reader's
+    /// bytes are buffered here. Nothing is read yet, and nothing is allocated, so there is always a scanner.
     pub fn new(
         alloc: Global,
         reader: R,
@@ -77,16 +79,21 @@ impl<R: Read> Scanner<R> {
         ensures succeeds { IsOk result }
         ensures scanner { IfOk result (λ s. s ≡ record {
           file = file;
-          layout = record { schema = schema; nulls = nulls };
+          layout = record { schema = schema; nulls = nulls; notations = []; projection = [] };
           batch_size = batch_size;
           serial = 0;
           room = limit;
-          upcoming = option_map (file_stream file (record { schema = schema; nulls = nulls }) limit) (R.remaining reader);
+          upcoming = option_map (file_stream file (record { schema = schema; nulls = nulls; notations = []; projection = [] }) limit) (R.remaining reader);
           ending = None;
           stopped = false;
         }) }
     {
-        let layout = Layout { schema, nulls };
+        let layout = Layout {
+            schema,
+            nulls,
+            notations: Notations::plain(alloc),
+            projection: Projection::all(alloc),
+        };
         let records = RecordScanner::new(alloc, reader, file, layout, batch_size, limit)?;
         Ok(Scanner {
             alloc,

@@ -3,8 +3,9 @@ ghost use Rattle.std.specs.Prelude.{◌≡◌, ◌∷◌, [], true, false, codes
 ghost use Rattle.fq_column.specs.declared.cells.Cell.TheVariants as cell;
 ghost use Rattle.fq_column.specs.declared.cells.Kind.TheVariants as kind;
 ghost use Rattle.fq_column.specs.Stream.{done, faulted};
+ghost use Rattle.fq_notation.specs.declared.notations.Notation.TheVariants.{Date, Decimal};
 ghost use Rattle.fq_csv.specs.File.{file_stream, plain};
-ghost use Rattle.fq_csv.specs.Printed.{printed};
+ghost use Rattle.fq_csv.specs.Printed.{printed, printed_in};
 ghost use Rattle.fq_csv.specs.declared.faults.ScanFault.TheVariants.{BadCell, Header, TooLong, Width};
 
 /// Files as streams.
@@ -22,6 +23,12 @@ pub fn worked_files()
     ensures ragged { file_stream 0 (plain ((codes "a", kind.Whole) ∷ (codes "b", kind.Whole) ∷ [])) 9 (codes "a,b\nx\n") ≡ faulted (Width 0 1) }
     ensures too_long { file_stream 5 (plain ((codes "v", kind.Whole) ∷ [])) 2 (codes "v\n1\n2\n3\n")
         ≡ record { rows = (cell.Whole (pos 1) ∷ []) ∷ (cell.Whole (pos 2) ∷ []) ∷ []; fault = Some (TooLong 5) } }
+    ensures decimals_and_dates { file_stream 0 (record { schema = (codes "amount", kind.Whole) ∷ (codes "day", kind.Whole) ∷ (codes "n", kind.Whole) ∷ []; nulls = []; notations = Decimal 2 ∷ Date ∷ []; projection = [] })
+        9 (codes "amount,day,n\n12.5,2024-02-29,3\n-.05,,+4\n1.234,2024-03-05,5\n")
+        ≡ record {
+          rows = (cell.Whole (pos 1250) ∷ cell.Whole (pos 20240229) ∷ cell.Whole (pos 3) ∷ []) ∷ (cell.Whole (negsuc 4) ∷ cell.Null ∷ cell.Whole (pos 4) ∷ []) ∷ [];
+          fault = Some (BadCell 0 3 0);
+        } }
 {}
 
 /// Frames as text.
@@ -29,4 +36,7 @@ pub fn worked_frames()
     ensures null_alone { printed (record { fields = (codes "n", kind.Whole) ∷ []; rows = (cell.Null ∷ []) ∷ (cell.Whole (negsuc 4) ∷ []) ∷ [] }) ≡ codes "n\n\"\"\n-5\n" }
     ensures quoted { printed (record { fields = (codes "t", kind.Text) ∷ []; rows = (cell.Text (codes "a,b") ∷ []) ∷ (cell.Text (codes "say \"hi\"") ∷ []) ∷ (cell.Text (codes "x\ny") ∷ []) ∷ [] })
         ≡ codes "t\n\"a,b\"\n\"say \"\"hi\"\"\"\n\"x\ny\"\n" }
+    ensures decimals_and_dates { printed_in (Decimal 2 ∷ Date ∷ [])
+        (record { fields = (codes "amount", kind.Whole) ∷ (codes "day", kind.Whole) ∷ (codes "n", kind.Whole) ∷ []; rows = (cell.Whole (negsuc 4) ∷ cell.Whole (pos 20240229) ∷ cell.Whole (pos 7) ∷ []) ∷ (cell.Null ∷ cell.Whole (pos 20230229) ∷ cell.Null ∷ []) ∷ [] })
+        ≡ codes "amount,day,n\n-0.05,2024-02-29,7\n,20230229,\n" }
 {}

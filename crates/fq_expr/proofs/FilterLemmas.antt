@@ -1,6 +1,6 @@
 -- A filter on a list of rows, by the mask of its predicate.
 use Rattle.std.proofs.Common.{◌≡◌, ℕ, zero, suc, ◌+◌, Bool, true, false, cond, not, nat_lt, List, [], ◌∷◌, ◌++◌, length, map, take, drop, append_assoc, refl, ap, sym, ◌∙◌, arith, Option, Some, None, Ok, Err, Result}
-use Rattle.std.specs.Prelude.{IsOk, slice_get, unwrap_or, if◌then◌else◌}
+use Rattle.std.specs.Prelude.{slice_get, unwrap_or, if◌then◌else◌}
 use Rattle.std.specs.Bool.{then_some}
 use Rattle.std.specs.List.{list_any}
 use Rattle.std.proofs.lemmas.Bool.Decides.{nat_tests}
@@ -12,15 +12,13 @@ use Rattle.fq_column.specs.declared.cells.Kind.TheVariants as kind
 use Rattle.fq_column.specs.declared.faults.StepFault.{StepFault}
 use Rattle.fq_column.specs.declared.faults.StepFault.TheVariants.{NotBool}
 use Rattle.fq_column.specs.Cell.{same_kind}
-use Rattle.std.specs.Result.{result_unwrap_or}
 use Rattle.fq_column.specs.Column.{nullable}
 use Rattle.fq_column.specs.Frame.{Fields, Row}
 use Rattle.fq_column.specs.Lists.{keep, before_missing}
 use Rattle.fq_column.specs.Refusal.{and_then, refuse_if, unless_refused}
 use Rattle.fq_column.specs.Stream.{Stream, done, faulted, then_stream, one_by_one}
 use Rattle.fq_expr.specs.Expression.{Expression, filter_by}
-use Rattle.fq_expr.specs.Kinds.{kind_of, step_schema}
-use Rattle.fq_expr.specs.Steps.{is_true, rows_after, fields_after}
+use Rattle.fq_expr.specs.Steps.{is_true, rows_after}
 use Rattle.fq_expr.specs.Value.{value_of}
 
 -- a mask that marks all keeps all

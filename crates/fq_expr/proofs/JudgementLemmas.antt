@@ -1,6 +1,6 @@
 -- The judgement of a step, by the kinds of its items and the checks of its names.
 use Rattle.std.proofs.Common.{◌≡◌, ℕ, ◌+◌, ◌<◌, ◌≤◌, Bool, true, false, not, List, [], ◌∷◌, length, map, Option, Some, None, Result, Ok, Err, refl, ap, sym, ◌∙◌, arith, nat_lt, inl, inr, ◌⊎◌}
-use Rattle.std.specs.Prelude.{IfOk, IsOk, MatchResult}
+use Rattle.std.specs.Prelude.{IfOk, IfErr, IsOk, MatchResult}
 use Rattle.std.specs.Bool.{◌==◌}
 use Rattle.std.proofs.lemmas.Bool.Decides.{nat_tests}
 use Rattle.fq_column.specs.declared.cells.Kind.{Kind}
@@ -8,7 +8,7 @@ use Rattle.fq_column.specs.declared.faults.StepFault.{StepFault}
 use Rattle.fq_column.specs.declared.faults.StepFault.TheVariants.{Memory, TooMany, DoubleName, NoColumn}
 use Rattle.fq_column.specs.Frame.{Field, Fields, Name, same_name, put_all}
 use Rattle.fq_column.specs.Lists.{is_distinct}
-use Rattle.fq_column.specs.Refusal.{and_then, refuse_if, first_refusal, unless_refused, IsJudgement}
+use Rattle.fq_column.specs.Refusal.{and_then, refuse_if, first_refusal, refusal_of, unless_refused, IsJudgement}
 use Rattle.fq_column.specs.Schema.{fields_of, schema_checks}
 use Rattle.std.specs.Result.{result_unwrap_or}
 use Rattle.fq_expr.specs.Expression.{Item, Step, with_columns, select}
@@ -96,6 +96,30 @@ module _ (fields : Fields) (items : List Item) where
   select-names ks h e = select-nonempty h
       ∙ ap (λ r. and_then r (λ outputs. unless_refused (refuse_if (nat_lt 64 (length items)) TooMany ∷ refuse_if (not (is_distinct same_name (item_names items))) DoubleName ∷ []) outputs))
       (item_fields-all_kinds fields items ∙ ap (λ r. and_then r (λ ks. Ok (fields_of (item_names items) ks))) e)
+
+  -- too many outputs; two of one name; neither
+  pub select-too_many : (ks : List Kind) → 0 < length items → all_kinds fields items ≡ Ok ks → 64 < length items → step_schema fields (select items) ≡ Err TooMany
+  select-too_many ks h e m = select-names ks h e ∙ go (nat_lt 64 (length items)) (grind (arith, nat_tests, m))
+    where
+      go : (b : Bool) → b ≡ true → unless_refused (refuse_if b TooMany ∷ refuse_if (not (is_distinct same_name (item_names items))) DoubleName ∷ []) (fields_of (item_names items) ks) ≡ Err TooMany
+      go true f = refl
+      go false f = cc
+
+  pub select-double : (ks : List Kind) → 0 < length items → all_kinds fields items ≡ Ok ks → length items ≤ 64 → not (is_distinct same_name (item_names items)) ≡ true → step_schema fields (select items) ≡ Err DoubleName
+  select-double ks h e m d = select-names ks h e ∙ go (nat_lt 64 (length items)) (not (is_distinct same_name (item_names items))) (grind (arith, nat_tests, m)) d
+    where
+      go : (b d : Bool) → b ≡ false → d ≡ true → unless_refused (refuse_if b TooMany ∷ refuse_if d DoubleName ∷ []) (fields_of (item_names items) ks) ≡ Err DoubleName
+      go true d f g = cc
+      go false true f g = refl
+      go false false f g = cc
+
+  pub select-settled : (ks : List Kind) → 0 < length items → all_kinds fields items ≡ Ok ks → length items ≤ 64 → not (is_distinct same_name (item_names items)) ≡ false → step_schema fields (select items) ≡ Ok (fields_of (item_names items) ks)
+  select-settled ks h e m d = select-names ks h e ∙ go (nat_lt 64 (length items)) (not (is_distinct same_name (item_names items))) (grind (arith, nat_tests, m)) d
+    where
+      go : (b d : Bool) → b ≡ false → d ≡ false → unless_refused (refuse_if b TooMany ∷ refuse_if d DoubleName ∷ []) (fields_of (item_names items) ks) ≡ Ok (fields_of (item_names items) ks)
+      go true d f g = cc
+      go false true f g = cc
+      go false false f g = refl
 
   -- the checks of a schema's names are those of the outputs, of which there is one
   checks-same : (names : List Name) → names ≡ item_names items → length (item_names items) ≡ length items → 0 < length items →
@@ -192,3 +216,23 @@ adds-bound fields items after ks a n =
       ap length named,
       n,
     )
+
+-- ---- what a check without a schema says
+
+-- a judgement with a refusal, and one with none
+pub refused-is : {X : Type 0} (r : Result X StepFault) (fault : StepFault) → refusal_of r ≡ Some fault → r ≡ Err fault
+refused-is (Ok x) fault e = absurd (cc)
+refused-is (Err f) fault e = let same : f ≡ fault = cc in ap Err same
+
+pub settled-is : {X : Type 0} (r : Result X StepFault) → refusal_of r ≡ None → (x : X) × (r ≡ Ok x)
+settled-is (Ok x) e = (x, refl)
+settled-is (Err f) e = absurd (cc)
+
+-- what is refused is answered so, whatever is answered of the rest
+pub early-refused : {X : Type 0} (expected answer : Result X StepFault) (fault : StepFault) → refusal_of expected ≡ Some fault → answer ≡ Err fault → IfErr expected (λ f. answer ≡ Err f)
+early-refused (Ok x) answer fault e is = tt
+early-refused (Err f) answer fault e is = let same : fault ≡ f = cc in is ∙ ap Err same
+
+pub early-settled : {X : Type 0} (expected answer : Result X StepFault) → refusal_of expected ≡ None → IfErr expected (λ f. answer ≡ Err f)
+early-settled (Ok x) answer e = tt
+early-settled (Err f) answer e = absurd (cc)

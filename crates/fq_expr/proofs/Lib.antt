@@ -14,4 +14,6 @@ pub mod ProjectionLemmas
 pub mod ItemRowLemmas
 pub mod SelectionLemmas
 pub mod StepLemmas
+pub mod NeedLemmas
 pub mod NeededLemmas
+pub mod MadeLemmas

@@ -11,6 +11,7 @@ pub mod ExpressionData
 pub mod Operand
 pub mod Evaluated
 pub mod Outputs
+pub mod Made
 pub mod Steps
 pub mod Value
 pub mod Needed

@@ -1,5 +1,5 @@
 -- What the items of a step are evaluated to over a list of rows.
-use Rattle.std.specs.Prelude.{◌≡◌, ℕ, suc, List, [], ◌∷◌, map, take, Option, Some, None, Result, Ok, Err, unwrap_or}
+use Rattle.std.specs.Prelude.{◌≡◌, ◌≤◌, ℕ, suc, length, List, [], ◌∷◌, map, take, Option, Some, None, Result, Ok, Err, unwrap_or}
 use Rattle.fq_column.specs.declared.cells.Cell.{Cell}
 use Rattle.fq_column.specs.declared.cells.Cell.TheVariants.{Null}
 use Rattle.fq_column.specs.declared.cells.Kind.{Kind}
@@ -59,3 +59,11 @@ pub record AreOutputs (fields : Fields) (items : List Item) (rows : List Row) (c
   pub cells : map cells_of_column columns ≡ map (λ i. map (value_or_null fields i.1) (take n rows)) items
   pub rows_before : n ≡ rows_before_fault (item_fault fields items) rows
   pub fault : item ≡ first_fault (item_fault fields items) rows
+
+-- the same of columns that may have more cells than there are rows
+pub record SoFar (fields : Fields) (items : List Item) (rows : List Row) (columns : List Cells) (n : ℕ) (item : Option ℕ) : Type 0 where
+  pub kinds : all_kinds fields items ≡ Ok (map kind_of_cells columns)
+  pub cells : map (λ (c : Cells). take n c.cells) columns ≡ map (λ i. map (value_or_null fields i.1) (take n rows)) items
+  pub rows_before : n ≡ rows_before_fault (item_fault fields items) rows
+  pub fault : item ≡ first_fault (item_fault fields items) rows
+  pub within : n ≤ length rows

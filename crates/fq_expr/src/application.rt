@@ -1,5 +1,8 @@
 //! One row-wise step on a batch.
-ghost use Rattle.std.specs.Prelude.{◌≡◌, ◌≤◌, ◌<◌, map, length, zip, IfOk, IsOk, OnOk};
+ghost use Rattle.std.specs.Prelude.{◌≡◌, ◌≤◌, ◌<◌, map, length, zip, IfOk, IfSome, IsOk, OnOk};
+ghost use Rattle.std.specs.List.{list_any};
+ghost use Rattle.std.specs.Option.{option_map_or};
+ghost use Rattle.fq_expr.specs.declared.application.Made.TheVariants as made;
 ghost use Rattle.std.specs.Vec.Iter.{into_iter_items};
 ghost use Rattle.fq_column.specs.declared.cells.Cell.TheVariants as cell;
 ghost use Rattle.fq_column.specs.Batch.{kind_of_cells};
@@ -7,20 +10,22 @@ ghost use Rattle.fq_column.specs.Frame.{names_of, put_all};
 ghost use Rattle.fq_column.specs.Lists.{before_missing, keep as kept};
 ghost use Rattle.fq_column.specs.Stream.{one_by_one};
 ghost use Rattle.fq_expr.specs.Expression.{filter_by, with_columns, select};
-ghost use Rattle.fq_expr.specs.Kinds.{item_names, step_schema};
+ghost use Rattle.fq_expr.specs.Kinds.{item_names, kind_of, step_schema};
 ghost use Rattle.fq_expr.specs.ExpressionData.{expression_of, items_of, step_of};
 ghost use Rattle.fq_expr.specs.Operand.{AnyHasRows, HasRows, cells_in, cells_in_rows, kind_in_rows};
-ghost use Rattle.fq_expr.specs.Outputs.{AreOutputs, all_kinds};
+ghost use Rattle.fq_expr.specs.Made.{AreEvaluated, ArePlaces, IsPlaceOf, column_of, first_of_column, is_at, made_column};
+ghost use Rattle.fq_expr.specs.Outputs.{all_kinds};
 ghost use Rattle.fq_expr.specs.Steps.{fields_after, is_true, rows_after};
 ghost use Rattle.fq_expr.specs.Value.{value_of};
 
 use crate::expressions::Expr;
-use crate::operands::{AnyOperand, Operand};
+use crate::operands::{AnyOperand, Operand, Outcome};
 use crate::steps::{RowStep, select_schema};
 use fq_column::{
     Batch, Column, Kind, MAX_COLUMNS, Memory, Piece, Schema, StepFault, cut_columns, put_column,
 };
 use std::alloc::Global;
+use std::mem;
 use std::vec::IntoIter;
 
 impl RowStep {
@@ -100,8 +105,23 @@ fn keep_marked(batch: &mut Batch, mask: &[bool])
     }
 }
 
-// What the items of a step were evaluated to: their columns in the rows before the first that faults, how many those
-// are, and the lowest item that faults there.
+// A column that an item was evaluated to: one that was made, or the place of one of the batch.
+#[derive(Drop)]
+enum Made {
+    Column(Column),
+    Place(usize),
+}
+
+// What the items of a step were evaluated to: their columns, which may go on after the rows before the first that faults, how many those
+// rows are, and the lowest item that faults there.
+#[derive(Drop)]
+struct Evaluated {
+    made: Vec<Made>,
+    rows: usize,
+    item: Option<u16>,
+}
+
+// The same, with the columns themselves, of those rows alone.
 #[derive(Drop)]
 struct Outputs {
     columns: Vec<Column>,
@@ -110,12 +130,16 @@ struct Outputs {
 }
 
 // Each item on the rows of a batch before the first on which an item faults.
-fn evaluate_items(alloc: Global, items: &[(String, Expr)], batch: &Batch) -> Result<Outputs, Memory>
+fn evaluate_items(
+    alloc: Global,
+    items: &[(String, Expr)],
+    batch: &Batch,
+) -> Result<Evaluated, Memory>
     requires kinds { IsOk (all_kinds batch.now.fields (items_of items.now)) }
     requires bound { length items.now ≤ MAX_COLUMNS }
-    ensures { IfOk result (λ outputs. AreOutputs batch.now.fields (items_of items.now) batch.now.rows outputs.columns.items outputs.rows outputs.item) }
+    ensures { IfOk result (λ e. AreEvaluated batch.now (items_of items.now) e.made.items e.rows e.item) }
 {
-    let mut columns = Vec::with_capacity(alloc, items.len())?;
+    let mut made = Vec::with_capacity(alloc, items.len())?;
     let mut rows = batch.rows();
     let mut item = None;
     for i in 0..items.len() {
@@ -124,7 +148,46 @@ fn evaluate_items(alloc: Global, items: &[(String, Expr)], batch: &Batch) -> Res
             rows = outcome.rows;
             item = Some(i as u16);
         }
-        columns.push(outcome.into_column(alloc)?)?;
+        made.push(made_of(alloc, outcome, place_of(&items[i].1, batch))?)?;
+    }
+    Ok(Evaluated { made, rows, item })
+}
+
+// The column of an item's values, which may be one of the batch.
+fn made_of(alloc: Global, outcome: Outcome<'_>, place: Option<usize>) -> Result<Made, Memory>
+    requires { AnyHasRows outcome.rows outcome.operand }
+    ensures { IfOk result (λ one. one ≡ option_map_or made.Place place (made.Column (record { kind = kind_in_rows outcome.entry.operand; cells = cells_in_rows outcome.entry.rows outcome.entry.operand }))) }
+{
+    match place {
+        Some(place) => Ok(Made::Place(place)),
+        None => Ok(Made::Column(outcome.into_column(alloc)?)),
+    }
+}
+
+// The place of the column that an expression names, if it is a name alone.
+fn place_of(expr: &Expr, batch: &Batch) -> Option<usize>
+    requires { IsOk (kind_of batch.now.fields (expression_of expr.now)) }
+    ensures { IfSome result (IsPlaceOf batch.now (expression_of expr.now)) }
+{
+    match expr {
+        Expr::Col(name) => batch.schema().position(name.as_str()),
+        _ => None,
+    }
+}
+
+// The items' columns, of which those of the batch are copied.
+fn with_copies(alloc: Global, evaluated: Evaluated, batch: &Batch) -> Result<Outputs, Memory>
+    requires places { ArePlaces (length batch.now.fields) evaluated.made.items }
+    ensures columns { IfOk result (λ outputs. outputs.columns.items ≡ map (λ m. first_of_column evaluated.rows (made_column batch.now m)) evaluated.made.items) }
+    ensures rows { IfOk result (λ outputs. (outputs.rows ≡ evaluated.rows) × (outputs.item ≡ evaluated.item)) }
+{
+    let Evaluated { made, rows, item } = evaluated;
+    let mut columns = Vec::with_capacity(alloc, made.len())?;
+    for one in made {
+        columns.push(match one {
+            Made::Column(column) => column,
+            Made::Place(place) => batch.column(place).copy(alloc)?,
+        })?;
     }
     cut_columns(columns.as_mut_slice(), rows);
     Ok(Outputs {
@@ -132,6 +195,59 @@ fn evaluate_items(alloc: Global, items: &[(String, Expr)], batch: &Batch) -> Res
         rows,
         item,
     })
+}
+
+// The items' columns, of which those of the batch are moved; one that several items name is copied for all but the first of these.
+fn with_moves(alloc: Global, evaluated: Evaluated, batch: Batch) -> Result<Outputs, Memory>
+    requires places { ArePlaces (length batch.fields) evaluated.made.items }
+    ensures columns { IfOk result (λ outputs. outputs.columns.items ≡ map (λ m. first_of_column evaluated.rows (made_column batch m)) evaluated.made.items) }
+    ensures rows { IfOk result (λ outputs. (outputs.rows ≡ evaluated.rows) × (outputs.item ≡ evaluated.item)) }
+{
+    let Evaluated { made, rows, item } = evaluated;
+    let (_, mut from) = batch.into_parts();
+    let mut columns = take_columns(alloc, made, &mut from)?;
+    cut_columns(columns.as_mut_slice(), rows);
+    Ok(Outputs {
+        columns,
+        rows,
+        item,
+    })
+}
+
+// The columns, from the last on: one that an earlier item names too is copied, else it is moved.
+fn take_columns(
+    alloc: Global,
+    made: Vec<Made>,
+    from: &mut Vec<Column>,
+) -> Result<Vec<Column>, Memory>
+    requires { ArePlaces (length from.old.items) made.items }
+    ensures { IfOk result (λ columns. columns.items ≡ map (column_of from.old.items) made.items) }
+{
+    let mut made = made;
+    let mut columns = Vec::with_capacity(alloc, made.len())?;
+    while let Some(one) = made.pop() {
+        columns.push(match one {
+            Made::Column(column) => column,
+            Made::Place(place) if has_place(made.as_slice(), place) => from[place].copy(alloc)?,
+            Made::Place(place) => mem::replace(&mut from[place], Column::new(alloc, Kind::Whole)),
+        })?;
+    }
+    columns.as_mut_slice().reverse();
+    Ok(columns)
+}
+
+// Whether one of these is the column at a place.
+fn has_place(made: &[Made], place: usize) -> bool
+    ensures { result ≡ list_any (is_at place) made.now }
+{
+    for one in made {
+        if let Made::Place(at) = one {
+            if *at == place {
+                return true;
+            }
+        }
+    }
+    false
 }
 
 // The items alone.
@@ -143,12 +259,13 @@ fn project(alloc: Global, items: &[(String, Expr)], batch: Batch) -> Result<Piec
     ensures fault { let u = one_by_one (rows_after batch.fields (select (items_of items.now))) batch.rows in
         IfOk result (λ p. p.fault ≡ u.fault) }
 {
-    let outputs = evaluate_items(alloc, items, &batch)?;
+    let evaluated = evaluate_items(alloc, items, &batch)?;
     let schema = match select_schema(alloc, items, batch.schema()) {
         Ok(schema) => schema,
         Err(StepFault::Memory) => return Err(Memory),
         Err(_) => unreachable!(),
     };
+    let outputs = with_moves(alloc, evaluated, batch)?;
     let Outputs { columns, item, .. } = outputs;
     Ok(Piece {
         batch: Batch::new(schema, columns),
@@ -165,7 +282,8 @@ fn add_columns(alloc: Global, items: &[(String, Expr)], batch: Batch) -> Result<
     ensures fault { let u = one_by_one (rows_after batch.fields (with_columns (items_of items.now))) batch.rows in
         IfOk result (λ p. p.fault ≡ u.fault) }
 {
-    let outputs = evaluate_items(alloc, items, &batch)?;
+    let evaluated = evaluate_items(alloc, items, &batch)?;
+    let outputs = with_copies(alloc, evaluated, &batch)?;
     let Outputs {
         columns: made,
         rows,

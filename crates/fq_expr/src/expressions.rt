@@ -1,7 +1,9 @@
 //! Expressions over the columns of a row, and their kinds.
 ghost use Rattle.std.specs.Prelude.{◌≡◌, Ok};
+ghost use Rattle.fq_column.specs.Frame.{has_name};
 ghost use Rattle.fq_expr.specs.Kinds.{kind_of, kind_if, unary_kind, binary_kind};
 ghost use Rattle.fq_expr.specs.ExpressionData.{expression_of};
+ghost use Rattle.fq_expr.specs.Needed.{names_read};
 
 use fq_column::{Kind, Schema, StepFault, Text};
 
@@ -97,6 +99,18 @@ impl Expr {
                 let right = right.kind_in(schema)?;
                 two_kind(*op, left, right)
             }
+        }
+    }
+
+    /// Whether the expression reads the column of this name.
+    pub fn reads(&self, name: &str) -> bool
+        ensures { result ≡ has_name (names_read (expression_of self.now)) name.now }
+    {
+        match self {
+            Expr::Col(column) => name == column.as_str(),
+            Expr::Null(_) | Expr::Whole(_) | Expr::Text(_) | Expr::Truth(_) => false,
+            Expr::One(_, part) => part.reads(name),
+            Expr::Two(_, left, right) => left.reads(name) || right.reads(name),
         }
     }
 }

@@ -1,12 +1,14 @@
 //! Row-wise steps, and the schema after one.
-ghost use Rattle.std.specs.Prelude.{◌≡◌, ◌≤◌, length, map, not, Ok, Err, ◌⊎◌, IfOk, IfErr, string_bytes};
-ghost use Rattle.fq_column.specs.Frame.{same_name, has_name as named, put_all};
+ghost use Rattle.std.specs.Prelude.{◌≡◌, ◌≤◌, List, length, map, not, Ok, Err, Some, None, ◌⊎◌, IfOk, IfErr, OnOk, string_bytes};
+ghost use Rattle.std.specs.List.{list_any};
+ghost use Rattle.fq_column.specs.Frame.{Name, same_name, has_name as named, put_all};
 ghost use Rattle.fq_column.specs.Lists.{is_distinct};
-ghost use Rattle.fq_column.specs.Refusal.{IsJudgement};
+ghost use Rattle.fq_column.specs.Refusal.{IsJudgement, refusal_of};
 ghost use Rattle.fq_column.specs.Schema.{fields_of};
 ghost use Rattle.fq_expr.specs.Expression.{filter_by, with_columns, select};
 ghost use Rattle.fq_expr.specs.Kinds.{step_schema, item_names, count_new};
 ghost use Rattle.fq_expr.specs.ExpressionData.{expression_of, items_of, step_of};
+ghost use Rattle.fq_expr.specs.Needed.{names_read, needed_before};
 ghost use Rattle.fq_expr.specs.Outputs.{all_kinds};
 
 use crate::expressions::Expr;
@@ -26,46 +28,116 @@ pub enum RowStep {
 }
 
 impl RowStep {
-    /// The schema after the step; allocates for its names.
+    /// The first refusal of the step on rows of these columns; allocates nothing.
     ///
     /// Refused, in this order. `Filter`: `NoSuchColumn` or `WrongKind` of the predicate, `NotBool` if it is not a truth
     /// value. `WithColumns`: output by output `NoSuchColumn` or `WrongKind`; `TooMany` if the columns and the outputs whose
     /// name is not among them are more than 64; `DoubleName` if two outputs have one name. `Select`: `NoColumn` if there is
-    /// no output; then as `WithColumns`, with `TooMany` for more than 64 outputs. `Memory` if an allocation fails.
-    pub fn schema(&self, alloc: Global, schema: &Schema) -> Result<Schema, StepFault>
-        ensures { IsJudgement (step_schema schema.now (step_of self.now)) result }
+    /// no output; then as `WithColumns`, with `TooMany` for more than 64 outputs.
+    pub fn check(&self, schema: &Schema) -> Result<(), StepFault>
+        ensures ok { OnOk result (refusal_of (step_schema schema.now (step_of self.now)) ≡ None) }
+        ensures err { IfErr result (λ fault. refusal_of (step_schema schema.now (step_of self.now)) ≡ Some fault) }
     {
         match self {
-            RowStep::Filter(predicate) => filter_schema(alloc, predicate, schema),
+            RowStep::Filter(predicate) => check_filter(predicate, schema),
+            RowStep::WithColumns(items) => check_with_columns(items.as_slice(), schema),
+            RowStep::Select(items) => check_select(items.as_slice(), schema),
+        }
+    }
+
+    /// The schema after the step; allocates for its names.
+    ///
+    /// Refused as by `check`, before the first allocation. `Memory` if one failed.
+    pub fn schema(&self, alloc: Global, schema: &Schema) -> Result<Schema, StepFault>
+        ensures judged { IsJudgement (step_schema schema.now (step_of self.now)) result }
+        ensures early { IfErr (step_schema schema.now (step_of self.now)) (λ fault. result ≡ Err fault) }
+    {
+        self.check(schema)?;
+        match self {
+            RowStep::Filter(_) => Ok(schema.copy(alloc)?),
             RowStep::WithColumns(items) => with_columns_schema(alloc, items.as_slice(), schema),
             RowStep::Select(items) => select_schema(alloc, items.as_slice(), schema),
         }
     }
+
+    /// Whether the step needs the column of this name in its rows: its expressions read it, or it is needed of the rows that the
+    /// step leaves, as `after` says, and comes from its rows.
+    pub fn needs(&self, name: &str, after: bool) -> bool
+        ensures { (needed : List Name) → named needed name.now ≡ after → result ≡ named (needed_before (step_of self.now) needed) name.now }
+    {
+        match self {
+            RowStep::Filter(predicate) => predicate.reads(name) || after,
+            RowStep::WithColumns(items) => {
+                let items = items.as_slice();
+                some_reads(items, name) || (after && !has_name(items, name))
+            }
+            RowStep::Select(items) => some_reads(items.as_slice(), name),
+        }
+    }
 }
 
-fn filter_schema(alloc: Global, predicate: &Expr, schema: &Schema) -> Result<Schema, StepFault>
-    ensures { IsJudgement (step_schema schema.now (filter_by (expression_of predicate.now))) result }
+fn check_filter(predicate: &Expr, schema: &Schema) -> Result<(), StepFault>
+    ensures ok { OnOk result (step_schema schema.now (filter_by (expression_of predicate.now)) ≡ Ok schema.now) }
+    ensures err { IfErr result (λ fault. step_schema schema.now (filter_by (expression_of predicate.now)) ≡ Err fault) }
 {
     match predicate.kind_in(schema)? {
-        Kind::Truth => Ok(schema.copy(alloc)?),
+        Kind::Truth => Ok(()),
         Kind::Whole | Kind::Text => Err(StepFault::NotBool),
     }
 }
 
-fn with_columns_schema(
-    alloc: Global,
-    items: &[(String, Expr)],
-    schema: &Schema,
-) -> Result<Schema, StepFault>
-    ensures { IsJudgement (step_schema schema.now (with_columns (items_of items.now))) result }
+fn check_with_columns(items: &[(String, Expr)], schema: &Schema) -> Result<(), StepFault>
+    ensures ok { OnOk result (refusal_of (step_schema schema.now (with_columns (items_of items.now))) ≡ None) }
+    ensures err { IfErr result (λ fault. refusal_of (step_schema schema.now (with_columns (items_of items.now))) ≡ Some fault) }
 {
-    let kinds = item_kinds(alloc, items, schema)?;
+    check_items(items, schema)?;
     if new_columns(items, schema) + schema.len() > MAX_COLUMNS {
         return Err(StepFault::TooMany);
     }
     if has_double(items) {
         return Err(StepFault::DoubleName);
     }
+    Ok(())
+}
+
+fn check_select(items: &[(String, Expr)], schema: &Schema) -> Result<(), StepFault>
+    ensures ok { OnOk result (refusal_of (step_schema schema.now (select (items_of items.now))) ≡ None) }
+    ensures err { IfErr result (λ fault. refusal_of (step_schema schema.now (select (items_of items.now))) ≡ Some fault) }
+{
+    if items.is_empty() {
+        return Err(StepFault::NoColumn);
+    }
+    check_items(items, schema)?;
+    if items.len() > MAX_COLUMNS {
+        return Err(StepFault::TooMany);
+    }
+    if has_double(items) {
+        return Err(StepFault::DoubleName);
+    }
+    Ok(())
+}
+
+// The first refusal of an item.
+fn check_items(items: &[(String, Expr)], schema: &Schema) -> Result<(), StepFault>
+    ensures ok { OnOk result (refusal_of (all_kinds schema.now (items_of items.now)) ≡ None) }
+    ensures err { IfErr result (λ fault. refusal_of (all_kinds schema.now (items_of items.now)) ≡ Some fault) }
+{
+    for item in items {
+        item.1.kind_in(schema)?;
+    }
+    Ok(())
+}
+
+// The schema with the items' columns, none of which is refused.
+fn with_columns_schema(
+    alloc: Global,
+    items: &[(String, Expr)],
+    schema: &Schema,
+) -> Result<Schema, StepFault>
+    requires { refusal_of (step_schema schema.now (with_columns (items_of items.now))) ≡ None }
+    ensures { IsJudgement (step_schema schema.now (with_columns (items_of items.now))) result }
+{
+    let kinds = item_kinds(alloc, items, schema)?;
     Ok(with_fields(alloc, items, kinds.as_slice(), schema)?)
 }
 
@@ -146,6 +218,13 @@ fn has_name(items: &[(String, Expr)], name: &str) -> bool
         }
     }
     false
+}
+
+// Whether an item's expression reads the column of this name.
+fn some_reads(items: &[(String, Expr)], name: &str) -> bool
+    ensures { result ≡ list_any (λ i. named (names_read (expression_of i.1)) name.now) items.now }
+{
+    items.iter().any(|item| item.1.reads(name))
 }
 
 // The schema with the items' columns put into it.

@@ -11,7 +11,7 @@ use Rattle.fq_lanes.specs.Hub.{HandsOn}
 use Rattle.fq_lanes.specs.Numbering.{item_at}
 use Rattle.fq_lanes.specs.Sink.{HasAccepted, file_count}
 use Rattle.fq_lanes.specs.HubView.{items_of, FeedView, WorkerView, Grows, WorkerGrows, told_in, items_in}
-use Rattle.fq_lanes.specs.Turns.{BlamesTold, FeedFits, WorkerFits, InTurn, Halts}
+use Rattle.fq_lanes.specs.Turns.{BlamesTold, PrecedesTold, FeedFits, WorkerFits, InTurn, Halts}
 use Rattle.fq_lanes.specs.FileWindow.{AreNear}
 use Rattle.fq_lanes.proofs.NothingReadLemmas.{none_due}
 use Rattle.fq_lanes.proofs.TurnLemmas.{none_waiting, halt_on}
@@ -67,6 +67,7 @@ module _ {X S O : Type 0} where
   -- after a fault the lanes are drained
   pub halts_on : (takes : S → ℕ → ℕ → O → S → Type 0) (refuses : S → S → Type 0) (first : S) (messages tolds' : List (List (FromFeed X))) (ds ds' : List (WorkerView X O)) (tail : S) (fault fault' : RunFault)
       → length tolds' ≡ length messages → Grows IsPrefix messages tolds' → Grows WorkerGrows ds ds' → (BlamesTold messages fault → BlamesTold tolds' fault')
+      → (PrecedesTold messages fault → PrecedesTold tolds' fault')
       → Halts takes refuses first messages ds tail fault → Halts takes refuses first tolds' ds' tail fault'
-  halts_on takes refuses first messages tolds' ds ds' tail fault fault' size g k b ((events, h), blames) =
-      ((events, halt_on takes refuses first messages tolds' ds ds' tail events size g k h), b blames)
+  halts_on takes refuses first messages tolds' ds ds' tail fault fault' size g k b p ((events, h), blames, precedes) =
+      ((events, halt_on takes refuses first messages tolds' ds ds' tail events size g k h), b blames, p precedes)

@@ -1,19 +1,20 @@
 -- What is taken and dropped after a fault.
 use Rattle.std.specs.Prelude.{◌||◌, drop, if◌then◌else◌, is_err}
 use Rattle.std.specs.List.{list_any, slice_get}
-use Rattle.std.proofs.Common.{◌≡◌, ◌≤◌, ◌∙◌, ◌++◌, ℕ, zero, suc, Bool, true, false, List, [], ◌∷◌, Result, Option, Some, None, IfSome, length, length-append, set, refl, sym, ap, arith}
+use Rattle.std.proofs.Common.{◌≡◌, ◌≤◌, ◌∙◌, ◌++◌, ◌⊎◌, inl, inr, ℕ, zero, suc, Bool, true, false, List, [], ◌∷◌, Result, Option, Some, None, IfSome, length, length-append, set, refl, sym, ap, arith}
 use Rattle.std.proofs.Math.Bool.{or-false, or_assoc}
 use Rattle.std.proofs.Math.Seq.{drop-length}
 use Rattle.std.proofs.lemmas.List.{drop-append-le}
 use Rattle.std.proofs.lemmas.List.Folds.{list_any-append}
 use mathlib.Core.List.{IsPrefix}
-use Rattle.fq_lanes.specs.HubView.{Tells, WorkerView, any_refused, refused_between}
+use Rattle.fq_lanes.specs.HubView.{Tells, end_told, WorkerView, any_refused, refused_between}
 use Rattle.fq_lanes.specs.declared.faults.FeedFault.{FeedFault}
 use Rattle.fq_lanes.specs.declared.faults.Memory.{Memory}
 use Rattle.fq_lanes.specs.declared.faults.RunFault.{RunFault}
 use Rattle.fq_lanes.specs.declared.faults.RunFault.TheVariants as run_fault
 use Rattle.fq_lanes.specs.declared.messages.FromFeed.{FromFeed}
 use Rattle.fq_lanes.specs.declared.messages.FromFeed.TheVariants.{End}
+use Rattle.fq_lanes.proofs.LaneLemmas.{ended_grows, ended_stays, told_end}
 
 -- the fault that a drained feed ends with was told
 pub fault-told : {X : Type 0} (was : Bool) (told : List (FromFeed X)) (end : Option FeedFault) → (was ≡ true → end ≡ None) → (was ≡ false → Tells told (End end))
@@ -74,3 +75,18 @@ module _ {X O : Type 0} where
       rw (a, b, none-between o) (or-flip (refused_between o n) (any_refused ds cs))
   any-set (d ∷ ds) (c ∷ cs) (suc w) o n e f =
       ap (λ t. refused_between d c || t) (any-set ds cs w o n e f) ∙ sym (or_assoc (refused_between d c) (any_refused ds cs) (refused_between o n))
+
+-- the fault that a feed's lane tells after a drain was told before, or is the one with which the feed then ended
+pub drained-fault : {X : Type 0} (old prev new : List (FromFeed X)) (end : Option FeedFault) (e : FeedFault) → IsPrefix old prev → (end_told old ≡ None → end_told prev ≡ None) → new ≡ prev ++ End end ∷ []
+    → end_told new ≡ Some (Some e) → (end_told old ≡ Some (Some e)) ⊎ (end ≡ Some e)
+drained-fault old prev new end e more unended is told = by (end_told old) refl
+  where
+    now : end_told (prev ++ End end ∷ []) ≡ Some (Some e)
+    now = ap end_told (sym is) ∙ told
+
+    by : (d : Option (Option FeedFault)) → end_told old ≡ d → (end_told old ≡ Some (Some e)) ⊎ (end ≡ Some e)
+    by None none = inr (let both : Some end ≡ Some (Some e) = sym (told_end prev end (unended none)).1 ∙ now in cc)
+    by (Some d) ended =
+        let stays = (ended_stays prev (End end ∷ []) d (ended_grows old prev d more ended).1).1 in
+        let same : d ≡ Some e = (let both : Some d ≡ Some (Some e) = sym stays ∙ now in cc) in
+        inl (ended ∙ ap Some same)

@@ -1,22 +1,23 @@
 -- The steps of the hub, on its ends of the lanes.
-use Rattle.std.proofs.Common.{◌≡◌, ◌==◌, ℕ, arith, min, inl, inr, IfSome, List, [], ◌∷◌, ◌++◌, length, set, refl, sym, subst, ap, ◌∙◌, Option, Some, None, Ok, true}
+use Rattle.std.proofs.Common.{◌≡◌, ◌==◌, ◌⊎◌, ℕ, Bool, false, if◌then◌else◌, arith, min, inl, inr, IfSome, List, [], ◌∷◌, ◌++◌, length, set, refl, sym, subst, ap, ◌∙◌, Option, Some, None, Ok, true}
 use Rattle.std.proofs.lemmas.List.{map-set}
 use Rattle.std.proofs.Math.ListN.{length-set}
 use Rattle.std.specs.List.{slice_get, list_all}
 use Rattle.std.proofs.lemmas.Bool.{eqb-true, cases_lt}
 use mathlib.Core.List.{IsPrefix}
 use Rattle.fq_lanes.specs.WorkerLanes.{worker_view, worker_views}
-use Rattle.fq_lanes.specs.Faults.{fault_at, first_of}
+use Rattle.fq_lanes.specs.Faults.{Precedes, fault_at, first_of}
 use Rattle.fq_lanes.specs.FeedLane.{feed_view, feed_views, told_of, tolds_of}
 use Rattle.fq_lanes.specs.Hub.{HandedOn, HasStopped}
 use Rattle.fq_lanes.specs.Refusals.{refusal, refusal_now, Accepted}
 use Rattle.fq_lanes.specs.Sink.{file_count}
-use Rattle.fq_lanes.specs.HubView.{FeedView, WorkerView, Grows, WorkerGrows, told_in, Tells}
-use Rattle.fq_lanes.specs.Turns.{Polls, BlamesTold, OutstandingNear, Known, InTurn, Halt, Settled}
+use Rattle.fq_lanes.specs.HubView.{FeedView, WorkerView, Grows, WorkerGrows, told_in, end_told, Tells}
+use Rattle.fq_lanes.specs.Turns.{Polls, BlamesTold, PrecedesTold, OutstandingNear, Known, InTurn, Halt, Settled}
 use Rattle.fq_lanes.specs.FileWindow.{IsNear, AreNear}
-use Rattle.fq_lanes.proofs.LaneLemmas.{tells_grows, get_map, get_of_map, told_in_grows, tolds_same, workers_set}
+use Rattle.fq_lanes.proofs.LaneLemmas.{tells_grows, get_map, get_of_map, set_cases, told_end, ended_stays, told_in_grows, tolds_same, workers_set}
 use Rattle.fq_lanes.proofs.BesideLemmas.{nothing_in, get_last, get_within, get_set_same, set_same}
 use Rattle.fq_lanes.proofs.TurnLemmas.{sizes, known_item, known_close, known_offer, known_halts, turn_halts, halt_on, all_at, turn_settles, near_event, near_set}
+use Rattle.fq_lanes.proofs.FeedFaultLemmas.{first_precedes, first_precedes_other, precedes_itself, precedes_then}
 use Rattle.fq_lanes.proofs.FileWindowLemmas.{near_accepted, near_push}
 use Rattle.fq_lanes.specs.declared.worker_lanes.WorkerLanes.{WorkerLanes}
 use Rattle.fq_lanes.specs.declared.events.Event.{Event}
@@ -46,12 +47,43 @@ module _ {X : Type 0} where
       (v'.told, get_map (λ (u : FeedView X). u.told) (set vs f v') f v' (get_set_same vs f v' (get_within vs f v at)), (length v.told, ap (λ l. slice_get l (length v.told)) told ∙ get_last v.told (End (Some feed_fault.Read))))
   fault_told vs f v v' feed_fault.Memory at told = tt
 
+  -- it takes precedence over those that were told, if none was before it
+  pub step_precedes : (vs : List (FeedView X)) (f : ℕ) (v v' : FeedView X) (e : FeedFault) → ((j : ℕ) (u : FeedView X) (x : FeedFault) → slice_get vs j ≡ Some u → end_told u.told ≡ Some (Some x) → ⊥)
+      → slice_get vs f ≡ Some v → v'.told ≡ v.told ++ End (Some e) ∷ [] → PrecedesTold (told_in (set vs f v')) (fault_at e f)
+  step_precedes vs f v v' e quiet at is j told x there end =
+      let u = get_of_map (λ (u : FeedView X). u.told) (set vs f v') j told there in
+      set_cases vs f j v' u.0 (Precedes (fault_at e f) (fault_at x j)) u.1
+      (λ same now. subst (λ n. Precedes (fault_at e f) (fault_at x n)) (sym same)
+      (by (end_told v.told) refl (ap end_told (sym is) ∙ ap (λ (w : FeedView X). end_told w.told) now ∙ ap end_told u.2 ∙ end)))
+      (λ other old. absurd (quiet j u.0 x old (ap end_told u.2 ∙ end)))
+    where
+      by : (d : Option (Option FeedFault)) → end_told v.told ≡ d → end_told (v.told ++ End (Some e) ∷ []) ≡ Some (Some x) → Precedes (fault_at e f) (fault_at x f)
+      by None none now = let same : e ≡ x = cc (told_end v.told (Some e) none).1 in subst (λ y. Precedes (fault_at e f) (fault_at y f)) same (precedes_itself (fault_at e f))
+      by (Some None) ended now = let bad : ⊥ = cc (ended_stays v.told (End (Some e) ∷ []) None ended).1 in absurd bad
+      by (Some (Some y)) ended now = absurd (quiet f v y at ended)
+
   -- a feed's fault
   pub step_blames : (ns : List (FeedLane X)) (f : ℕ) (n n' : FeedLane X) (e : FeedFault) → slice_get ns f ≡ Some n → Polls (feed_view n) (polled.Fault e) (feed_view n')
       → BlamesTold (told_in (feed_views (set ns f n'))) (fault_at e f)
   step_blames ns f n n' e at polled = subst (λ l. BlamesTold (told_in l) (fault_at e f)) (sym (feed_views_set ns f n')) (fault_told (feed_views ns) f (feed_view n) (feed_view n') e (feed_at ns f n at) polled)
 
 module _ {X O : Type 0} where
+  -- between two steps no feed has told a fault
+  pub none_told : (vs : List (FeedView X)) (ds : List (WorkerView X O)) (events : List (Event O)) → Known vs ds events
+      → (j : ℕ) (u : FeedView X) (x : FeedFault) → slice_get vs j ≡ Some u → end_told u.told ≡ Some (Some x) → ⊥
+  none_told vs ds events known j u x at end = by u.ended (sym (known.lanes j u at).1 ∙ end)
+    where
+      by : (b : Bool) → (if b then Some None else None) ≡ Some (Some x) → ⊥
+      by true e = cc e
+      by false e = cc e
+
+  -- so the first that does takes precedence
+  pub lane_precedes : (ns : List (FeedLane X)) (ds : List (WorkerView X O)) (events : List (Event O)) (f : ℕ) (n n' : FeedLane X) (e : FeedFault) → Known (feed_views ns) ds events → slice_get ns f ≡ Some n
+      → Polls (feed_view n) (polled.Fault e) (feed_view n') → PrecedesTold (told_in (feed_views (set ns f n'))) (fault_at e f)
+  lane_precedes ns ds events f n n' e known at polled =
+      subst (λ l. PrecedesTold (told_in l) (fault_at e f)) (sym (feed_views_set ns f n'))
+      (step_precedes (feed_views ns) f (feed_view n) (feed_view n') e (none_told (feed_views ns) ds events known) (feed_at ns f n at) polled)
+
   workers_put : (ds : List (WorkerLanes X O)) (w : ℕ) (d : WorkerLanes X O) → worker_views (set ds w d) ≡ set (worker_views ds) w (worker_view d)
   workers_put ds w d = map-set worker_view ds w d
 
@@ -205,6 +237,25 @@ module _ {X : Type 0} where
       let there = get_map (λ (u : FeedView X). u.told) (feed_views (set ns f n')) f (feed_view n') (feed_at (set ns f n') f n' (get_set_same ns f n' (get_within ns f n at))) in
       first_told (told_in (feed_views (set ns f n'))) first other f (feed_view n').told there tells
       (blames_on (told_in (feed_views ns)) (told_in (feed_views (set ns f n'))) first (drain_grows ns f n n' at more) b)
+
+  -- what a drained feed told is as first as what was told before, or it is the other fault
+  pub drain_precedes : (ns : List (FeedLane X)) (f : ℕ) (n n' : FeedLane X) (first : RunFault) (other : Option FeedFault) → slice_get ns f ≡ Some n
+      → ((e : FeedFault) → end_told (told_of n') ≡ Some (Some e) → (end_told (told_of n) ≡ Some (Some e)) ⊎ (other ≡ Some e))
+      → PrecedesTold (told_in (feed_views ns)) first → PrecedesTold (told_in (feed_views (set ns f n'))) (first_of first other f)
+  drain_precedes ns f n n' first other at tells p j told e there end =
+      let u = get_of_map (λ (u : FeedView X). u.told) (feed_views (set ns f n')) j told there in
+      let m = get_of_map feed_view (set ns f n') j u.0 u.1 in
+      let told-is : told_of m.0 ≡ told = ap (λ (u : FeedView X). u.told) m.2 ∙ u.2 in
+      let goes_on : Precedes first (fault_at e j) → Precedes (first_of first other f) (fault_at e j) = precedes_then (first_of first other f) first (fault_at e j) (first_precedes first other f) in
+      set_cases ns f j n' m.0 (Precedes (first_of first other f) (fault_at e j)) m.1
+      (λ same now. elim (tells e (ap (λ (l : FeedLane X). end_told (told_of l)) now ∙ ap end_told told-is ∙ end)) [
+        | inl old ↦ goes_on (p j (told_of n) e (subst (λ i. slice_get (told_in (feed_views ns)) i ≡ Some (told_of n)) (sym same) (told_at ns f n at)) old)
+        | inr new ↦ subst (λ i. Precedes (first_of first other f) (fault_at e i)) (sym same) (subst (λ o. IfSome o (λ x. Precedes (first_of first other f) (fault_at x f))) new (first_precedes_other first other f))
+      ])
+      (λ apart old. goes_on (p j told e (told_at ns j m.0 old ∙ ap Some told-is) end))
+    where
+      told_at : (ns : List (FeedLane X)) (i : ℕ) (n : FeedLane X) → slice_get ns i ≡ Some n → slice_get (told_in (feed_views ns)) i ≡ Some (told_of n)
+      told_at ns i n at = get_map (λ (u : FeedView X). u.told) (feed_views ns) i (feed_view n) (get_map feed_view ns i n at)
 
   pub tolds_feed_views : (ns : List (FeedLane X)) → told_in (feed_views ns) ≡ tolds_of ns
   tolds_feed_views [] = refl

@@ -3,6 +3,7 @@ use Rattle.std.specs.Prelude.{◌≡◌, ℕ, ◌+◌, List, [], ◌∷◌, ◌+
 use Rattle.std.specs.List.{slice_get}
 use mathlib.Core.List.{IsPrefix}
 use Rattle.fq_lanes.specs.Due.{offer_at, close_at}
+use Rattle.fq_lanes.specs.Faults.{Precedes, fault_at}
 use Rattle.fq_lanes.specs.Hub.{HandedOn, HasStopped}
 use Rattle.fq_lanes.specs.Ledger.{times, none_waits, Books}
 use Rattle.fq_lanes.specs.Numbering.{item_at}
@@ -11,6 +12,7 @@ use Rattle.fq_lanes.specs.HubView.{items_of, end_told, FeedView, WorkerView, tol
 use Rattle.fq_lanes.specs.FileWindow.{AreNear}
 use Rattle.fq_lanes.specs.WorkerThread.{Waits, Has}
 use Rattle.fq_lanes.specs.declared.events.Event.{Event}
+use Rattle.fq_lanes.specs.declared.faults.FeedFault.{FeedFault}
 use Rattle.fq_lanes.specs.declared.faults.FeedFault.TheVariants as feed_fault
 use Rattle.fq_lanes.specs.declared.faults.RunFault.{RunFault}
 use Rattle.fq_lanes.specs.declared.faults.RunFault.TheVariants.{Memory, Read}
@@ -42,6 +44,10 @@ module _ {X : Type 0} where
   abbrev pub BlamesTold : List (List (FromFeed X)) → RunFault → Type 0
   BlamesTold messages Memory = Unit {0}
   BlamesTold messages (Read file) = (told : List (FromFeed X)) × (slice_get messages file ≡ Some told) × Tells told (End (Some feed_fault.Read))
+
+  -- no feed has told a fault that takes precedence over this one
+  abbrev pub PrecedesTold : List (List (FromFeed X)) → RunFault → Type 0
+  PrecedesTold messages fault = (file : ℕ) (told : List (FromFeed X)) (e : FeedFault) → slice_get messages file ≡ Some told → end_told told ≡ Some (Some e) → Precedes fault (fault_at e file)
 
 module _ {X O : Type 0} where
   -- how often the pair of f and s is outstanding
@@ -92,9 +98,9 @@ module _ {X S O : Type 0} where
     pub sourced : OffersSourced (items_in messages) ds events
     pub stopped : HasStopped takes refuses first events (length messages) tail
 
-  -- so, and a read fault was told by the feed that it names
+  -- so, and a read fault was told by the feed that it names, and takes precedence over each that was told
   abbrev pub Halts : (S → ℕ → ℕ → O → S → Type 0) → (S → S → Type 0) → S → List (List (FromFeed X)) → List (WorkerView X O) → S → RunFault → Type 0
-  Halts takes refuses first messages ds tail fault = ((events : List (Event O)) × Halt takes refuses first messages ds tail events) × BlamesTold messages fault
+  Halts takes refuses first messages ds tail fault = ((events : List (Event O)) × Halt takes refuses first messages ds tail events) × BlamesTold messages fault × PrecedesTold messages fault
 
   -- a step of the hub: it goes on, or halts at a fault
   abbrev pub HubGoesOn : {U : Type 0} → (S → ℕ → ℕ → O → S → Type 0) → (S → S → Type 0) → S → List (FeedView X) → List (WorkerView X O) → Hub S O → Result U RunFault → Type 0

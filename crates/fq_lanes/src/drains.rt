@@ -6,7 +6,7 @@ ghost use Rattle.fq_lanes.specs.WorkerLanes.{worker_names, worker_views};
 ghost use Rattle.fq_lanes.specs.FeedLane.{feed_names, feed_views, told_of};
 ghost use Rattle.fq_lanes.specs.Faults.{Precedes, fault_at};
 ghost use Rattle.fq_lanes.specs.HubView.{Grows, Tells, WorkerGrows, any_refused, told_in};
-ghost use Rattle.fq_lanes.specs.Turns.{BlamesTold};
+ghost use Rattle.fq_lanes.specs.Turns.{BlamesTold, PrecedesTold};
 ghost use Rattle.fq_lanes.specs.declared.faults.FeedFault.{FeedFault};
 ghost use Rattle.fq_lanes.specs.declared.faults.RunFault.TheVariants as run_fault;
 ghost use Rattle.fq_lanes.specs.declared.feed_lane.FeedLane.{FeedLane as Lane};
@@ -40,6 +40,7 @@ pub(crate) fn drain_all<R: Wait, X: Drop, O: Drop>(
         (end : Option FeedFault) × Tells (told_of new) (End end) × IfSome end (λ e. Precedes result (fault_at e file)) }
     ensures refused { any_refused (worker_views workers.old.items) (worker_views workers.new.items) ≡ true → result ≡ run_fault.Memory }
     ensures blames { BlamesTold (told_in (feed_views lanes.old.items)) fault → BlamesTold (told_in (feed_views lanes.new.items)) result }
+    ensures precedes { PrecedesTold (told_in (feed_views lanes.old.items)) fault → PrecedesTold (told_in (feed_views lanes.new.items)) result }
 {
     let of_feeds = drain_lanes(rt, lanes, fault);
     drain_workers(rt, workers, of_feeds)
@@ -60,6 +61,7 @@ pub(crate) fn drain_lanes<R: Wait, X: Drop>(
     ensures theirs { (file : ℕ) (old new : Lane X) → slice_get lanes.old.items file ≡ Some old → slice_get lanes.new.items file ≡ Some new → old.ended ≡ false →
         (end : Option FeedFault) × Tells (told_of new) (End end) × IfSome end (λ e. Precedes result (fault_at e file)) }
     ensures blames { BlamesTold (told_in (feed_views lanes.old.items)) fault → BlamesTold (told_in (feed_views lanes.new.items)) result }
+    ensures precedes { PrecedesTold (told_in (feed_views lanes.old.items)) fault → PrecedesTold (told_in (feed_views lanes.new.items)) result }
 {
     let mut first = fault;
     for file in 0..lanes.len() {

@@ -1,8 +1,9 @@
 //! The hub's end of a feed's lane.
-ghost use Rattle.std.specs.Prelude.{◌≡◌, false, true, None};
+ghost use Rattle.std.specs.Prelude.{◌≡◌, ◌⊎◌, false, true, None, Some};
 ghost use mathlib.Core.List.{IsPrefix};
 ghost use Rattle.fq_lanes.specs.Lane.{taken_items, take_name};
-ghost use Rattle.fq_lanes.specs.HubView.{Tells};
+ghost use Rattle.fq_lanes.specs.HubView.{Tells, end_told};
+ghost use Rattle.fq_lanes.specs.declared.faults.FeedFault.{FeedFault as Fault};
 ghost use Rattle.fq_lanes.specs.declared.messages.FromFeed.TheVariants.{End};
 
 use crate::faults::FeedFault;
@@ -99,6 +100,7 @@ impl<'s, X> FeedLane<'s, X> {
         ensures ended { self.new.ended ≡ true }
         ensures before { self.old.ended ≡ true → result ≡ None }
         ensures end { self.old.ended ≡ false → Tells (taken_items self.new.take) (End result) }
+        ensures fault { (e : Fault) → end_told (taken_items self.new.take) ≡ Some (Some e) → (end_told (taken_items self.old.take) ≡ Some (Some e)) ⊎ (result ≡ Some e) }
     {
         if self.ended {
             return None;

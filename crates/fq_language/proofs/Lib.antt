@@ -7,3 +7,4 @@ pub mod LimitLemmas
 pub mod OnLiterals
 pub mod StepVersionLemmas
 pub mod VersionLemmas
+pub mod PlainLemmas

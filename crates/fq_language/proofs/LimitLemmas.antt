@@ -20,7 +20,7 @@ module _ {X Y : Type 0} where
   given-some (Some x) f y e = (x, refl, e)
 
 module _ {X : Type 0} where
-  only_if-some : (b : Bool) (o : Option X) (x : X) → Some x ≡ only_if b o → (b ≡ true) × (Some x ≡ o)
+  pub only_if-some : (b : Bool) (o : Option X) (x : X) → Some x ≡ only_if b o → (b ≡ true) × (Some x ≡ o)
   only_if-some true o x e = (refl, e)
   only_if-some false o x e = absurd (cc)
 
@@ -54,14 +54,14 @@ whole_from_to-some d n e = let z = given-some (whole d) (λ z. only_if (is_from_
 source_with-files : (nulls : Option (List (List ℕ))) (d : Data) (s : Source) → Some s ≡ source_with nulls d → 1 ≤ s.files
 source_with-files nulls d s e =
     let columns : Data → Option Fields = each_of (pair_of name_of (word kinds)) in
-    let with_nulls : ℕ → Fields → Option Source = λ files fields. option_map (λ texts. record { files = files; fields = fields; nulls = texts }) nulls in
+    let with_nulls : ℕ → Fields → Option Source = λ files fields. option_map (λ texts. record { files = files; fields = fields; nulls = texts; notations = []; projection = [] }) nulls in
     let with_columns : ℕ → Option Source = λ files. given (member (codes "columns") columns d) (with_nulls files) in
     let n = given-some (member (codes "files") (whole_from_to 1 MAX_FILES) d) with_columns s e in
     let f = given-some (get (codes "files") d) (whole_from_to 1 MAX_FILES) n.0 n.1 in
     let c = given-some (member (codes "columns") columns d) (with_nulls n.0) s n.2 in
     subst (λ k. 1 ≤ k) (go nulls n.0 c.0 c.2) (whole_from_to-some f.0 n.0 f.2)
   where
-    go : (o : Option (List (List ℕ))) (files : ℕ) (fields : Fields) → Some s ≡ option_map (λ texts. let s : Source = record { files = files; fields = fields; nulls = texts } in s) o → files ≡ s.files
+    go : (o : Option (List (List ℕ))) (files : ℕ) (fields : Fields) → Some s ≡ option_map (λ texts. let s : Source = record { files = files; fields = fields; nulls = texts; notations = []; projection = [] } in s) o → files ≡ s.files
     go None files fields e = absurd (cc e)
     go (Some texts) files fields e = ap (λ (o : Option Source). elim o [ None ↦ 0 | Some t ↦ t.files ]) (sym e)
 

@@ -22,7 +22,7 @@ use Rattle.fq_expr.specs.declared.fronts.TheConstants.{MAX_STEPS}
 without-nulls : (d : Data) (s : Source) → source_with (Some []) d ≡ Some s → s.nulls ≡ []
 without-nulls d s e =
     let columns : Data → Option Fields = each_of (pair_of name_of (word kinds)) in
-    let made : ℕ → Fields → Option Source = λ files fields. Some (record { files = files; fields = fields; nulls = [] }) in
+    let made : ℕ → Fields → Option Source = λ files fields. Some (record { files = files; fields = fields; nulls = []; notations = []; projection = [] }) in
     let n = given-some (member (codes "files") (whole_from_to 1 MAX_FILES) d) (λ files. given (member (codes "columns") columns d) (made files)) s (sym e) in
     let c = given-some (member (codes "columns") columns d) (made n.0) s n.2 in
     ap (λ (o : Option Source). elim o [ None ↦ [] | Some t ↦ t.nulls ]) c.2
@@ -88,7 +88,7 @@ abbrev plan_with : Option (List Source) → Option (List PlanStep) → Option Pl
 plan_with sources steps =
     given (with_length 1 MAX_SOURCES sources) (λ ss.
     given (with_length 0 MAX_STEPS steps) (λ ts.
-    only_if (nat_le (sum_by (λ s. s.files) ss) MAX_FILES) (Some (record { sources = ss; steps = ts }))))
+    only_if (nat_le (sum_by (λ s. s.files) ss) MAX_FILES) (Some (record { sources = ss; steps = ts; notations = [] }))))
 
 parts-are : (o : Option (List Source)) (steps : Option (List PlanStep)) (p : PlanData) → plan_with o steps ≡ Some p → (o ≡ Some p.sources) × (steps ≡ Some p.steps)
 parts-are None steps p e = absurd (cc e)
@@ -100,12 +100,12 @@ parts-are (Some ss) None p e = go (nat_le 1 (length ss) && nat_le (length ss) MA
 parts-are (Some ss) (Some ts) p e = go (nat_le 1 (length ss) && nat_le (length ss) MAX_SOURCES) (nat_le 0 (length ts) && nat_le (length ts) MAX_STEPS) (nat_le (sum_by (λ s. s.files) ss) MAX_FILES) e
   where
     made : PlanData
-    made = record { sources = ss; steps = ts }
+    made = record { sources = ss; steps = ts; notations = [] }
 
     Are : Type 0
     Are = (◌≡◌ {A = Option (List Source)} (Some ss) (Some p.sources)) × (◌≡◌ {A = Option (List PlanStep)} (Some ts) (Some p.steps))
 
-    go : (a b c : Bool) → given (only_if a (Some ss)) (λ rs. given (only_if b (Some ts)) (λ us. only_if (nat_le (sum_by (λ s. s.files) rs) MAX_FILES) (Some (let q : PlanData = record { sources = rs; steps = us } in q)))) ≡ Some p → Are
+    go : (a b c : Bool) → given (only_if a (Some ss)) (λ rs. given (only_if b (Some ts)) (λ us. only_if (nat_le (sum_by (λ s. s.files) rs) MAX_FILES) (Some (let q : PlanData = record { sources = rs; steps = us; notations = [] } in q)))) ≡ Some p → Are
     go false b c q = absurd (cc q)
     go true false c q = absurd (cc q)
     go true true c q = files (nat_le (sum_by (λ s. s.files) ss) MAX_FILES) q

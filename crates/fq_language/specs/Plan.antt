@@ -2,6 +2,7 @@
 use Rattle.std.specs.Prelude.{ℕ, ℤ, Bool, pos, negsuc, ◌≤◌, All, List, [], ◌∷◌, length, map, sum_by, flat_map, replicate, slice_get, Option, None}
 use Rattle.fq_column.specs.Frame.{Fields, Name}
 use Rattle.fq_column.specs.Stream.{Stream}
+use Rattle.fq_notation.specs.declared.notations.Notation.{Notation}
 use Rattle.fq_csv.specs.declared.faults.ScanFault.{ScanFault}
 use Rattle.fq_csv.specs.declared.layouts.Layout.{Layout}
 use Rattle.fq_expr.specs.Expression.{Step}
@@ -18,9 +19,12 @@ pub data PlanStep : Type 0 where
   group_by : List Name → List Output → PlanStep
   rolling_sum : Name → ℤ → ℤ → Name → PlanStep
 
+-- the sources of a plan, of which the last is the main one, its steps, and how the ints of the frame's columns are written, by a notation for
+-- each; a column past the notations is plain
 pub record PlanData : Type 0 where
   pub sources : List Source
   pub steps : List PlanStep
+  pub notations : List Notation
 
 -- the item at a place, which may be no place
 abbrev pub item_at : {X : Type 0} → List X → ℤ → Option X

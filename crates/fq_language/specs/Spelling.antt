@@ -20,6 +20,7 @@ use Rattle.fq_ops.specs.Aggregate.{Aggregate, len, over, Output}
 use Rattle.fq_language.specs.Parts.{given, only_if, word, name_of, whole, whole_from_to, each_of, with_length, two_items, three_items, pair_of, has_members, member, one_member}
 use Rattle.fq_language.specs.Plan.{PlanStep, row_wise, join, group_by, rolling_sum, PlanData}
 use Rattle.fq_csv.specs.Sources.{Source}
+use Rattle.fq_csv.specs.Words.{kind_word}
 use Rattle.fq_language.specs.declared.faults.PlanFault.{PlanFault}
 use Rattle.fq_language.specs.declared.faults.PlanFault.TheVariants.{Json, Shape}
 use Rattle.fq_language.specs.declared.plans.Version.{Version}
@@ -31,7 +32,7 @@ use Rattle.fq_csv.specs.declared.sources.TheConstants.{MAX_FILES}
 -- ---- expressions
 
 abbrev pub kinds : List (Name × Kind)
-kinds = (codes "int", kind.Whole) ∷ (codes "text", kind.Text) ∷ (codes "bool", kind.Truth) ∷ []
+kinds = (kind_word kind.Whole, kind.Whole) ∷ (kind_word kind.Text, kind.Text) ∷ (kind_word kind.Truth, kind.Truth) ∷ []
 
 abbrev pub unaries : List (Name × Unary)
 unaries = (codes "neg", Neg) ∷ (codes "not", Not) ∷ (codes "is_null", IsNull) ∷ (codes "is_not_null", IsNotNull) ∷ []
@@ -145,7 +146,7 @@ abbrev pub source_with : Option (List (List ℕ)) → Data → Option Source
 source_with null_texts d =
     given (member (codes "files") (whole_from_to 1 MAX_FILES) d) (λ files.
     given (member (codes "columns") (each_of (pair_of name_of (word kinds))) d) (λ fields.
-    option_map (λ texts. record { files = files; fields = fields; nulls = texts }) null_texts))
+    option_map (λ texts. record { files = files; fields = fields; nulls = texts; notations = []; projection = [] }) null_texts))
 
 -- in version 2 also with "null_values": 0 to 16 texts
 abbrev pub source_of : Version → Data → Option Source
@@ -164,7 +165,7 @@ plan_of d = only_if (has_members 3 d)
     (given (member (codes "version") version_of d) (λ version.
     given (with_length 1 MAX_SOURCES (member (codes "sources") (each_of (source_of version)) d)) (λ sources.
     given (with_length 0 MAX_STEPS (member (codes "steps") (each_of (step_of version)) d)) (λ steps.
-    only_if (nat_le (sum_by (λ s. s.files) sources) MAX_FILES) (Some (record { sources = sources; steps = steps }))))))
+    only_if (nat_le (sum_by (λ s. s.files) sources) MAX_FILES) (Some (record { sources = sources; steps = steps; notations = [] }))))))
 
 -- the value that bytes are, if they are JSON
 abbrev pub json_of : List ℕ → Option Data

@@ -1,5 +1,5 @@
 -- The data that a plan of the program is.
-use Rattle.std.specs.Prelude.{map, string_bytes, String}
+use Rattle.std.specs.Prelude.{[], map, string_bytes, String}
 use Rattle.std.specs.Global.{Global}
 use Rattle.fq_column.specs.declared.cells.Kind.{Kind}
 use Rattle.fq_column.specs.Frame.{Field}
@@ -16,7 +16,7 @@ abbrev pub field_of : String Global × Kind → Field
 field_of c = (string_bytes c.0, c.1)
 
 abbrev pub source_data : Source → SourceData
-source_data s = record { files = s.files; fields = map field_of s.columns.items; nulls = s.nulls }
+source_data s = record { files = s.files; fields = map field_of s.columns.items; nulls = s.nulls; notations = []; projection = [] }
 
 abbrev pub plan_step_of : Step → PlanStep
 plan_step_of (Rows s) = row_wise (step_of s)

@@ -1,5 +1,5 @@
 //! Plans.
-ghost use Rattle.std.specs.Prelude.{◌≡◌, ◌<◌, ◌≤◌, ◌⊎◌, ◌↔◌, None, Err, IfOk, IfSome, IsOk, length, map, option_map, slice_get, sum_by};
+ghost use Rattle.std.specs.Prelude.{◌≡◌, ◌<◌, ◌≤◌, ◌⊎◌, ◌↔◌, [], None, Err, IfOk, IfSome, IsOk, length, map, option_map, slice_get, sum_by};
 ghost use Rattle.fq_csv.specs.Sources.{layout_of};
 ghost use Rattle.fq_language.specs.Spelling.{read_as_plan};
 ghost use Rattle.fq_language.specs.Plan.{IsWithinLimits, file_layouts, files_wanted};
@@ -82,13 +82,13 @@ impl Model for Plan {
 
     ghost coded = { Prim.hlevel (codes, expression_code (Prim.hlevel codes)) };
 
-    ghost use Rattle.std.specs.Prelude.{map};
+    ghost use Rattle.std.specs.Prelude.{[], map};
     ghost use Rattle.fq_language.specs.Plan.{IsWithinLimits};
     ghost use Rattle.fq_language.specs.View.{source_data, plan_step_of};
 
-    ghost view = { λ p. record { sources = map source_data p.sources.items; steps = map plan_step_of p.steps.items } };
+    ghost view = { λ p. record { sources = map source_data p.sources.items; steps = map plan_step_of p.steps.items; notations = [] } };
 
-    ghost invariant = { λ p. IsWithinLimits (record { sources = map source_data p.sources.items; steps = map plan_step_of p.steps.items }) };
+    ghost invariant = { λ p. IsWithinLimits (record { sources = map source_data p.sources.items; steps = map plan_step_of p.steps.items; notations = [] }) };
 }
 
 impl Plan {
@@ -121,10 +121,11 @@ impl Plan {
         None
     }
 
-    /// The sources and the steps, in order.
+    /// The sources and the steps, in order. A plan says of no column how its ints are written.
     pub fn into_parts(self) -> (Vec<Source>, Vec<Step>)
         ensures sources { map source_data result.0.items ≡ self.sources }
         ensures steps { map plan_step_of result.1.items ≡ self.steps }
+        ensures plain { self.notations ≡ [] }
         ensures within_limits { IsWithinLimits self }
     {
         (self.sources, self.steps)

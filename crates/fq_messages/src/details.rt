@@ -1,4 +1,5 @@
 //! What more can be said of a failure than its one line says.
+ghost use Rattle.std.specs.Prelude.{◌≡◌};
 ghost use Rattle.fq_messages.specs.Ending.{IsOutside};
 
 use crate::failures::Failure;
@@ -55,7 +56,9 @@ pub fn write_details<O: Opener, E: Write>(
     learned: &Learned,
     files: &mut O,
     err: &mut E,
-) {
+)
+    ensures { O.bytes_of files.new ≡ O.bytes_of files.old }
+{
     let text = learned.plan.as_slice();
     let _ = match failure {
         Failure::Arguments | Failure::Problems | Failure::DraftTooLarge | Failure::Draft(_) => None,
@@ -90,7 +93,9 @@ fn write_replaced<E: Write>(options: &Options<'_>, err: &mut E) -> Option<()> {
 }
 
 // Why a file cannot be read.
-fn write_cause<O: Opener, E: Write>(files: &mut O, name: &str, err: &mut E) -> Option<()> {
+fn write_cause<O: Opener, E: Write>(files: &mut O, name: &str, err: &mut E) -> Option<()>
+    ensures { O.bytes_of files.new ≡ O.bytes_of files.old }
+{
     match cause_of(files, name) {
         Some(cause) => writeln!(err, "  {name}: {cause}").ok(),
         None => writeln!(err, "  {name}: it can be read now").ok(),
@@ -103,12 +108,16 @@ fn write_unread<O: Opener, E: Write>(
     file: u16,
     files: &mut O,
     err: &mut E,
-) -> Option<()> {
+) -> Option<()>
+    ensures { O.bytes_of files.new ≡ O.bytes_of files.old }
+{
     write_cause(files, names.get(usize::from(file))?, err)
 }
 
 // Why a file cannot be read, if that is so.
-fn cause_of<O: Opener>(files: &mut O, name: &str) -> Option<Unread> {
+fn cause_of<O: Opener>(files: &mut O, name: &str) -> Option<Unread>
+    ensures { O.bytes_of files.new ≡ O.bytes_of files.old }
+{
     let mut reader = match files.reader_again(name) {
         Ok(reader) => reader,
         Err(cause) => return Some(cause),
@@ -150,7 +159,9 @@ fn write_run<O: Opener, E: Write>(
     text: &[u8],
     files: &mut O,
     err: &mut E,
-) -> Option<()> {
+) -> Option<()>
+    ensures { O.bytes_of files.new ≡ O.bytes_of files.old }
+{
     let plan = read_plan(alloc, text).ok()?;
     write_fault(alloc, fault, &plan, names, files, err)
 }
@@ -163,7 +174,9 @@ fn write_fault<O: Opener, E: Write>(
     names: &[&str],
     files: &mut O,
     err: &mut E,
-) -> Option<()> {
+) -> Option<()>
+    ensures { O.bytes_of files.new ≡ O.bytes_of files.old }
+{
     match fault {
         Fault::Inputs { .. } => write_sources(plan, names, err),
         Fault::Overflow { step, item } | Fault::SumRange { step, item } => {

@@ -1,4 +1,6 @@
 //! What more can be said of a fault of a file: the line, and what stands there.
+ghost use Rattle.std.specs.Prelude.{◌≡◌};
+
 use csv::ByteRecord;
 use fq_column::Kind;
 use fq_csv::MAX_ROWS;
@@ -32,7 +34,9 @@ impl<'a> FileDetails<'a> {
         alloc: Global,
         files: &mut O,
         err: &mut E,
-    ) -> Option<()> {
+    ) -> Option<()>
+        ensures { O.bytes_of files.new ≡ O.bytes_of files.old }
+    {
         let (name, columns) = (self.name, self.columns);
         match Found::of(alloc, files, name, 0) {
             Ok(Some(found)) => {
@@ -52,7 +56,9 @@ impl<'a> FileDetails<'a> {
         row: u32,
         files: &mut O,
         err: &mut E,
-    ) -> Option<()> {
+    ) -> Option<()>
+        ensures { O.bytes_of files.new ≡ O.bytes_of files.old }
+    {
         let (name, width) = (self.name, self.columns.len());
         match Found::of(alloc, files, name, row) {
             Ok(Some(found)) => {
@@ -76,7 +82,9 @@ impl<'a> FileDetails<'a> {
         column: u16,
         files: &mut O,
         err: &mut E,
-    ) -> Option<()> {
+    ) -> Option<()>
+        ensures { O.bytes_of files.new ≡ O.bytes_of files.old }
+    {
         let name = self.name;
         let (title, kind) = self.columns.get(usize::from(column))?;
         let (title, kind) = (title.as_str(), *kind);
@@ -122,7 +130,9 @@ impl Found {
         files: &mut O,
         name: &str,
         number: u32,
-    ) -> Result<Option<Found>, Unread> {
+    ) -> Result<Option<Found>, Unread>
+        ensures { O.bytes_of files.new ≡ O.bytes_of files.old }
+    {
         let number = u64::from(number);
         let Some(record) = record_at(alloc, files.reader_again(name)?, number)? else {
             return Ok(None);

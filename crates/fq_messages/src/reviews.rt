@@ -32,6 +32,7 @@ pub fn check_files<O: Opener, E: Write>(
     files: &mut O,
     err: &mut E,
 ) -> Result<(), Failure>
+    ensures same { O.bytes_of files.new ≡ O.bytes_of files.old }
     ensures failed { IfErr result (λ f. f ≢ failure.Run fault.Write) }
     ensures judged { (inputs : List (List ℕ)) → Tell (O.bytes_of files.old) (named_by options.now).files inputs → length inputs ≡ files_wanted plan.now →
         IsVerdict (are_clean (file_layouts plan.now) inputs) result }
@@ -69,6 +70,7 @@ fn read_files<O: Opener, E: Write>(
     files: &mut O,
     err: &mut E,
 ) -> Result<(), Failure>
+    ensures same { O.bytes_of files.new ≡ O.bytes_of files.old }
     ensures failed { IfErr result IsOutside }
     ensures device { IfErr result (λ f. f ≢ failure.Run fault.Write) }
     ensures judged { OnOk result ((inputs : List (List ℕ)) → Tell (O.bytes_of files.old) (map (λ name. name.now) names.now) inputs → length inputs ≡ files_wanted plan.now →
@@ -169,6 +171,7 @@ pub fn draft_of<O: Opener, E: Write>(
     files: &mut O,
     err: &mut E,
 ) -> Result<Draft, Failure>
+    ensures same { O.bytes_of files.new ≡ O.bytes_of files.old }
     ensures failed { IfErr result (λ f. f ≢ failure.Run fault.Write) }
 {
     let names = options.files();
@@ -192,6 +195,7 @@ fn draft_files<O: Opener>(
     names: &[&str],
     files: &mut O,
 ) -> Result<(), Failure>
+    ensures same { O.bytes_of files.new ≡ O.bytes_of files.old }
     ensures failed { IfErr result (λ f. f ≢ failure.Run fault.Write) }
 {
     for name in names {
@@ -219,6 +223,7 @@ fn draft_file<O: Opener>(
     name: &str,
     files: &mut O,
 ) -> Result<(), Failure>
+    ensures same { O.bytes_of files.new ≡ O.bytes_of files.old }
     ensures failed { IfErr result (λ f. f ≢ failure.Run fault.Write) }
 {
     let failure = Failure::from(DraftFault::Read {

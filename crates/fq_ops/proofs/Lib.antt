@@ -7,10 +7,12 @@ pub mod GatherLemmas
 pub mod GroupLemmas
 pub mod GroupPartLemmas
 pub mod GroupedLemmas
+pub mod GroupingLemmas
 pub mod JoinLemmas
 pub mod KeyLemmas
 pub mod KeySetLemmas
 pub mod MarkedRowLemmas
+pub mod NeedLemmas
 pub mod NeededLemmas
 pub mod AggregateLemmas
 pub mod PairLemmas

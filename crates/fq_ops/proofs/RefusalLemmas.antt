@@ -19,7 +19,7 @@ use Rattle.fq_column.specs.Schema.{kind_named, schema_checks}
 use Rattle.fq_ops.specs.Aggregate.{Output}
 use Rattle.fq_ops.specs.declared.joins.How.{How}
 use Rattle.fq_ops.specs.Join.{join_schema, joined_fields, renamed, key_checks, kinds_differ, right_name, taken, without_keys}
-use Rattle.fq_ops.specs.Fields.{Judged, refusals, settled, with_kind}
+use Rattle.fq_ops.specs.Fields.{Judged, refusals, settled, unless_double, with_kind}
 use Rattle.fq_ops.specs.Roll.{roll_schema, is_from_to}
 use Rattle.std.specs.Option.{option_map}
 use Rattle.std.specs.Cmp.Lexicographic.{nat_list_eq_equiv, bytes_decides}
@@ -48,12 +48,32 @@ pub map-map : {X Y Z : Type 0} (g : Y → Z) (f : X → Y) (xs : List X) → map
 map-map g f [] = refl
 map-map g f (x ∷ xs) = ap (λ ys. g (f x) ∷ ys) (map-map g f xs)
 
--- the refusals of a list of columns, if there is one
-pub schema-checked : (fs : Fields) (names : List Name) → names_of fs ≡ names → (length names == 0) ≡ false →
-    unless_refused (schema_checks (names_of fs)) fs ≡ unless_refused (refuse_if (nat_lt MAX_COLUMNS (length names)) TooMany ∷ refuse_if (not (is_distinct same_name names)) DoubleName ∷ []) fs
-schema-checked fs names e some =
-    ap (λ (ns : List Name). unless_refused (schema_checks ns) fs) e
-    ∙ unless-next (length names == 0) NoColumn (refuse_if (nat_lt MAX_COLUMNS (length names)) TooMany ∷ refuse_if (not (is_distinct same_name names)) DoubleName ∷ []) fs some
+-- whether these are too many columns
+pub over-many : (n : ℕ) → MAX_COLUMNS < n → nat_lt MAX_COLUMNS n ≡ true
+over-many n h = grind (arith, nat_tests)
+
+pub not-many : (n : ℕ) → n ≤ MAX_COLUMNS → nat_lt MAX_COLUMNS n ≡ false
+not-many n h = grind (arith, nat_tests)
+
+nonzero : (n : ℕ) → 0 < n → (n == 0) ≡ false
+nonzero n h = grind (arith, nat_tests)
+
+-- of some columns that are not too many only two equal names are refused
+pub schema-few : (fs : Fields) → 0 < length fs → length fs ≤ MAX_COLUMNS → unless_refused (schema_checks (names_of fs)) fs ≡ unless_double fs
+schema-few fs some few =
+    let width = length-map fs (λ (f : Field). f.0) in
+    let none = ap (λ n. n == 0) width ∙ nonzero (length fs) some in
+    let many = ap (nat_lt MAX_COLUMNS) width ∙ not-many (length fs) few in
+    λ i. unless_refused (refuse_if (none i) NoColumn ∷ refuse_if (many i) TooMany ∷ refuse_if (not (is_distinct same_name (names_of fs))) DoubleName ∷ []) fs
+
+-- so what is answered otherwise is answered in place of that refusal
+pub late-double : (expected : Result Fields StepFault) (fs : Fields) (Late : StepFault → Type 0) → expected ≡ unless_double fs → Late DoubleName → (answer : Result Fields StepFault) →
+    IfErr expected (λ f. (answer ≡ Err f) ⊎ Late f)
+late-double expected fs Late passed double answer = subst (λ r. IfErr r (λ f. (answer ≡ Err f) ⊎ Late f)) (sym passed) (by (is_distinct same_name (names_of fs)))
+  where
+    by : (b : Bool) → IfErr (unless_refused (refuse_if (not b) DoubleName ∷ []) fs) (λ f. (answer ≡ Err f) ⊎ Late f)
+    by true = tt
+    by false = inr double
 
 -- a refusal that a judgement gives, or `Memory`
 pub refusal-judged : {X : Type 0} (expected answer : Result X StepFault) (f g : StepFault) → answer ≡ Err g → g ≡ f → (expected ≡ Err f) ⊎ (f ≡ Memory) → IsJudgement expected answer
@@ -92,6 +112,15 @@ module _ (fields : Fields) (keys : List Name) (outputs : List Output) where
   abbrev pub ending : List (Option StepFault)
   ending = refuse_if (nat_lt MAX_COLUMNS (length (grouped_names keys outputs))) TooMany ∷ refuse_if (not (is_distinct same_name (grouped_names keys outputs))) DoubleName ∷ []
 
+  pub names-grouped : names_of (grouped_fields fields keys outputs) ≡ grouped_names keys outputs
+  names-grouped =
+      ap names_of (map-append _ key_judged aggregate_judged) ∙ map-append (λ f. f.0) (settled key_judged) (settled aggregate_judged)
+      ∙ (λ i. (names-settled (λ n. n) (kind_named fields) keys ∙ map-same keys) i ++ names-settled (λ (o : Output). o.0) (λ o. aggregate_kind fields o.1) outputs i)
+
+  -- the fields of the keys, and then those of the aggregates
+  pub fields-grouped : grouped_fields fields keys outputs ≡ settled key_judged ++ settled aggregate_judged
+  fields-grouped = map-append _ key_judged aggregate_judged
+
   refusals-split : refusals (grouped_kinds fields keys outputs) ≡ refusals key_judged ++ refusals aggregate_judged
   refusals-split = map-append _ key_judged aggregate_judged
 
@@ -117,32 +146,11 @@ module _ (fields : Fields) (keys : List Name) (outputs : List Output) where
       pub group-many : nat_lt MAX_COLUMNS (length (grouped_names keys outputs)) ≡ true → group_schema fields keys outputs ≡ Err TooMany
       group-many m = columns-begun ∙ ap (λ b. columns-ended b (is_distinct same_name (grouped_names keys outputs))) m
 
-      group-double : (many distinct : Bool) (answer : Result Fields StepFault) → many ≡ false → IfErr (columns-ended many distinct) (λ f. (answer ≡ Err f) ⊎ (f ≡ DoubleName))
-      group-double true distinct answer m = absurd (cc)
-      group-double false true answer m = tt
-      group-double false false answer m = inr refl
-
-      -- past all that is judged before the first allocation, only a double name is left
-      pub group-late : nat_lt MAX_COLUMNS (length (grouped_names keys outputs)) ≡ false → (answer : Result Fields StepFault) → IfErr (group_schema fields keys outputs) (λ f. (answer ≡ Err f) ⊎ (f ≡ DoubleName))
-      group-late m answer =
-          subst (λ r. IfErr r (λ f. (answer ≡ Err f) ⊎ (f ≡ DoubleName))) (sym columns-begun)
-          (group-double (nat_lt MAX_COLUMNS (length (grouped_names keys outputs))) (is_distinct same_name (grouped_names keys outputs)) answer m)
-
-    names-grouped : names_of (grouped_fields fields keys outputs) ≡ grouped_names keys outputs
-    names-grouped =
-        ap names_of (map-append _ key_judged aggregate_judged) ∙ map-append (λ f. f.0) (settled key_judged) (settled aggregate_judged)
-        ∙ (λ i. (names-settled (λ n. n) (kind_named fields) keys ∙ map-same keys) i ++ names-settled (λ (o : Output). o.0) (λ o. aggregate_kind fields o.1) outputs i)
-
-    some_name : (ks : List Name) → (length ks == 0) ≡ false → (length (ks ++ map (λ (o : Output). o.0) outputs) == 0) ≡ false
-    some_name [] e = absurd (cc)
-    some_name (k ∷ ks) e = suc-nonzero (length (ks ++ map (λ (o : Output). o.0) outputs))
-
-    pub group-judged : first_refusal (refusals key_judged) ≡ None → first_refusal (refusals aggregate_judged) ≡ None →
-        group_schema fields keys outputs ≡ unless_refused (schema_checks (names_of (settled key_judged ++ settled aggregate_judged))) (settled key_judged ++ settled aggregate_judged)
-    group-judged n m =
-        begun ∙ unless-past (refusals key_judged ++ refusals aggregate_judged) ending (grouped_fields fields keys outputs) (first_refusal-past (refusals key_judged) (refusals aggregate_judged) n ∙ m)
-        ∙ sym (schema-checked (grouped_fields fields keys outputs) (grouped_names keys outputs) names-grouped (some_name keys some))
-        ∙ ap (λ (fs : Fields). unless_refused (schema_checks (names_of fs)) fs) (map-append _ key_judged aggregate_judged)
+      -- past all that is judged before the first allocation, only two equal names are left
+      pub group-passed : nat_lt MAX_COLUMNS (length (grouped_names keys outputs)) ≡ false → group_schema fields keys outputs ≡ unless_double (grouped_fields fields keys outputs)
+      group-passed few =
+          columns-begun ∙ ap (λ b. columns-ended b (is_distinct same_name (grouped_names keys outputs))) few
+          ∙ ap (λ (ns : List Name). unless_refused (refuse_if (not (is_distinct same_name ns)) DoubleName ∷ []) (grouped_fields fields keys outputs)) (sym names-grouped)
 
 -- ---- checks of each item of a list
 
@@ -258,33 +266,9 @@ module _ (how : How) (left right : Fields) (on : List Name) where
         pub join-twice : is_distinct same_name on ≡ false → join_schema how left right on ≡ Err DoubleName
         join-twice o = join-begun ∙ (λ i. ended (few i) (o i) (is_distinct same_name (names_of output_fields)))
 
-        module _ (once : is_distinct same_name on ≡ true) where
-          late : (many distinct : Bool) (answer : Result Fields StepFault) → many ≡ false →
-              IfErr (ended many true distinct) (λ f. (answer ≡ Err f) ⊎ ((f ≡ DoubleName) × (is_distinct same_name on ≡ true)))
-          late true distinct answer m = absurd (cc)
-          late false true answer m = tt
-          late false false answer m = inr (refl, once)
-
-          judged-once : join_schema how left right on ≡ ended (nat_lt MAX_COLUMNS (length output_fields)) true (is_distinct same_name (names_of output_fields))
-          judged-once = join-begun ∙ ap (λ b. ended (nat_lt MAX_COLUMNS (length output_fields)) b (is_distinct same_name (names_of output_fields))) once
-
-          -- past all that is judged before the first allocation, only a double name is left
-          pub join-late : (answer : Result Fields StepFault) → IfErr (join_schema how left right on) (λ f. (answer ≡ Err f) ⊎ ((f ≡ DoubleName) × (is_distinct same_name on ≡ true)))
-          join-late answer =
-              subst (λ r. IfErr r (λ f. (answer ≡ Err f) ⊎ ((f ≡ DoubleName) × (is_distinct same_name on ≡ true)))) (sym judged-once)
-              (late (nat_lt MAX_COLUMNS (length output_fields)) (is_distinct same_name (names_of output_fields)) answer few)
-
-          module _ (column : (length left == 0) ≡ false) where
-            some_column : (xs ys : Fields) → (length xs == 0) ≡ false → (length (names_of (xs ++ ys)) == 0) ≡ false
-            some_column [] ys e = absurd (cc)
-            some_column (x ∷ xs) ys e = suc-nonzero (length (names_of (xs ++ ys)))
-
-            -- the judgement of the output's columns is that of the join
-            pub join-judged : unless_refused (schema_checks (names_of output_fields)) output_fields ≡ join_schema how left right on
-            join-judged =
-                schema-checked output_fields (names_of output_fields) refl (some_column left (renamed left on (taken how right)) column)
-                ∙ ap (λ n. unless_refused (refuse_if (nat_lt MAX_COLUMNS n) TooMany ∷ refuse_if (not (is_distinct same_name (names_of output_fields))) DoubleName ∷ []) output_fields) (length-map output_fields (λ f. f.0))
-                ∙ sym judged-once
+        -- past all that is judged before the first allocation, only two equal names are left
+        pub join-passed : is_distinct same_name on ≡ true → join_schema how left right on ≡ unless_double output_fields
+        join-passed once = join-begun ∙ (λ i. ended (few i) (once i) (is_distinct same_name (names_of output_fields)))
 
 -- ---- the schema of a rolling sum
 
@@ -339,37 +323,24 @@ distinct-put fs n k None e d =
     ap (λ gs. is_distinct same_name (names_of gs)) (put_named-last fs n k absent) ∙ ap (is_distinct same_name) (map-append (λ (f : Field). f.0) fs ((n, k) ∷ []))
     ∙ distinct-push (names_of fs) n absent d
 
-put_named-some : (fs : Fields) (n : Name) (k : Kind) → (length (put_named fs (n, k)) == 0) ≡ false
-put_named-some [] n k = suc-nonzero 0
+put_named-some : (fs : Fields) (n : Name) (k : Kind) → 0 < length (put_named fs (n, k))
+put_named-some [] n k = omega arith
 put_named-some (f ∷ fs) n k = by (same_name n f.0) refl
   where
-    by : (b : Bool) → same_name n f.0 ≡ b → (length (put_named (f ∷ fs) (n, k)) == 0) ≡ false
-    by true s = ap (λ b. length (if b then (n, k) ∷ fs else f ∷ put_named fs (n, k)) == 0) s ∙ suc-nonzero (length fs)
-    by false s = ap (λ b. length (if b then (n, k) ∷ fs else f ∷ put_named fs (n, k)) == 0) s ∙ suc-nonzero (length (put_named fs (n, k)))
+    by : (b : Bool) → same_name n f.0 ≡ b → 0 < length (put_named (f ∷ fs) (n, k))
+    by true s = rw (ap (λ b. if b then (n, k) ∷ fs else f ∷ put_named fs (n, k)) s) (omega arith)
+    by false s = rw (ap (λ b. if b then (n, k) ∷ fs else f ∷ put_named fs (n, k)) s) (omega arith)
 
-pub roll-judged : (fs : Fields) (column name : Name) (k : Kind) (window min_samples : ℤ) → kind_named fs column ≡ Ok k → same_kind k Whole ≡ true →
-    is_from_to (pos 1) (pos MAX_WINDOW) window ≡ true → is_from_to (pos 1) window min_samples ≡ true → is_distinct same_name (names_of fs) ≡ true →
-    roll_schema fs column window min_samples name ≡ unless_refused (schema_checks (names_of (put_named fs (name, Whole)))) (put_named fs (name, Whole))
-roll-judged fs column name k window min_samples e w in_window in_samples d =
+-- the columns of a rolling sum make a schema
+pub roll-made : (fs : Fields) (name : Name) → is_distinct same_name (names_of fs) ≡ true → length (put_named fs (name, Whole)) ≤ MAX_COLUMNS →
+    unless_refused (schema_checks (names_of (put_named fs (name, Whole)))) (put_named fs (name, Whole)) ≡ Ok (put_named fs (name, Whole))
+roll-made fs name d few =
     let out = put_named fs (name, Whole) in
-    let many = refuse_if (nat_lt MAX_COLUMNS (length out)) TooMany in
-    let judge : Result Kind StepFault → Result Fields StepFault = λ r. and_then r (λ k. unless_refused
-    (refuse_if (not (same_kind k Whole)) WrongKind ∷ refuse_if (not (is_from_to (pos 1) (pos MAX_WINDOW) window)) Window ∷ refuse_if (not (is_from_to (pos 1) window min_samples)) Samples ∷ many ∷ []) out) in
-    ap judge e
-    ∙ unless-next (not (same_kind k Whole)) WrongKind (refuse_if (not (is_from_to (pos 1) (pos MAX_WINDOW) window)) Window ∷ refuse_if (not (is_from_to (pos 1) window min_samples)) Samples ∷ many ∷ []) out (ap not w)
-    ∙ unless-next (not (is_from_to (pos 1) (pos MAX_WINDOW) window)) Window (refuse_if (not (is_from_to (pos 1) window min_samples)) Samples ∷ many ∷ []) out (ap not in_window)
-    ∙ unless-next (not (is_from_to (pos 1) window min_samples)) Samples (many ∷ []) out (ap not in_samples)
-    ∙ sym (schema-checked out (names_of out) refl (ap (λ n. n == 0) (length-map out (λ f. f.0)) ∙ put_named-some fs name Whole)
-    ∙ ap (λ n. unless_refused (refuse_if (nat_lt MAX_COLUMNS n) TooMany ∷ refuse_if (not (is_distinct same_name (names_of out))) DoubleName ∷ []) out) (length-map out (λ f. f.0))
-    ∙ ap (λ b. unless_refused (many ∷ refuse_if (not b) DoubleName ∷ []) out) (distinct-put fs name Whole (position_of name (names_of fs)) refl d)
-    ∙ ended (nat_lt MAX_COLUMNS (length out)) out)
-  where
-    ended : (b : Bool) (fs : Fields) → unless_refused (refuse_if b TooMany ∷ refuse_if (not true) DoubleName ∷ []) fs ≡ unless_refused (refuse_if b TooMany ∷ []) fs
-    ended true fs = refl
-    ended false fs = refl
+    schema-few out (put_named-some fs name Whole) few
+    ∙ ap (λ b. unless_refused (refuse_if (not b) DoubleName ∷ []) out) (distinct-put fs name Whole (position_of name (names_of fs)) refl d)
 
 -- all that is judged before the first allocation is all
-roll-accepted : (fs : Fields) (column name : Name) (k : Kind) (window min_samples : ℤ) → kind_named fs column ≡ Ok k → same_kind k Whole ≡ true →
+pub roll-accepted : (fs : Fields) (column name : Name) (k : Kind) (window min_samples : ℤ) → kind_named fs column ≡ Ok k → same_kind k Whole ≡ true →
     is_from_to (pos 1) (pos MAX_WINDOW) window ≡ true → is_from_to (pos 1) window min_samples ≡ true → nat_lt MAX_COLUMNS (length (put_named fs (name, Whole))) ≡ false →
     roll_schema fs column window min_samples name ≡ Ok (put_named fs (name, Whole))
 roll-accepted fs column name k window min_samples e w in_window in_samples few =
@@ -379,12 +350,6 @@ roll-accepted fs column name k window min_samples e w in_window in_samples few =
     let judged : Bool → Bool → Bool → Bool → Result Fields StepFault = λ whole windows samples many. unless_refused
     (refuse_if (not whole) WrongKind ∷ refuse_if (not windows) Window ∷ refuse_if (not samples) Samples ∷ refuse_if many TooMany ∷ []) out in
     ap judge e ∙ (λ i. judged (w i) (in_window i) (in_samples i) (few i))
-
-pub roll-late : (fs : Fields) (column name : Name) (k : Kind) (window min_samples : ℤ) → kind_named fs column ≡ Ok k → same_kind k Whole ≡ true →
-    is_from_to (pos 1) (pos MAX_WINDOW) window ≡ true → is_from_to (pos 1) window min_samples ≡ true → nat_lt MAX_COLUMNS (length (put_named fs (name, Whole))) ≡ false →
-    (answer : Result Fields StepFault) → IfErr (roll_schema fs column window min_samples name) (λ f. answer ≡ Err f)
-roll-late fs column name k window min_samples e w in_window in_samples few answer =
-    subst (λ (r : Result Fields StepFault). IfErr r (λ f. answer ≡ Err f)) (sym (roll-accepted fs column name k window min_samples e w in_window in_samples few)) tt
 
 -- and a name that is new to 64 columns is one too many
 pub roll-many : (fs : Fields) (column name : Name) (k : Kind) (window min_samples : ℤ) → kind_named fs column ≡ Ok k → same_kind k Whole ≡ true →
@@ -409,13 +374,6 @@ put_named-length fs n k i e = ap length (put_named-at fs n i k e) ∙ by i fs
 
 pub put_named-longer : (fs : Fields) (n : Name) (k : Kind) → position_of n (names_of fs) ≡ None → length (put_named fs (n, k)) ≡ length fs + 1
 put_named-longer fs n k e = ap length (put_named-last fs n k (unnamed fs n e)) ∙ length-append fs ((n, k) ∷ [])
-
--- whether these are too many columns
-pub over-many : (n : ℕ) → MAX_COLUMNS < n → nat_lt MAX_COLUMNS n ≡ true
-over-many n h = grind (arith, nat_tests)
-
-pub not-many : (n : ℕ) → n ≤ MAX_COLUMNS → nat_lt MAX_COLUMNS n ≡ false
-not-many n h = grind (arith, nat_tests)
 
 -- ---- what holds if nothing is refused
 

@@ -1,12 +1,12 @@
 //! Schemas after joins, groupings and rolling sums.
-ghost use Rattle.std.specs.Prelude.{◌≡◌, ◌⊎◌, ◌++◌, ◌≤◌, true, None, Some, Err, map, length, string_bytes, IfOk, IfErr, OnOk};
+ghost use Rattle.std.specs.Prelude.{◌≡◌, ◌⊎◌, ◌++◌, ◌<◌, ◌≤◌, true, None, Some, Ok, Err, map, length, string_bytes, IfOk, IfErr, OnOk};
 ghost use Rattle.fq_column.specs.declared.cells.Kind.TheVariants.{Whole};
 ghost use Rattle.fq_column.specs.Frame.{has_name, put_named, same_name};
 ghost use Rattle.fq_column.specs.Lists.{is_distinct};
 ghost use Rattle.fq_column.specs.Refusal.{first_refusal, IsJudgement};
 ghost use Rattle.fq_column.specs.Schema.{kind_named};
-ghost use Rattle.fq_ops.specs.Fields.{refusals, settled};
-ghost use Rattle.fq_ops.specs.Group.{group_schema as judged_grouping, aggregate_kind};
+ghost use Rattle.fq_ops.specs.Fields.{refusals, settled, unless_double};
+ghost use Rattle.fq_ops.specs.Group.{group_schema as judged_grouping, aggregate_kind, grouped_fields};
 ghost use Rattle.fq_ops.specs.Join.{join_schema as judged_join, joined_fields, key_checks, renamed, right_name, taken, without_keys};
 ghost use Rattle.fq_ops.specs.AggregateData.{aggregate_of, outputs_of};
 ghost use Rattle.fq_ops.specs.Roll.{roll_schema as judged_roll};
@@ -35,18 +35,7 @@ pub fn join_schema(
     ensures judged { IsJudgement (judged_join how left.now right.now (map string_bytes on.now)) result }
     ensures early { IfErr (judged_join how left.now right.now (map string_bytes on.now)) (λ fault. (result ≡ Err fault) ⊎ ((fault ≡ StepFault.DoubleName) × (is_distinct same_name (map string_bytes on.now) ≡ true))) }
 {
-    if on.is_empty() {
-        return Err(StepFault::NoColumn);
-    }
-    for name in on {
-        check_key(left, right, name.as_str())?;
-    }
-    if joined_len(left, right, on, how) > MAX_COLUMNS {
-        return Err(StepFault::TooMany);
-    }
-    if has_double(on) {
-        return Err(StepFault::DoubleName);
-    }
+    check_join(left, right, on, how)?;
     let mut fields = FieldList::copy_of(alloc, left)?;
     add_taken(alloc, &mut fields, left, right, on, how)?;
     fields.into_schema()
@@ -67,14 +56,7 @@ pub fn group_schema(
     ensures judged { IsJudgement (judged_grouping schema.now (map string_bytes keys.now) (outputs_of aggs.now)) result }
     ensures early { IfErr (judged_grouping schema.now (map string_bytes keys.now) (outputs_of aggs.now)) (λ fault. (result ≡ Err fault) ⊎ (fault ≡ StepFault.DoubleName)) }
 {
-    if keys.is_empty() {
-        return Err(StepFault::NoColumn);
-    }
-    check_keys(schema, keys)?;
-    check_aggregates(schema, aggs)?;
-    if keys.len() + aggs.len() > MAX_COLUMNS {
-        return Err(StepFault::TooMany);
-    }
+    check_grouping(schema, keys, aggs)?;
     let mut fields = FieldList::new(alloc);
     add_keys(alloc, &mut fields, schema, keys)?;
     add_aggregates(alloc, &mut fields, schema, aggs)?;
@@ -97,6 +79,27 @@ pub fn roll_schema(
     ensures judged { IsJudgement (judged_roll schema.now column.now window min_samples name.now) result }
     ensures early { IfErr (judged_roll schema.now column.now window min_samples name.now) (λ fault. result ≡ Err fault) }
 {
+    check_roll(schema, column, window, min_samples, name)?;
+    let mut fields = FieldList::copy_of(alloc, schema)?;
+    match schema.position(name) {
+        Some(i) => fields.set_kind(i, Kind::Whole),
+        None => fields.push(copy_name(alloc, name)?, Kind::Whole)?,
+    }
+    fields.into_schema()
+}
+
+// Why a rolling sum is refused, if it is.
+fn check_roll(
+    schema: &Schema,
+    column: &str,
+    window: i64,
+    min_samples: i64,
+    name: &str,
+) -> Result<(), StepFault>
+    ensures ok { OnOk result (let fields = put_named schema.now (name.now, Whole) in
+        (length fields ≤ MAX_COLUMNS) × (judged_roll schema.now column.now window min_samples name.now ≡ Ok fields)) }
+    ensures err { IfErr result (λ fault. judged_roll schema.now column.now window min_samples name.now ≡ Err fault) }
+{
     if schema.kind_of(column)? != Kind::Whole {
         return Err(StepFault::WrongKind);
     }
@@ -109,12 +112,7 @@ pub fn roll_schema(
     if put_len(schema, name) > MAX_COLUMNS {
         return Err(StepFault::TooMany);
     }
-    let mut fields = FieldList::copy_of(alloc, schema)?;
-    match schema.position(name) {
-        Some(i) => fields.set_kind(i, Kind::Whole),
-        None => fields.push(copy_name(alloc, name)?, Kind::Whole)?,
-    }
-    fields.into_schema()
+    Ok(())
 }
 
 // How many columns there are with one under a name.
@@ -135,6 +133,25 @@ fn kind_of_aggregate(schema: &Schema, what: &What) -> Result<Kind, StepFault>
         What::Len => Ok(Kind::Whole),
         What::Of(function, name) => function.kind_over(schema.kind_of(name.as_str())?),
     }
+}
+
+// Why a grouping is refused, if it is for anything but two equal names of its output.
+fn check_grouping(schema: &Schema, keys: &[String], aggs: &[Agg]) -> Result<(), StepFault>
+    ensures ok { OnOk result (let fields = grouped_fields schema.now (map string_bytes keys.now) (outputs_of aggs.now) in
+        (length fields ≤ MAX_COLUMNS) × (0 < length fields) × (judged_grouping schema.now (map string_bytes keys.now) (outputs_of aggs.now) ≡ unless_double fields)
+        × (first_refusal (refusals (map (λ k. (string_bytes k, kind_named schema.now (string_bytes k))) keys.now)) ≡ None)
+        × (first_refusal (refusals (map (λ a. (string_bytes a.name, aggregate_kind schema.now (aggregate_of a.what))) aggs.now)) ≡ None)) }
+    ensures err { IfErr result (λ fault. judged_grouping schema.now (map string_bytes keys.now) (outputs_of aggs.now) ≡ Err fault) }
+{
+    if keys.is_empty() {
+        return Err(StepFault::NoColumn);
+    }
+    check_keys(schema, keys)?;
+    check_aggregates(schema, aggs)?;
+    if keys.len() + aggs.len() > MAX_COLUMNS {
+        return Err(StepFault::TooMany);
+    }
+    Ok(())
 }
 
 // The first refusal of a key of a grouping.
@@ -193,6 +210,28 @@ fn add_aggregates(
     for agg in aggs {
         let kind = kind_of_aggregate(schema, &agg.what)?;
         fields.push(copy_name(alloc, agg.name.as_str())?, kind)?;
+    }
+    Ok(())
+}
+
+// Why a join is refused, if it is for anything but two equal names of its output.
+fn check_join(left: &Schema, right: &Schema, on: &[String], how: How) -> Result<(), StepFault>
+    ensures ok { OnOk result (let fields = joined_fields how left.now right.now (map string_bytes on.now) in
+        (length fields ≤ MAX_COLUMNS) × (is_distinct same_name (map string_bytes on.now) ≡ true)
+        × (judged_join how left.now right.now (map string_bytes on.now) ≡ unless_double fields)) }
+    ensures err { IfErr result (λ fault. judged_join how left.now right.now (map string_bytes on.now) ≡ Err fault) }
+{
+    if on.is_empty() {
+        return Err(StepFault::NoColumn);
+    }
+    for name in on {
+        check_key(left, right, name.as_str())?;
+    }
+    if joined_len(left, right, on, how) > MAX_COLUMNS {
+        return Err(StepFault::TooMany);
+    }
+    if has_double(on) {
+        return Err(StepFault::DoubleName);
     }
     Ok(())
 }

@@ -5,20 +5,25 @@ use Rattle.std.specs.Bool.{◌==◌}
 use Rattle.std.specs.Result.{result_map_both}
 use Rattle.std.proofs.lemmas.Bool.Decides.{nat_tests}
 use Rattle.std.proofs.Math.Seq.{drop-drop}
+use Rattle.std.proofs.lemmas.List.{length-map}
 use Rattle.std.proofs.lemmas.List.Elements.{All-append, All-cons, All-nil}
 use Rattle.std.proofs.lemmas.List.Sums.{sum_by-cons}
 use Rattle.fq_column.specs.declared.cells.Cell.{Cell}
 use Rattle.fq_column.specs.declared.cells.Kind.{Kind}
-use Rattle.fq_column.specs.Frame.{Field, Fields, Row, names_of, same_name}
+use Rattle.fq_column.specs.Frame.{Fields, Row, kinds_of, names_of, same_name}
 use Rattle.fq_column.specs.Lists.{all_or_missing, numbers, zip_with}
+use Rattle.fq_column.specs.Masked.{masked}
 use Rattle.fq_column.specs.Stream.{Stream, done, faulted, one_by_one, then_stream}
 use Rattle.fq_column.proofs.ListLemmas.{length-zip_with}
+use Rattle.fq_column.proofs.MaskedLemmas.{length-masked}
 use Rattle.fq_csv.specs.declared.faults.ScanFault.{ScanFault}
 use Rattle.fq_csv.specs.declared.faults.ScanFault.TheVariants.{BadCell, Header, TooLong, Width}
 use Rattle.fq_csv.specs.declared.layouts.Layout.{Layout}
+use Rattle.fq_notation.specs.declared.notations.Notation.{Notation}
 use Rattle.fq_csv.specs.Field.{cell_under}
-use Rattle.fq_csv.specs.File.{Record, file_stream, row_by, rows_by, rows_under_header_by}
+use Rattle.fq_csv.specs.File.{Record, cells_by, file_stream, noted, row_by, rows_by, rows_under_header_by}
 use Rattle.fq_csv.specs.Sources.{Source, but_last, layout_of, row_limit}
+use Rattle.fq_csv.proofs.NotedLemmas.{length-noted}
 use Rattle.fq_expr.proofs.NeededLemmas.{length-all_or_missing}
 use Rattle.fq_language.specs.Plan.{PlanData, file_layouts, file_streams, main_fields, side_files}
 use Rattle.fq_plan.specs.Needed.{AreWide}
@@ -42,27 +47,29 @@ wide-each {X} {F} width step w (x ∷ xs) = go (step x) refl (wide-each width st
 same-count : (m n : ℕ) → (m == n) ≡ true → m ≡ n
 same-count m n e = grind (arith, nat_tests)
 
-module _ (read : Kind → List ℕ → Option Cell) (file : ℕ) (fields : Fields) (limit : ℕ) where
-  row-wide : (n : ℕ) (fs : Record) (rows : List Row) → row_by read file fields limit n fs ≡ Ok rows → Wide (length fields) rows
+module _ (read : Kind → Notation → List ℕ → Option Cell) (notations : List Notation) (marks : List Bool) (file : ℕ) (fields : Fields) (limit : ℕ) where
+  row-wide : (n : ℕ) (fs : Record) (rows : List Row) → row_by read notations marks file fields limit n fs ≡ Ok rows → Wide (length fields) rows
   row-wide n fs rows e = go (nat_lt limit n) (length fs == length fields) refl e
     where
-      by : (r : Result Row ℕ) → ((row : Row) → r ≡ Ok row → length row ≡ length fields) → result_map_both (λ row. row ∷ []) (BadCell file n) r ≡ Ok rows → Wide (length fields) rows
-      by (Ok row) l f = subst (Wide (length fields)) (let g : row ∷ [] ≡ rows = cc in g) (All-cons (λ row. length row ≡ length fields) row [] (l row refl) (All-nil (λ row. length row ≡ length fields)))
+      by : (r : Result Row ℕ) → ((row : Row) → r ≡ Ok row → length row ≡ length fields) → result_map_both (λ row. masked marks row ∷ []) (BadCell file n) r ≡ Ok rows → Wide (length fields) rows
+      by (Ok row) l f = subst (Wide (length fields)) (let g : masked marks row ∷ [] ≡ rows = cc in g) (All-cons (λ row. length row ≡ length fields) (masked marks row) [] (length-masked marks row ∙ l row refl) (All-nil (λ row. length row ≡ length fields)))
       by (Err i) l f = absurd (cc)
 
       go : (a b : Bool) → (length fs == length fields) ≡ b →
-          (if a then Err (TooLong file) else if not b then Err (Width file n) else result_map_both (λ row. row ∷ []) (BadCell file n) (all_or_missing (zip_with (λ (f : Field) field. read f.1 field) fields fs))) ≡ Ok rows → Wide (length fields) rows
+          (if a then Err (TooLong file) else if not b then Err (Width file n) else result_map_both (λ row. masked marks row ∷ []) (BadCell file n) (all_or_missing (cells_by read notations (kinds_of fields) fs))) ≡ Ok rows → Wide (length fields) rows
       go true b s f = absurd (cc)
       go false false s f = absurd (cc)
       go false true s f =
-          let cells : List (Option Cell) = zip_with (λ (f : Field) field. read f.1 field) fields fs in
-          by (all_or_missing cells) (λ row g. length-all_or_missing cells row g ∙ length-zip_with (λ (f : Field) field. read f.1 field) fields fs (same-count (length fs) (length fields) s)) f
+          let cells = cells_by read notations (kinds_of fields) fs in
+          let forms = noted notations (kinds_of fields) in
+          let count : length forms ≡ length fields = length-noted notations (kinds_of fields) ∙ length-map fields (λ f. f.1) in
+          by (all_or_missing cells) (λ row g. length-all_or_missing cells row g ∙ length-zip_with (λ (k : Kind × Notation) field. read k.0 k.1 field) forms fs (same-count (length fs) (length fields) s ∙ sym count) ∙ count) f
 
-  records-wide : (rs : List Record) → Wide (length fields) (rows_under_header_by read file fields limit rs).rows
+  records-wide : (rs : List Record) → Wide (length fields) (rows_under_header_by read notations marks file fields limit rs).rows
   records-wide [] = All-nil (λ row. length row ≡ length fields)
-  records-wide (r ∷ rs) = go (pointwise same_name (names_of fields) r) (wide-each (length fields) (λ (p : ℕ × Record). row_by read file fields limit p.0 p.1) (λ p rows e. row-wide p.0 p.1 rows e) _)
+  records-wide (r ∷ rs) = go (pointwise same_name (names_of fields) r) (wide-each (length fields) (λ (p : ℕ × Record). row_by read notations marks file fields limit p.0 p.1) (λ p rows e. row-wide p.0 p.1 rows e) _)
     where
-      go : (b : Bool) → Wide (length fields) (rows_by read file fields limit 0 rs).rows → Wide (length fields) (if b then rows_by read file fields limit 0 rs else faulted (Header file)).rows
+      go : (b : Bool) → Wide (length fields) (rows_by read notations marks file fields limit 0 rs).rows → Wide (length fields) (if b then rows_by read notations marks file fields limit 0 rs else faulted (Header file)).rows
       go true w = w
       go false w = All-nil (λ row. length row ≡ length fields)
 
@@ -78,7 +85,7 @@ streams-laid : (is : List ℕ) (layouts : List Layout) (files : List (List ℕ))
 streams-laid [] layouts files = tt
 streams-laid (i ∷ is) [] files = tt
 streams-laid (i ∷ is) (l ∷ layouts) [] = tt
-streams-laid (i ∷ is) (l ∷ layouts) (file ∷ files) = (records-wide (cell_under l.nulls) i l.schema row_limit _, streams-laid is layouts files)
+streams-laid (i ∷ is) (l ∷ layouts) (file ∷ files) = (records-wide (cell_under l.nulls) l.notations l.projection i l.schema row_limit _, streams-laid is layouts files)
 
 -- so many files of one layout, and the files after them
 laid-parts : (l : Layout) (n : ℕ) (layouts : List Layout) (us : List (Stream ScanFault)) → AreLaid (replicate n l ++ layouts) us →
@@ -94,10 +101,10 @@ laid-alone l n [] h = All-nil (λ u. Wide (length l.schema) u.rows)
 laid-alone l zero (u ∷ us) h = absurd h
 laid-alone l (suc n) (u ∷ us) h = All-cons (λ (u : Stream ScanFault). Wide (length l.schema) u.rows) u us h.0 (laid-alone l n us h.1)
 
-abbrev layouts_in : List Source → List Layout
+abbrev pub layouts_in : List Source → List Layout
 layouts_in sources = flat_map (λ (s : Source). replicate s.files (layout_of s)) sources
 
-layouts-last : (sources : List Source) (main : Source) → layouts_in (sources ++ main ∷ []) ≡ layouts_in sources ++ replicate main.files (layout_of main)
+pub layouts-last : (sources : List Source) (main : Source) → layouts_in (sources ++ main ∷ []) ≡ layouts_in sources ++ replicate main.files (layout_of main)
 layouts-last [] main = append-nil (replicate main.files (layout_of main))
 layouts-last (s ∷ sources) main =
     ap (λ ls. replicate s.files (layout_of s) ++ ls) (layouts-last sources main)

@@ -5,4 +5,8 @@ pub mod CheckLemmas
 pub mod PreparedLemmas
 pub mod FileCutLemmas
 pub mod FileWidthLemmas
+pub mod NeedLemmas
+pub mod WholeSourceLemmas
 pub mod NeededLemmas
+pub mod KeepingLemmas
+pub mod NarrowedLemmas

@@ -14,6 +14,7 @@ use Rattle.fq_column.specs.declared.schemas.TheConstants.{MAX_COLUMNS}
 use Rattle.fq_column.specs.Agreement.{marked, AllAgreeOn, StreamsAgreeOn}
 use Rattle.fq_column.specs.Frame.{Fields, Frame, Name, Row, names_of, same_name}
 use Rattle.fq_column.specs.Lists.{is_distinct}
+use Rattle.fq_column.specs.Masked.{masked_stream}
 use Rattle.fq_column.specs.Refusal.{first_refusal, refuse_if}
 use Rattle.fq_column.specs.Schema.{schema_checks}
 use Rattle.fq_column.specs.Stream.{Stream, rename_fault, then_stream}
@@ -33,7 +34,7 @@ use Rattle.fq_ops.specs.Roll.{roll_schema}
 use Rattle.fq_ops.proofs.NeededLemmas.{group_stream-same, join_stream-agree, roll_stream-agree, joined-distinct, roll-after}
 use Rattle.fq_plan.specs.Meaning.{apply_plan_step, apply_plan_steps, meaning, meaning_of_sources}
 use Rattle.fq_plan.proofs.StageMeaning.{columns-of-frames, length-sources}
-use Rattle.fq_plan.specs.Needed.{AllStreamsAgreeOn, AreWide, DifferInUnneeded, masked_stream, needed_alone, needed_before_step, needed_before_steps, needed_columns}
+use Rattle.fq_plan.specs.Needed.{AllStreamsAgreeOn, AreWide, DifferInUnneeded, needed_alone, needed_before_step, needed_before_steps, needed_columns}
 use Rattle.fq_run.specs.declared.faults.Fault.{Fault}
 use Rattle.fq_run.specs.declared.faults.Fault.TheVariants.{Overflow, JoinRows, RollRange, SumRange}
 use Rattle.fq_run.specs.declared.operators.joining.TheConstants.{MAX_JOINED_ROWS}

@@ -1,5 +1,5 @@
 -- A plan, by its sources with their schemas, its leading row-wise steps and the stages after them, as a physical plan.
-use Rattle.std.proofs.Common.{◌≡◌, ◌+◌, List, [], ◌∷◌, ◌++◌, map, length, Option, Some, None, Result, Ok, Err, refl, ap, sym, ◌∙◌, subst, arith, append-nil}
+use Rattle.std.proofs.Common.{◌≡◌, ◌+◌, ◌≤◌, List, [], ◌∷◌, ◌++◌, map, length, Option, Some, None, Result, Ok, Err, refl, ap, sym, ◌∙◌, subst, arith, append-nil}
 use Rattle.std.specs.Prelude.{IsOk}
 use Rattle.std.specs.Result.{result_map_both}
 use Rattle.std.proofs.lemmas.List.{length-map, map-append}
@@ -8,17 +8,22 @@ use Rattle.fq_expr.specs.Front.{NumberedSteps}
 use Rattle.fq_expr.specs.Kinds.{steps_schema}
 use Rattle.fq_expr.specs.Steps.{fields_after_all}
 use Rattle.fq_language.specs.Judged.{checked, judged, judged_steps, source_refusal}
-use Rattle.fq_language.specs.Plan.{row_wise, PlanData, IsWithinLimits, files_wanted, side_fields, main_fields}
+use Rattle.fq_language.specs.Plan.{PlanStep, row_wise, PlanData, IsWithinLimits, files_wanted, side_fields, main_fields}
 use Rattle.fq_csv.specs.Sources.{Source, but_last, last_or}
-use Rattle.fq_plan.specs.Stages.{columns_of, leading_stage, query_of, stage_steps, IsChecked, Leads}
+use Rattle.fq_notation.specs.declared.notations.Notation.{Notation}
+use Rattle.fq_plan.specs.Needed.{needed_before_steps, needed_columns}
+use Rattle.fq_plan.specs.Stages.{columns_of, leading_stage, narrowed, plan_of, query_of, stage_steps, whole_source, IsChecked, Leads}
 use Rattle.fq_run.specs.Physical.{Physical}
+use Rattle.fq_csv.specs.declared.sources.TheConstants.{MAX_FILES}
 use Rattle.fq_csv.specs.Sources.{source_of_files}
+use Rattle.fq_column.specs.Agreement.{marked}
 use Rattle.fq_run.specs.Stages.{physical_of, Fit, IsRunnable}
 use Rattle.fq_language.specs.declared.faults.CheckFault.{CheckFault}
 use Rattle.fq_csv.specs.declared.sources.SourceFiles.{SourceFiles}
 use Rattle.fq_run.specs.declared.stages.Stage.{Stage}
 use Rattle.fq_plan.proofs.CheckLemmas.{refusal_in, no-refusal, rows-passed, stages-passed}
 use Rattle.fq_plan.proofs.StageMeaning.{fits}
+use Rattle.fq_plan.proofs.WholeSourceLemmas.{judged-whole, wanted-whole}
 use Rattle.fq_run.proofs.LastLemmas.{but_last-snoc, last_or-snoc}
 use Rattle.fq_run.proofs.StageLemmas.{fields-after-all}
 
@@ -67,52 +72,58 @@ module _ (sides : List SourceFiles) (main : SourceFiles) where
     pub steps-refuse : (e : CheckFault) → source_refusal 0 p.sources ≡ None → judged_steps (columns_of sides) 0 main.layout.schema p.steps ≡ Err e → checked p ≡ Err e
     steps-refuse e s h = step-refuses p e s ((λ i. judged_steps (side-columns i) 0 (main-columns i) p.steps) ∙ h)
 
+    -- the columns that the plan needs
+    pub needed-is : (steps : List PlanStep) → steps ≡ p.steps → marked (needed_before_steps (columns_of sides) main.layout.schema steps) main.layout.schema ≡ needed_columns p
+    needed-is steps e = λ i. marked (needed_before_steps (sym side-columns i) (sym main-columns i) (e i)) (sym main-columns i)
+
   -- ---- a plan that is not refused
 
-  module _ (front : NumberedSteps) (stages : List Stage) (mid after : Fields) (leads : Leads (columns_of sides) 0 main.layout.schema (leading_stage front mid ∷ stages) after) where
+  module _ (front : NumberedSteps) (stages : List Stage) (notations : List Notation) (mid after : Fields) (leads : Leads (columns_of sides) 0 main.layout.schema (leading_stage front mid ∷ stages) after) where
     abbrev pub plan : Physical
-    plan = physical_of (sides ++ main ∷ []) front stages
+    plan = physical_of (sides ++ main ∷ []) front stages notations
 
     -- the columns after the leading steps, and the stages after these
     pub columns : mid ≡ fields_after_all front.fields front.steps
     columns = sym (ap (λ fs. fields_after_all fs front.steps) leads.1.0 ∙ fields-after-all main.layout.schema mid front.steps leads.1.2)
 
-    to-mid : steps_schema (main_fields (query_of plan)) front.steps ≡ Ok mid
-    to-mid = ap (λ fs. steps_schema fs front.steps) (main-columns (query_of plan) refl) ∙ leads.1.2
+    to-mid : steps_schema (main_fields (plan_of plan)) front.steps ≡ Ok mid
+    to-mid = ap (λ fs. steps_schema fs front.steps) (main-columns (plan_of plan) refl) ∙ leads.1.2
 
-    further : Leads (side_fields (query_of plan)) (length front.steps) mid stages after
+    further : Leads (side_fields (plan_of plan)) (length front.steps) mid stages after
     further =
         let count : 0 + length (map row_wise front.steps) ≡ length front.steps = omega (arith, length-map front.steps row_wise) in
-        subst (λ n. Leads (side_fields (query_of plan)) n mid stages after) count
-        (subst (λ js. Leads js (0 + length (map row_wise front.steps)) mid stages after) (sym (side-columns (query_of plan) refl)) leads.2)
+        subst (λ n. Leads (side_fields (plan_of plan)) n mid stages after) count
+        (subst (λ js. Leads js (0 + length (map row_wise front.steps)) mid stages after) (sym (side-columns (plan_of plan) refl)) leads.2)
 
-    pub prepared : source_refusal 0 (map source_of_files (sides ++ main ∷ [])) ≡ None → IsWithinLimits (query_of plan) → IsChecked plan
-    prepared passed limits = record { limits = limits; schemas = passed; leads = (mid, after, to-mid, further) }
+    pub prepared : source_refusal 0 (map source_of_files (sides ++ main ∷ [])) ≡ None → plan.sources ≡ narrowed (needed_columns (query_of plan)) (query_of plan).sources →
+        IsWithinLimits (query_of plan) → IsChecked plan
+    prepared passed sources limits = record { limits = limits; sources = sources; schemas = passed; leads = (mid, after, to-mid, further) }
 
-    pub runnable : IsWithinLimits (query_of plan) → IsRunnable (sides ++ main ∷ []) front stages (files_wanted (query_of plan))
+    pub runnable : IsWithinLimits (query_of plan) → IsRunnable (sides ++ main ∷ []) front stages (files_wanted (plan_of plan))
     runnable limits = record {
-      some_source = omega (arith, limits.some_source, length-map (sides ++ main ∷ []) source_of_files);
+      some_source = omega (arith, limits.some_source, length-map (map source_of_files (sides ++ main ∷ [])) whole_source, length-map (sides ++ main ∷ []) source_of_files);
       inputs_wanted = refl;
-      few_files = limits.few_files;
+      few_files = subst (λ n. n ≤ MAX_FILES) (wanted-whole (plan_of plan)) limits.few_files;
       from_first = leads.1.1;
-      on_main = leads.1.0 ∙ sym (main-columns (query_of plan) refl);
+      on_main = leads.1.0 ∙ sym (main-columns (plan_of plan) refl);
       fits = (
         after,
-        subst (λ fs. Fit (side_fields (query_of plan)) fs stages after) (sym (fields-after-all (main_fields (query_of plan)) mid front.steps to-mid))
-            (fits (side_fields (query_of plan)) (length front.steps) mid stages after further),
+        subst (λ fs. Fit (side_fields (plan_of plan)) fs stages after) (sym (fields-after-all (main_fields (plan_of plan)) mid front.steps to-mid))
+            (fits (side_fields (plan_of plan)) (length front.steps) mid stages after further),
       );
     }
 
 -- what a checked plan holds is not refused
 pub checked-passes : (p : Physical) → IsChecked p → IsOk (judged (query_of p))
 checked-passes p c =
-    let q : PlanData = query_of p in
+    let q : PlanData = plan_of p in
     let js : List Fields = side_fields q in
-    plan-passes q c.schemas
+    let whole : judged (query_of p) ≡ judged q = judged-whole q in
+    subst (λ (r : Result (List Fields) CheckFault). IsOk r) (sym whole) (plan-passes q c.schemas
     (rows-passed js 0 (main_fields q) p.front (stage_steps p.stages) c.leads.0 c.leads.2
     ∙ ap (λ n. refusal_in (judged_steps js n c.leads.0 (stage_steps p.stages))) (let e : 0 + length p.front ≡ length p.front = omega arith in e)
     ∙ ap (λ ss. refusal_in (judged_steps js (length p.front) c.leads.0 ss)) (sym (append-nil (stage_steps p.stages)))
-    ∙ stages-passed js (length p.front) c.leads.0 p.stages [] c.leads.1 c.leads.3)
+    ∙ stages-passed js (length p.front) c.leads.0 p.stages [] c.leads.1 c.leads.3))
 
 pub checked-is : (p : Physical) → IsChecked p → checked (query_of p) ≡ Ok (query_of p)
 checked-is p c = ok-is (query_of p) (judged (query_of p)) (checked-passes p c)

@@ -18,8 +18,9 @@ use Rattle.fq_ops.proofs.RefusalLemmas.{join-output}
 use Rattle.fq_language.specs.Judged.{judged_step}
 use Rattle.fq_plan.specs.Meaning.{apply_plan_step, apply_plan_steps, fields_after, meaning, meaning_of_sources}
 use Rattle.fq_language.specs.Plan.{PlanStep, row_wise, join, group_by, rolling_sum}
-use Rattle.fq_plan.specs.Stages.{Leads, LowersTo, IsChecked, operator_steps, query_of, stage_steps}
+use Rattle.fq_plan.specs.Stages.{Leads, LowersTo, IsChecked, operator_steps, plan_of, query_of, stage_steps}
 use Rattle.fq_plan.proofs.LeadingStepLemmas.{leading-steps}
+use Rattle.fq_plan.proofs.WholeSourceLemmas.{meaning-whole}
 use Rattle.fq_run.specs.declared.operators.joining.TheConstants.{MAX_JOINED_ROWS}
 use Rattle.fq_run.specs.Outcome.{columns_after, frame_or_fault}
 use Rattle.fq_run.specs.Physical.{Physical, after_leading, front_fields, side_files, main_fields, outcome_of_run, outcome_of_sources}
@@ -172,7 +173,7 @@ columns-of-frames (s ∷ sources) [] e = absurd (omega (arith, e))
 columns-of-frames (s ∷ sources) (u ∷ us) e = ap (λ fs. s.fields ∷ fs) (columns-of-frames sources us (omega (arith, e)))
 
 module _ (p : Physical) (c : IsChecked p) where
-  sources-mean : (sides : List (Stream Fault)) (main : Stream Fault) → length sides ≡ length (but_last p.sources) → outcome_of_sources p sides main ≡ meaning_of_sources (query_of p) sides main
+  sources-mean : (sides : List (Stream Fault)) (main : Stream Fault) → length sides ≡ length (but_last p.sources) → outcome_of_sources p sides main ≡ meaning_of_sources (plan_of p) sides main
   sources-mean sides main count =
       let frames : List Frame = frames_of (but_last p.sources) sides in
       let steps : List PlanStep = stage_steps p.stages in
@@ -189,3 +190,4 @@ module _ (p : Physical) (c : IsChecked p) where
   means us =
       let renamed : List (Stream Fault) = map (rename_fault scan_fault) us in
       sources-mean (source_streams (but_last p.sources) renamed) (concat_streams (drop (side_files p) renamed)) (length-sources (but_last p.sources) renamed)
+      ∙ sym (meaning-whole (plan_of p) us)

@@ -1,6 +1,6 @@
 -- What a plan's text and the bytes of its files come to.
 use Rattle.std.specs.Prelude.{ℕ, List, Ok, Err}
-use Rattle.fq_csv.specs.Printed.{printed}
+use Rattle.fq_csv.specs.Printed.{printed_in}
 use Rattle.fq_language.specs.Judged.{judged}
 use Rattle.fq_plan.specs.Meaning.{meaning}
 use Rattle.fq_language.specs.Plan.{file_streams}
@@ -21,6 +21,6 @@ answer text files = elim (read_as_plan text) [
   | Err e ↦ no_plan e
   | Ok p ↦ elim (judged p) [
     | Err e ↦ refused e
-    | Ok schemas ↦ elim (meaning p (file_streams p files)) [ Err f ↦ faults f | Ok frame ↦ prints (printed frame) ]
+    | Ok schemas ↦ elim (meaning p (file_streams p files)) [ Err f ↦ faults f | Ok frame ↦ prints (printed_in p.notations frame) ]
   ]
 ]

@@ -4,7 +4,7 @@ use Rattle.fq_column.specs.declared.faults.StepFault.TheVariants.{NoSuchColumn, 
 use Rattle.fq_column.specs.declared.cells.Kind.TheVariants.{Whole}
 use Rattle.fq_column.specs.Frame.{Fields}
 use Rattle.fq_column.specs.Stream.{rename_fault}
-use Rattle.fq_csv.specs.Printed.{printed}
+use Rattle.fq_csv.specs.Printed.{printed_in}
 use Rattle.fq_plan.specs.Answer.{Answer, answer, prints, faults, refused, no_plan}
 use Rattle.fq_language.specs.Judged.{refused_at}
 use Rattle.fq_run.specs.Run.{start_refusal, trace_of}
@@ -255,7 +255,7 @@ RefusedStarts = (start_refusal 2 1 0 2 ≡ Some (Inputs 2 1))
 abbrev pub answer_by_items : ℕ → List ℕ → List (List ℕ) → Answer
 answer_by_items batch_size text files = elim (read_as_plan text) [
   | Err e ↦ no_plan e
-  | Ok p ↦ elim (outcome_of_taken p (all_items p batch_size (map (rename_fault scan_fault) (file_streams p files)))) [ Err f ↦ faults f | Ok frame ↦ prints (printed frame) ]
+  | Ok p ↦ elim (outcome_of_taken p (all_items p batch_size (map (rename_fault scan_fault) (file_streams p files)))) [ Err f ↦ faults f | Ok frame ↦ prints (printed_in p.notations frame) ]
 ]
 
 abbrev pub ItemsAtAnySize : Type 0
@@ -279,7 +279,7 @@ NeededColumns = let name_of : ℕ → List ℕ = λ c. c ∷ [] in
     let fields : Fields = map (λ c. (name_of c, Whole)) (codes "kvwx") in
     let filtered : PlanStep = row_wise (filter_by (binary Gt (column (codes "v")) (whole (pos 10)))) in
     let grouped : PlanStep = group_by (codes "k" ∷ []) ((codes "s", over Sum (codes "w")) ∷ []) in
-    let needed : List PlanStep → List Bool = λ steps. needed_columns (record { sources = record { files = 1; fields = fields; nulls = [] } ∷ []; steps = steps }) in
+    let needed : List PlanStep → List Bool = λ steps. needed_columns (record { sources = record { files = 1; fields = fields; nulls = []; notations = []; projection = [] } ∷ []; steps = steps; notations = [] }) in
     (needed (filtered ∷ grouped ∷ []) ≡ true ∷ true ∷ true ∷ false ∷ [])
     × (needed (grouped ∷ []) ≡ true ∷ false ∷ true ∷ false ∷ [])
     × (needed (filtered ∷ []) ≡ true ∷ true ∷ true ∷ true ∷ [])

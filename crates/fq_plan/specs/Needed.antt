@@ -4,7 +4,7 @@ use Rattle.std.specs.Prelude.{◌≡◌, All, Bool, List, [], ◌∷◌, ◌++�
 use Rattle.std.specs.Result.{result_unwrap_or}
 use Rattle.fq_column.specs.Agreement.{StreamsAgreeOn, marked}
 use Rattle.fq_column.specs.Frame.{Fields, Name, names_of}
-use Rattle.fq_column.specs.Masked.{masked}
+use Rattle.fq_column.specs.Masked.{masked_stream}
 use Rattle.fq_column.specs.Stream.{Stream}
 use Rattle.fq_csv.specs.Sources.{Source, but_last}
 use Rattle.fq_expr.specs.Needed.{needed_before}
@@ -18,6 +18,11 @@ needed_before_step (row_wise s) needed = needed_before s needed
 needed_before_step (join source on how nulls_equal) needed = needed_before_join on needed
 needed_before_step (group_by keys aggs) needed = needed_before_groups keys aggs
 needed_before_step (rolling_sum column window min_samples name) needed = needed_before_roll column name needed
+
+-- the columns that steps need, by those that are needed after the last
+abbrev pub needed_before_all : List PlanStep → List Name → List Name
+needed_before_all [] needed = needed
+needed_before_all (s ∷ steps) needed = needed_before_step s (needed_before_all steps needed)
 
 -- the columns that steps need of rows with these columns, where `sides` are the columns of the sources before the last
 abbrev pub needed_before_steps : List Fields → Fields → List PlanStep → List Name
@@ -46,10 +51,6 @@ module _ {F : Type 0} where
     pub sides : take (side_files p) us ≡ take (side_files p) vs
     pub wide : AreWide (but_last p.sources) us
     pub main : AllStreamsAgreeOn (needed_columns p) (drop (side_files p) us) (drop (side_files p) vs)
-
-  -- the stream with null in the place of each cell that is not marked
-  abbrev pub masked_stream : List Bool → Stream F → Stream F
-  masked_stream marks u = record u { rows = map (masked marks) u.rows }
 
   -- the files with null in the place of each cell of the main source that the plan does not need
   abbrev pub needed_alone : PlanData → List (Stream F) → List (Stream F)

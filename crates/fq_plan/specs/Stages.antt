@@ -1,5 +1,5 @@
 -- What a checked plan holds: a physical plan that does its steps.
-use Rattle.std.specs.Prelude.{◌≡◌, ℕ, ◌+◌, pos, List, [], ◌∷◌, ◌++◌, map, flat_map, length, string_bytes, None, Ok}
+use Rattle.std.specs.Prelude.{◌≡◌, ℕ, ◌+◌, ◌-◌, pos, Bool, List, [], ◌∷◌, ◌++◌, map, flat_map, length, drop, string_bytes, None, Ok}
 use Rattle.fq_column.specs.Frame.{Fields}
 use Rattle.fq_column.specs.declared.faults.StepFault.TheVariants.{Memory}
 use Rattle.fq_expr.specs.ExpressionData.{step_of}
@@ -10,7 +10,8 @@ use Rattle.fq_language.specs.Judged.{judged_step, source_refusal, IsPlaceOf}
 use Rattle.fq_language.specs.Plan.{PlanStep, row_wise, join, group_by, rolling_sum, PlanData, IsWithinLimits}
 use Rattle.fq_language.specs.declared.faults.CheckFault.{CheckFault}
 use Rattle.fq_plan.specs.declared.checks.steps.PassedSteps.{PassedSteps}
-use Rattle.fq_csv.specs.Sources.{last_or}
+use Rattle.fq_plan.specs.Needed.{needed_columns}
+use Rattle.fq_csv.specs.Sources.{Source, but_last, last_or}
 use Rattle.fq_run.specs.Physical.{Physical, side_fields, main_fields}
 use Rattle.fq_csv.specs.declared.sources.SourceFiles.{SourceFiles}
 use Rattle.fq_run.specs.declared.operators.Operator.{Operator}
@@ -30,9 +31,28 @@ operator_steps (RollingSum r) = rolling_sum (string_bytes r.column) (pos r.windo
 abbrev pub stage_steps : List Stage → List PlanStep
 stage_steps stages = flat_map (λ s. operator_steps s.operator) stages
 
+-- a plan over the sources as a physical plan reads them
+abbrev pub plan_of : Physical → PlanData
+plan_of p = record { sources = p.sources; steps = map row_wise p.front ++ stage_steps p.stages; notations = p.notations }
+
+-- a source of which each column is kept, and a plan of such sources
+abbrev pub whole_source : Source → Source
+whole_source s = record s { projection = [] }
+
+abbrev pub whole_plan : PlanData → PlanData
+whole_plan p = record { sources = map whole_source p.sources; steps = p.steps; notations = p.notations }
+
 -- the plan that a physical plan does
 abbrev pub query_of : Physical → PlanData
-query_of p = record { sources = p.sources; steps = map row_wise p.front ++ stage_steps p.stages }
+query_of p = whole_plan (plan_of p)
+
+-- a source of which the marked columns are kept
+abbrev pub keeping : List Bool → Source → Source
+keeping marks s = record s { projection = marks }
+
+-- sources of which the last keeps the marked columns alone
+abbrev pub narrowed : List Bool → List Source → List Source
+narrowed marks sources = but_last sources ++ map (keeping marks) (drop (length sources - 1) sources)
 
 -- row-wise steps that leave these columns, as a stage
 abbrev pub leading_stage : NumberedSteps → Fields → Stage
@@ -65,8 +85,10 @@ module _ (sides : List Fields) where
 abbrev pub IsMemoryAt : ℕ → ℕ → CheckFault → Type 0
 IsMemoryAt sources steps e = (e.code ≡ Memory) × IsPlaceOf sources steps e.place
 
--- the plan is not refused, and each operator has the number and the columns of its steps
+-- the plan is not refused, its main source keeps the columns that it needs alone, and each operator has the number and the columns of its
+-- steps
 pub record IsChecked (p : Physical) : Type 0 where
   pub limits : IsWithinLimits (query_of p)
+  pub sources : p.sources ≡ narrowed (needed_columns (query_of p)) (query_of p).sources
   pub schemas : source_refusal 0 p.sources ≡ None
   pub leads : (mid after : Fields) × (steps_schema (main_fields p) p.front ≡ Ok mid) × Leads (side_fields p) (length p.front) mid p.stages after

@@ -15,7 +15,7 @@ use Rattle.fq_run.specs.declared.faults.Fault.{Fault}
 
 -- what is read, and stepped on in the workers: the sources of a plan, and its leading row-wise steps
 abbrev pub reading : PlanData → Physical
-reading p = record { sources = p.sources; front = front_of p.steps; stages = [] }
+reading p = record { sources = p.sources; front = front_of p.steps; stages = []; notations = p.notations }
 
 -- what the other steps make of the worked items joined, if no source before the last ends in a fault
 abbrev pub finished : PlanData → List (Stream Fault) → List (Stream Fault) → Result Frame Fault

@@ -4,19 +4,23 @@ ghost use Rattle.fq_column.specs.declared.faults.StepFault.{StepFault as Code};
 ghost use Rattle.fq_language.specs.Judged.{checked, judged, IsPlaceOf};
 ghost use Rattle.fq_language.specs.Plan.{files_wanted};
 
+use fq_column::StepFault;
 use fq_expr::Front;
-use fq_language::{CheckFault, Plan};
+use fq_language::{CheckFault, Place, Plan};
+use fq_notation::Notations;
 use fq_run::PhysicalPlan;
 use std::alloc::Global;
 use std::marker::Model;
 
+mod needed;
 mod sources;
 mod steps;
 
+use needed::keeping;
 use sources::check_sources;
 use steps::{PassedSteps, check_steps};
 
-/// A plan that the check does not refuse, by what its run does.
+/// A plan that the check does not refuse, by what its run does: of its main source it keeps the columns that it needs.
 #[derive(Drop)]
 pub struct Checked {
     pub(crate) physical: PhysicalPlan,
@@ -61,16 +65,23 @@ impl Check for Plan {
         let Some(main) = sides.pop() else {
             unreachable!()
         };
+        let passed = check_steps(alloc, sides.as_slice(), &main.layout.schema, steps)?;
+        let Ok(marks) = passed.needed_columns(alloc) else {
+            let (place, code) = (Place::Source(sides.len() as u16), StepFault::Memory);
+            return Err(CheckFault { place, code });
+        };
+        let main = keeping(main, marks);
         let PassedSteps {
             main: fields,
             leading,
             after_leading,
             stages,
-        } = check_steps(alloc, sides.as_slice(), &main.layout.schema, steps)?;
+        } = passed;
         let Ok(front) = Front::new(alloc, leading, fields, 0) else {
             unreachable!()
         };
-        let physical = PhysicalPlan::new(alloc, sides, main, front, after_leading, stages);
+        let plain = Notations::plain(alloc);
+        let physical = PhysicalPlan::new(alloc, sides, main, front, after_leading, stages, plain);
         Ok(Checked { physical })
     }
 }

@@ -36,7 +36,7 @@ impl Checked {
         batch_size: u32,
         workers: u16,
     ) -> Result<Report, Fault>
-        ensures { IsAnswer (files_wanted self.now) (vec_len inputs) batch_size workers (Tell R.remaining inputs.items) (file_streams self.now) (meaning self.now) (W.contents out.old) (W.contents out.new) result }
+        ensures { IsAnswer (files_wanted self.now) (vec_len inputs) batch_size workers (Tell R.remaining inputs.items) (file_streams self.now) (meaning self.now) self.now.notations (W.contents out.old) (W.contents out.new) result }
     {
         self.run_gated(rt, alloc, &NoGate, inputs, out, batch_size, workers)
     }
@@ -60,7 +60,7 @@ impl Checked {
         batch_size: u32,
         workers: u16,
     ) -> Result<Report, Fault>
-        ensures { IsAnswer (files_wanted self.now) (vec_len inputs) batch_size workers (Tell R.remaining inputs.items) (file_streams self.now) (meaning self.now) (W.contents out.old) (W.contents out.new) result }
+        ensures { IsAnswer (files_wanted self.now) (vec_len inputs) batch_size workers (Tell R.remaining inputs.items) (file_streams self.now) (meaning self.now) self.now.notations (W.contents out.old) (W.contents out.new) result }
     {
         self.physical
             .run(rt, alloc, gate, inputs, out, batch_size, workers)

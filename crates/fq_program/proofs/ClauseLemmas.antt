@@ -1,18 +1,24 @@
 -- What a run's clauses come to: the frame of a plan over files, or why there is none.
 use Rattle.std.proofs.lemmas.List.{length-map}
-use Rattle.std.proofs.Common.{◌≡◌, ℕ, Bool, true, false, List, length, Option, Some, None, Result, Ok, Err, refl, ap, sym, ◌∙◌, inl, inr}
+use Rattle.std.proofs.Common.{◌≡◌, ℕ, Bool, true, false, List, [], length, Option, Some, None, Result, Ok, Err, refl, ap, sym, ◌∙◌, inl, inr}
 use Rattle.std.specs.Prelude.{◌⊎◌, ◌==◌}
 use Rattle.std.specs.Result.{result_map_both}
 use Rattle.fq_column.specs.Frame.{Frame}
 use Rattle.fq_plan.specs.Meaning.{meaning}
 use Rattle.fq_language.specs.Plan.{PlanData, files_wanted}
+use Rattle.fq_language.specs.Judged.{checked, judged}
+use Rattle.fq_language.specs.Spelling.{read_as_plan}
+use Rattle.fq_language.specs.declared.faults.CheckFault.{CheckFault}
+use Rattle.fq_language.specs.declared.faults.PlanFault.{PlanFault}
+use Rattle.fq_language.proofs.PlainLemmas.{spelled-plain}
 use Rattle.fq_run.specs.Run.{start_refusal, IsStartFault, IsOfMeaning, Tell}
 use Rattle.fq_language.specs.Plan.{file_streams}
 use Rattle.fq_run.specs.declared.faults.Fault.{Fault}
 use Rattle.fq_run.specs.declared.faults.Fault.TheVariants.{Inputs}
 use Rattle.fq_messages.specs.Ending.{IsOutside}
-use Rattle.fq_program.specs.Program.{AreSettings, frame_of}
-use Rattle.fq_messages.specs.declared.failures.Failure.TheVariants.{Run}
+use Rattle.fq_program.specs.Program.{AreSettings, checked_plan, frame_of}
+use Rattle.fq_messages.specs.declared.failures.Failure.{Failure}
+use Rattle.fq_messages.specs.declared.failures.Failure.TheVariants.{Check, Plan, Run}
 use Rattle.fq_messages.proofs.EndingLemmas.{kind-of-fault}
 
 -- why a run does not start
@@ -69,3 +75,23 @@ run-failed batch_size workers p files f fine refused started meant = go (length 
         let same = refused (Inputs (files_wanted p) (length files)) (stops batch_size workers p files e) in
         let is : f ≡ Inputs (files_wanted p) (length files) = cc in
         inl (refuses p files e ∙ ap (λ g. Err (Run g)) (sym is))
+
+-- a plan that is checked is itself
+checked-same : (p q : PlanData) → checked p ≡ Ok q → p ≡ q
+checked-same p q e = go (judged p) e
+  where
+    go : {S : Type 0} (r : Result S CheckFault) → result_map_both (λ schemas. p) (λ refusal. refusal) r ≡ Ok q → p ≡ q
+    go (Ok schemas) f = cc
+    go (Err refusal) f = absurd (cc)
+
+-- a plan that a text spells says of no column how its ints are written
+pub checked-plain : (text : List ℕ) (p : PlanData) → checked_plan text ≡ Ok p → p.notations ≡ []
+checked-plain text p e = by (read_as_plan text) refl e
+  where
+    there : (q : PlanData) → read_as_plan text ≡ Ok q → (r : Result PlanData CheckFault) → checked q ≡ r → result_map_both (λ p. p) Check r ≡ Ok p → p.notations ≡ []
+    there q is (Err f) is_checked e = absurd (cc)
+    there q is (Ok c) is_checked e = let one : c ≡ p = cc in ap (λ (r : PlanData). r.notations) (sym one ∙ sym (checked-same q c is_checked)) ∙ spelled-plain text q is
+
+    by : (r : Result PlanData PlanFault) → read_as_plan text ≡ r → elim r as (λ _. Result PlanData Failure) [ Err fault ↦ Err (Plan fault) | Ok plan ↦ result_map_both (λ p. p) Check (checked plan) ] ≡ Ok p → p.notations ≡ []
+    by (Err fault) is e = absurd (cc)
+    by (Ok q) is e = there q is (checked q) refl e

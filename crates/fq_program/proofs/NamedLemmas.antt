@@ -1,90 +1,72 @@
 -- What a run of named files comes to, case by case, and what its clauses come to.
-use Rattle.std.proofs.Common.{◌≡◌, ◌≢◌, ◌∙◌, ◌≤◌, ◌==◌, ℕ, Bool, true, false, List, length, Option, Some, None, Result, Ok, Err, OnOk, refl, ap, sym, subst, inl, inr, eqb-true, eq-eqb}
+use Rattle.std.proofs.Common.{◌≡◌, ◌≢◌, ◌∙◌, ◌≤◌, ◌==◌, ℕ, Bool, true, false, List, [], length, Option, Some, None, Result, Ok, Err, OnOk, refl, ap, sym, subst, inl, inr, eqb-true, eq-eqb}
 use Rattle.std.specs.Prelude.{◌⊎◌, IfSome, IsErrAnd, IsSome, MatchResult}
 use Rattle.std.specs.Io.KnownBytes.{Appends}
 use Rattle.std.proofs.lemmas.Bool.{le-leb}
 use Rattle.std.proofs.lemmas.List.{length-map}
 use Rattle.fq_column.specs.Frame.{Frame}
-use Rattle.fq_csv.specs.Printed.{printed}
+use Rattle.fq_notation.specs.declared.notations.Notation.{Notation}
+use Rattle.fq_csv.specs.Printed.{printed_in}
 use Rattle.fq_language.specs.Plan.{PlanData, files_wanted}
 use Rattle.fq_run.specs.Run.{Tell}
 use Rattle.fq_run.specs.declared.faults.Fault.TheVariants.{Inputs, Memory}
-use Rattle.fq_shell.specs.Arguments.{Names, reads_input_twice, replaces_plan}
+use Rattle.fq_shell.specs.Arguments.{Names}
 use Rattle.fq_messages.specs.Ending.{IsOutside, code_of, number_of, status_of}
 use Rattle.fq_messages.specs.declared.status.Status.TheVariants.{BadDevice, NoMemory}
 use Rattle.fq_messages.specs.declared.failures.Failure.{Failure}
-use Rattle.fq_messages.specs.declared.failures.Failure.TheVariants.{InputTwice, PlanReplaced, Run}
+use Rattle.fq_messages.specs.declared.failures.Failure.TheVariants.{Run}
 use Rattle.fq_program.specs.Program.{AreSettings, checked_plan, frame_of}
-use Rattle.fq_program.specs.Named.{EndsAt, Prints, early_failure, outcome_of}
+use Rattle.fq_program.specs.Named.{EndsAt, IsPlaced, Leaves, early_failure, names_refusal, outcome_of}
 
 -- ---- the outcome
 
-pub outcome-replaced : (names : Names) (text : List ℕ) (files : List (List ℕ)) → replaces_plan names ≡ true → outcome_of names text files ≡ Err PlanReplaced
+pub outcome-named : (names : Names) (text : List ℕ) (files : List (List ℕ)) (f : Failure) → names_refusal names ≡ Some f → outcome_of names text files ≡ Err f
 unfolding outcome_of
-outcome-replaced names text files replaced = rw replaced refl
+outcome-named names text files f named = rw (named, outcome_of) refl
 
--- names that are judged: the frame does not replace the plan, and standard input is read once
-pub record IsApart (names : Names) : Type 0 where
-  pub kept : replaces_plan names ≡ false
-  pub once : reads_input_twice names ≡ false
-
-pub outcome-twice : (names : Names) (text : List ℕ) (files : List (List ℕ)) → replaces_plan names ≡ false → reads_input_twice names ≡ true →
-    outcome_of names text files ≡ Err InputTwice
+pub outcome-refused : (names : Names) (text : List ℕ) (files : List (List ℕ)) (f : Failure) → names_refusal names ≡ None → checked_plan text ≡ Err f →
+    outcome_of names text files ≡ Err f
 unfolding outcome_of
-outcome-twice names text files kept twice = rw (kept, twice) refl
+outcome-refused names text files f apart refused = rw (apart, refused, outcome_of) refl
 
-pub outcome-refused : (names : Names) (text : List ℕ) (files : List (List ℕ)) (f : Failure) → IsApart names → checked_plan text ≡ Err f → outcome_of names text files ≡ Err f
-unfolding outcome_of
-outcome-refused names text files f apart refused = rw (apart.kept, apart.once, refused) refl
-
-pub outcome-checked : (names : Names) (text : List ℕ) (files : List (List ℕ)) (plan : PlanData) → IsApart names → checked_plan text ≡ Ok plan →
+pub outcome-checked : (names : Names) (text : List ℕ) (files : List (List ℕ)) (plan : PlanData) → names_refusal names ≡ None → checked_plan text ≡ Ok plan →
     outcome_of names text files ≡ frame_of plan files
 unfolding outcome_of
-outcome-checked names text files plan apart checked = rw (apart.kept, apart.once, checked) refl
+outcome-checked names text files plan apart checked = rw (apart, checked, outcome_of) refl
 
 -- ---- a refusal before a data file is opened
 
 abbrev pub AnswersEarly : {X : Type 0} → Result X Failure → Option Failure → Type 0
 AnswersEarly result early = IfSome early (λ refusal. IsErrAnd result (λ f. (f ≡ refusal) ⊎ IsOutside f))
 
-early-is-replaced : (names : Names) (text : List ℕ) → replaces_plan names ≡ true → early_failure names text ≡ Some PlanReplaced
+early-is-named : (names : Names) (text : List ℕ) (f : Failure) → names_refusal names ≡ Some f → early_failure names text ≡ Some f
 unfolding early_failure
-early-is-replaced names text replaced = rw replaced refl
+early-is-named names text f named = rw (named, early_failure) refl
 
-early-is-twice : (names : Names) (text : List ℕ) → replaces_plan names ≡ false → reads_input_twice names ≡ true → early_failure names text ≡ Some InputTwice
+early-is-refused : (names : Names) (text : List ℕ) (f : Failure) → names_refusal names ≡ None → checked_plan text ≡ Err f → early_failure names text ≡ Some f
 unfolding early_failure
-early-is-twice names text kept twice = rw (kept, twice) refl
+early-is-refused names text f apart refused = rw (apart, refused, early_failure) refl
 
-early-is-refused : (names : Names) (text : List ℕ) (f : Failure) → IsApart names → checked_plan text ≡ Err f → early_failure names text ≡ Some f
-unfolding early_failure
-early-is-refused names text f apart refused = rw (apart.kept, apart.once, refused) refl
-
-early-is-wrong : (names : Names) (text : List ℕ) (plan : PlanData) → IsApart names → checked_plan text ≡ Ok plan →
+early-is-wrong : (names : Names) (text : List ℕ) (plan : PlanData) → names_refusal names ≡ None → checked_plan text ≡ Ok plan →
     (length names.files == files_wanted plan) ≡ false → early_failure names text ≡ Some (Run (Inputs (files_wanted plan) (length names.files)))
 unfolding early_failure
-early-is-wrong names text plan apart checked wrong = rw (apart.kept, apart.once, checked, wrong) refl
+early-is-wrong names text plan apart checked wrong = rw (apart, checked, wrong, early_failure) refl
 
-early-is-none : (names : Names) (text : List ℕ) (plan : PlanData) → IsApart names → checked_plan text ≡ Ok plan →
+early-is-none : (names : Names) (text : List ℕ) (plan : PlanData) → names_refusal names ≡ None → checked_plan text ≡ Ok plan →
     (length names.files == files_wanted plan) ≡ true → early_failure names text ≡ None
 unfolding early_failure
-early-is-none names text plan apart checked right = rw (apart.kept, apart.once, checked, right) refl
+early-is-none names text plan apart checked right = rw (apart, checked, right, early_failure) refl
 
-pub early-replaced : (X : Type 0) (names : Names) (text : List ℕ) → replaces_plan names ≡ true → (let r : Result X Failure = Err PlanReplaced in AnswersEarly r (early_failure names text))
-early-replaced X names text replaced =
-    let r : Result X Failure = Err PlanReplaced in
-    subst (AnswersEarly r) (sym (early-is-replaced names text replaced)) (inl refl)
-
-pub early-twice : (X : Type 0) (names : Names) (text : List ℕ) → replaces_plan names ≡ false → reads_input_twice names ≡ true →
-    (let r : Result X Failure = Err InputTwice in AnswersEarly r (early_failure names text))
-early-twice X names text kept twice =
-    let r : Result X Failure = Err InputTwice in
-    subst (AnswersEarly r) (sym (early-is-twice names text kept twice)) (inl refl)
+pub early-named : (X : Type 0) (names : Names) (text : List ℕ) (f : Failure) → names_refusal names ≡ Some f → (let r : Result X Failure = Err f in AnswersEarly r (early_failure names text))
+early-named X names text f named =
+    let r : Result X Failure = Err f in
+    subst (AnswersEarly r) (sym (early-is-named names text f named)) (inl refl)
 
 outside-early : (X : Type 0) (f : Failure) (early : Option Failure) → IsOutside f → (let r : Result X Failure = Err f in AnswersEarly r early)
 outside-early X f None outside = tt
 outside-early X f (Some refusal) outside = inr outside
 
-pub early-refused : (X : Type 0) (names : Names) (text : List ℕ) (f : Failure) → IsApart names → (checked_plan text ≡ Err f) ⊎ IsOutside f →
+pub early-refused : (X : Type 0) (names : Names) (text : List ℕ) (f : Failure) → names_refusal names ≡ None → (checked_plan text ≡ Err f) ⊎ IsOutside f →
     (let r : Result X Failure = Err f in AnswersEarly r (early_failure names text))
 early-refused X names text f apart why = elim why [
   | inl refused ↦
@@ -93,7 +75,7 @@ early-refused X names text f apart why = elim why [
   | inr outside ↦ outside-early X f (early_failure names text) outside
 ]
 
-pub early-checked : {X : Type 0} (names : Names) (text : List ℕ) (plan : PlanData) (r : Result X Failure) → IsApart names → checked_plan text ≡ Ok plan →
+pub early-checked : {X : Type 0} (names : Names) (text : List ℕ) (plan : PlanData) (r : Result X Failure) → names_refusal names ≡ None → checked_plan text ≡ Ok plan →
     (length names.files ≢ files_wanted plan → r ≡ Err (Run (Inputs (files_wanted plan) (length names.files)))) → AnswersEarly r (early_failure names text)
 early-checked {X} names text plan r apart checked counted = go (length names.files == files_wanted plan) refl
   where
@@ -123,17 +105,30 @@ pub settings-in-range : (batch_size workers : ℕ) → 1 ≤ batch_size → batc
 settings-in-range batch_size workers a b c d = rw (le-leb 1 batch_size a, le-leb batch_size 65536 b, le-leb 1 workers c, le-leb workers 16 d) refl
 
 -- the frame was appended to the output
-pub prints-here : {X : Type 0} (outcome : Result Frame Failure) (file before after : Option (List ℕ)) (r : Result X Failure) →
-    OnOk r ((frame : Frame) × (outcome ≡ Ok frame) × Appends before after (printed frame)) → Prints outcome file before after r
-prints-here outcome file before after (Ok x) h = (h.0, h.1, λ _. h.2)
-prints-here outcome file before after (Err f) h = tt
+pub left-here : {X : Type 0} (outcome : Result Frame Failure) (notations : List Notation) (file before after : Option (List ℕ)) (known known_after : List ℕ → Option (List ℕ)) (r : Result X Failure) →
+    file ≡ None → OnOk r ((frame : Frame) × (outcome ≡ Ok frame) × Appends before after (printed_in notations frame)) → Leaves outcome notations file before after known known_after r
+left-here outcome notations file before after known known_after (Ok x) none h = (h.0, h.1, record { here = λ _. h.2; there = λ name some. absurd (cc) })
+left-here outcome notations file before after known known_after (Err f) none h = tt
 
--- or a file took it
-pub prints-there : {X : Type 0} (outcome : Result Frame Failure) (file before after : Option (List ℕ)) (r : Result X Failure) → IsSome file →
-    OnOk r ((frame : Frame) × (outcome ≡ Ok frame)) → Prints outcome file before after r
-prints-there outcome file before after (Err f) there h = tt
-prints-there outcome None before after (Ok x) there h = cc
-prints-there outcome (Some name) before after (Ok x) there h = (h.0, h.1, λ none. absurd (cc))
+-- or is in the place of a file
+pub left-there : {X : Type 0} (outcome : Result Frame Failure) (notations : List Notation) (file before after : Option (List ℕ)) (known known_after : List ℕ → Option (List ℕ)) (name : List ℕ) (empty : Type 0) (r : Result X Failure) →
+    file ≡ Some name → ((bytes : List ℕ) → known name ≡ Some bytes → empty) →
+    OnOk r ((frame : Frame) × (outcome ≡ Ok frame) × (empty → IsPlaced known known_after name (printed_in notations frame))) → Leaves outcome notations file before after known known_after r
+left-there outcome notations file before after known known_after name empty (Err f) some told h = tt
+left-there outcome notations file before after known known_after name empty (Ok x) some told h = (
+  h.0,
+  h.1,
+  record {
+    here = λ none. absurd (cc);
+    there = λ other is bytes was. let same : other ≡ name = cc in rw same (h.2 (told bytes (rw same at was)) bytes (rw same at was));
+  },
+)
+
+-- what was written is all that the file holds, which was empty
+pub written-whole : (before after : Option (List ℕ)) (text : List ℕ) → Appends before after text → before ≡ Some [] → after ≡ Some text
+written-whole None after text appends empty = absurd (cc)
+written-whole (Some xs) None text appends empty = absurd appends
+written-whole (Some xs) (Some ys) text appends empty = let none : xs ≡ [] = cc in ap Some (rw none at appends)
 
 -- ---- failures of devices and allocations
 

@@ -1,8 +1,8 @@
 //! The program with arguments.
-ghost use Rattle.std.specs.Prelude.{◌≡◌, ◌≢◌, ◌⊎◌, ◌<◌, ◌^◌, ℕ, List, Some, None, IsSome, IfSome, IfErr, IfOk, IsErrAnd, MatchResult, OnOk, length, map, string_bytes, true};
+ghost use Rattle.std.specs.Prelude.{◌≡◌, ◌≢◌, ◌⊎◌, ◌<◌, ◌^◌, ℕ, List, [], Some, None, IsSome, IfSome, IfErr, IfOk, IsErrAnd, MatchResult, OnOk, length, map, string_bytes, true};
 ghost use Rattle.std.specs.Io.KnownBytes.{Appends, Keeps};
 ghost use Rattle.fq_column.specs.Frame.{Frame};
-ghost use Rattle.fq_csv.specs.Printed.{printed};
+ghost use Rattle.fq_csv.specs.Printed.{printed, printed_in};
 ghost use Rattle.fq_language.specs.Plan.{files_wanted};
 ghost use Rattle.fq_run.specs.declared.faults.Fault.TheVariants as fault;
 ghost use Rattle.fq_run.specs.Run.{Tell};
@@ -10,7 +10,7 @@ ghost use Rattle.fq_shell.specs.Arguments.{is_run, names_of, names_to_check, nam
 ghost use Rattle.fq_messages.specs.Ending.{done, bad_device, code_of, number_of, status_of, IsOutside};
 ghost use Rattle.fq_messages.specs.declared.failures.Failure.TheVariants as failure;
 ghost use Rattle.fq_program.specs.Program.{checked_plan as checked_plan_of, frame_of};
-ghost use Rattle.fq_program.specs.Named.{check_of, early_failure, outcome_of, review_of, ComesTo, EndsAt, FailsAs, IsCheck, IsRun, Prints};
+ghost use Rattle.fq_program.specs.Named.{check_of, early_failure, names_refusal, outcome_of, review_of, ComesTo, EndsAt, FailsAs, IsCheck, IsPlaced, IsRun, Leaves};
 
 use crate::program::{checked_plan, run_over};
 use clap::error::ErrorKind;
@@ -18,7 +18,7 @@ use fq_messages::{
     Failure, Learned, Status, check_files, draft_of, open, read_whole, report, write_details,
 };
 use fq_plan::{Checked, Fault, read_plan};
-use fq_shell::{Noted, OpenFault, Opener, Options, Output, write_refusal};
+use fq_shell::{Noted, Opener, Options, write_refusal};
 use std::alloc::Global;
 use std::io::{Read, Write};
 use std::sync::Wait;
@@ -52,7 +52,11 @@ pub fn with_words<T: Threads + Wait + Sync, O: Opener, W: Write, E: Write>(
         (frame : Frame) × (outcome_of (names_of arguments) text inputs ≡ Ok frame) × Appends (W.contents out.old.writer) (W.contents out.new.writer) (printed frame) }
     ensures elsewhere { let arguments = map string_bytes words.items in is_run arguments ≡ true → IsSome (names_of arguments).output →
         Keeps (W.contents out.old.writer) (W.contents out.new.writer) }
+    ensures placed { let arguments = map string_bytes words.items in (text : List ℕ) (inputs : List (List ℕ)) (name : List ℕ) → IsRun (O.bytes_of files.old) arguments text →
+        Tell (O.bytes_of files.old) (names_of arguments).files inputs → (names_of arguments).output ≡ Some name → result ≡ done →
+        (frame : Frame) × (outcome_of (names_of arguments) text inputs ≡ Ok frame) × IsPlaced (O.bytes_of files.old) (O.bytes_of files.new) name (printed frame) }
     ensures unwritten { result ≢ done → result ≢ bad_device → Keeps (W.contents out.old.writer) (W.contents out.new.writer) }
+    ensures untouched { result ≢ done → O.bytes_of files.new ≡ O.bytes_of files.old }
     ensures quiet { let arguments = map string_bytes words.items in is_run arguments ≡ true → result ≡ done → Keeps (E.contents err.old) (E.contents err.new) }
     ensures checked { let arguments = map string_bytes words.items in (text : List ℕ) (inputs : List (List ℕ)) → IsCheck (O.bytes_of files.old) arguments text →
         Tell (O.bytes_of files.old) (names_to_check arguments).files inputs → EndsAt (code_of (check_of (names_to_check arguments) text inputs)) result }
@@ -83,7 +87,11 @@ fn answer_run<T: Threads + Wait + Sync, O: Opener, W: Write, E: Write>(
         Tell (O.bytes_of files.old) (named_by options.now).files inputs → (named_by options.now).output ≡ None → result ≡ done →
         (frame : Frame) × (outcome_of (named_by options.now) text inputs ≡ Ok frame) × Appends (W.contents out.old.writer) (W.contents out.new.writer) (printed frame) }
     ensures elsewhere { IsSome (named_by options.now).output → Keeps (W.contents out.old.writer) (W.contents out.new.writer) }
+    ensures placed { (text : List ℕ) (inputs : List (List ℕ)) (name : List ℕ) → plan_text (O.bytes_of files.old) (named_by options.now) ≡ Some text →
+        Tell (O.bytes_of files.old) (named_by options.now).files inputs → (named_by options.now).output ≡ Some name → result ≡ done →
+        (frame : Frame) × (outcome_of (named_by options.now) text inputs ≡ Ok frame) × IsPlaced (O.bytes_of files.old) (O.bytes_of files.new) name (printed frame) }
     ensures unwritten { result ≢ done → result ≢ bad_device → Keeps (W.contents out.old.writer) (W.contents out.new.writer) }
+    ensures untouched { result ≢ done → O.bytes_of files.new ≡ O.bytes_of files.old }
     ensures quiet { result ≡ done → Keeps (E.contents err.old) (E.contents err.new) }
 {
     let mut learned = Learned::new(alloc);
@@ -102,6 +110,7 @@ fn answer_ending<O: Opener, E: Write>(
     err: &mut E,
 ) -> u8
     ensures code { result ≡ code_of ending }
+    ensures same { O.bytes_of files.new ≡ O.bytes_of files.old }
     ensures quiet { OnOk ending (Keeps (E.contents err.old) (E.contents err.new)) }
 {
     let status = report(ending, err);
@@ -123,6 +132,7 @@ fn answer_other<T: Threads + Wait + Sync, O: Opener, W: Write, E: Write>(
     err: &mut E,
 ) -> u8
     ensures unwritten { result ≢ done → result ≢ bad_device → Keeps (W.contents out.old.writer) (W.contents out.new.writer) }
+    ensures untouched { result ≢ done → O.bytes_of files.new ≡ O.bytes_of files.old }
     ensures checked { let arguments = map string_bytes words.now in (text : List ℕ) (inputs : List (List ℕ)) → IsCheck (O.bytes_of files.old) arguments text →
         Tell (O.bytes_of files.old) (names_to_check arguments).files inputs → EndsAt (code_of (check_of (names_to_check arguments) text inputs)) result }
 {
@@ -142,7 +152,8 @@ fn answer_check<O: Opener, E: Write>(
     files: &mut O,
     err: &mut E,
 ) -> u8
-    ensures { (text : List ℕ) (inputs : List (List ℕ)) → plan_text (O.bytes_of files.old) (named_by options.now) ≡ Some text →
+    ensures same { O.bytes_of files.new ≡ O.bytes_of files.old }
+    ensures checked { (text : List ℕ) (inputs : List (List ℕ)) → plan_text (O.bytes_of files.old) (named_by options.now) ≡ Some text →
         Tell (O.bytes_of files.old) (named_by options.now).files inputs → EndsAt (code_of (check_of (named_by options.now) text inputs)) result }
 {
     let mut learned = Learned::new(alloc);
@@ -160,6 +171,7 @@ fn answer_rest<T: Threads + Wait + Sync, O: Opener, W: Write, E: Write>(
     err: &mut E,
 ) -> u8
     ensures unwritten { result ≢ done → result ≢ bad_device → Keeps (W.contents out.old.writer) (W.contents out.new.writer) }
+    ensures untouched { result ≢ done → O.bytes_of files.new ≡ O.bytes_of files.old }
 {
     match Options::of_arguments(alloc, words) {
         Ok(options) => answer_options(rt, alloc, &options, files, out, err),
@@ -201,6 +213,7 @@ fn answer_options<T: Threads + Wait + Sync, O: Opener, W: Write, E: Write>(
     err: &mut E,
 ) -> u8
     ensures unwritten { result ≢ done → result ≢ bad_device → Keeps (W.contents out.old.writer) (W.contents out.new.writer) }
+    ensures untouched { result ≢ done → O.bytes_of files.new ≡ O.bytes_of files.old }
 {
     let mut learned = Learned::new(alloc);
     let ending = run_options(rt, alloc, options, files, out, err, &mut learned);
@@ -219,16 +232,12 @@ fn run_options<T: Threads + Wait + Sync, O: Opener, W: Write, E: Write>(
     learned: &mut Learned,
 ) -> Result<(), Failure>
     ensures unwritten { IfErr result (λ f. f ≢ failure.Run fault.Write → Keeps (W.contents out.old) (W.contents out.new)) }
+    ensures untouched { IfErr result (λ _. O.bytes_of files.new ≡ O.bytes_of files.old) }
 {
     if options.check() {
         return check_named(alloc, options, files, err, learned);
     }
-    if options.replaces_plan(files) {
-        return Err(Failure::PlanReplaced);
-    }
-    if options.reads_input_twice() {
-        return Err(Failure::InputTwice);
-    }
+    judge_names(options, files)?;
     if options.draft() {
         return draft_plan(alloc, options, files, out, err);
     }
@@ -244,7 +253,8 @@ fn check_named<O: Opener, E: Write>(
     err: &mut E,
     learned: &mut Learned,
 ) -> Result<(), Failure>
-    ensures { (text : List ℕ) (inputs : List (List ℕ)) → plan_text (O.bytes_of files.old) (named_by options.now) ≡ Some text →
+    ensures same { O.bytes_of files.new ≡ O.bytes_of files.old }
+    ensures checked { (text : List ℕ) (inputs : List (List ℕ)) → plan_text (O.bytes_of files.old) (named_by options.now) ≡ Some text →
         Tell (O.bytes_of files.old) (named_by options.now).files inputs → ComesTo (check_of (named_by options.now) text inputs) result }
 {
     if options.reads_input_twice() {
@@ -265,7 +275,8 @@ fn check_counted<O: Opener, E: Write>(
     err: &mut E,
     text: &[u8],
 ) -> Result<(), Failure>
-    ensures { (inputs : List (List ℕ)) → Tell (O.bytes_of files.old) (named_by options.now).files inputs → checked_plan_of text.now ≡ Ok plan.now →
+    ensures same { O.bytes_of files.new ≡ O.bytes_of files.old }
+    ensures checked { (inputs : List (List ℕ)) → Tell (O.bytes_of files.old) (named_by options.now).files inputs → checked_plan_of text.now ≡ Ok plan.now →
         ComesTo (review_of plan.now inputs) result }
 {
     count_files(plan, options.files())?;
@@ -321,6 +332,7 @@ fn draft_plan<O: Opener, W: Write, E: Write>(
     out: &mut W,
     err: &mut E,
 ) -> Result<(), Failure>
+    ensures same { O.bytes_of files.new ≡ O.bytes_of files.old }
     ensures unwritten { IfErr result (λ f. f ≢ failure.Run fault.Write → Keeps (W.contents out.old) (W.contents out.new)) }
 {
     let names = options.files();
@@ -342,6 +354,7 @@ fn explain_or_run<T: Threads + Wait + Sync, O: Opener, W: Write>(
     learned: &mut Learned,
 ) -> Result<(), Failure>
     ensures unwritten { IfErr result (λ f. f ≢ failure.Run fault.Write → Keeps (W.contents out.old) (W.contents out.new)) }
+    ensures untouched { IfErr result (λ _. O.bytes_of files.new ≡ O.bytes_of files.old) }
 {
     if options.explain() {
         write_explanation(alloc, plan, options.files(), out)
@@ -366,6 +379,21 @@ fn write_explanation<W: Write>(
     write!(out, "{explanation}").map_err(|_| Failure::Run(Fault::Write))
 }
 
+// Refuses names by which the frame would replace the plan, or standard input would be read twice.
+fn judge_names<O: Opener>(options: &Options<'_>, files: &mut O) -> Result<(), Failure>
+    ensures same { O.bytes_of files.new ≡ O.bytes_of files.old }
+    ensures told { (text : List ℕ) → plan_text (O.bytes_of files.old) (named_by options.now) ≡ Some text →
+        MatchResult result (λ _. names_refusal (named_by options.now) ≡ None) (λ f. names_refusal (named_by options.now) ≡ Some f) }
+{
+    if options.replaces_plan(files) {
+        return Err(Failure::PlanReplaced);
+    }
+    if options.reads_input_twice() {
+        return Err(Failure::InputTwice);
+    }
+    Ok(())
+}
+
 // Writes the frame of the plan of the plan file over the data files.
 fn run_named<T: Threads + Wait + Sync, O: Opener, W: Write>(
     rt: &T,
@@ -379,18 +407,15 @@ fn run_named<T: Threads + Wait + Sync, O: Opener, W: Write>(
         IfSome (early_failure (named_by options.now) text) (λ refusal. IsErrAnd result (λ f. (f ≡ refusal) ⊎ IsOutside f)) }
     ensures printed { (text : List ℕ) (inputs : List (List ℕ)) → plan_text (O.bytes_of files.old) (named_by options.now) ≡ Some text →
         Tell (O.bytes_of files.old) (named_by options.now).files inputs →
-        Prints (outcome_of (named_by options.now) text inputs) (named_by options.now).output (W.contents out.old) (W.contents out.new) result }
+        Leaves (outcome_of (named_by options.now) text inputs) [] (named_by options.now).output (W.contents out.old) (W.contents out.new)
+        (O.bytes_of files.old) (O.bytes_of files.new) result }
     ensures failed { (text : List ℕ) (inputs : List (List ℕ)) → plan_text (O.bytes_of files.old) (named_by options.now) ≡ Some text →
         Tell (O.bytes_of files.old) (named_by options.now).files inputs → FailsAs (outcome_of (named_by options.now) text inputs) result }
     ensures elsewhere { IsSome (named_by options.now).output → Keeps (W.contents out.old) (W.contents out.new) }
     ensures unwritten { IfErr result (λ f. f ≢ failure.Run fault.Write → Keeps (W.contents out.old) (W.contents out.new)) }
+    ensures untouched { IfErr result (λ _. O.bytes_of files.new ≡ O.bytes_of files.old) }
 {
-    if options.replaces_plan(files) {
-        return Err(Failure::PlanReplaced);
-    }
-    if options.reads_input_twice() {
-        return Err(Failure::InputTwice);
-    }
+    judge_names(options, files)?;
     match read_plan_file(alloc, options, files, learned) {
         Ok(plan) => run_shown(rt, alloc, &plan, options, files, out, learned),
         Err(failure) => Err(failure),
@@ -410,10 +435,12 @@ fn run_shown<T: Threads + Wait + Sync, O: Opener, W: Write>(
     ensures early { length (named_by options.now).files ≢ files_wanted plan.now →
         result ≡ Err (failure.Run (fault.Inputs (files_wanted plan.now) (length (named_by options.now).files))) }
     ensures printed { (inputs : List (List ℕ)) → Tell (O.bytes_of files.old) (named_by options.now).files inputs →
-        Prints (frame_of plan.now inputs) (named_by options.now).output (W.contents out.old) (W.contents out.new) result }
+        Leaves (frame_of plan.now inputs) plan.now.notations (named_by options.now).output (W.contents out.old) (W.contents out.new)
+        (O.bytes_of files.old) (O.bytes_of files.new) result }
     ensures failed { (inputs : List (List ℕ)) → Tell (O.bytes_of files.old) (named_by options.now).files inputs → FailsAs (frame_of plan.now inputs) result }
     ensures elsewhere { IsSome (named_by options.now).output → Keeps (W.contents out.old) (W.contents out.new) }
     ensures unwritten { IfErr result (λ f. f ≢ failure.Run fault.Write → Keeps (W.contents out.old) (W.contents out.new)) }
+    ensures untouched { IfErr result (λ _. O.bytes_of files.new ≡ O.bytes_of files.old) }
 {
     if options.progress() {
         files.show_progress();
@@ -438,10 +465,12 @@ fn run_plan<T: Threads + Wait + Sync, O: Opener, W: Write>(
     ensures early { length (named_by options.now).files ≢ files_wanted plan.now →
         result ≡ Err (failure.Run (fault.Inputs (files_wanted plan.now) (length (named_by options.now).files))) }
     ensures printed { (inputs : List (List ℕ)) → Tell (O.bytes_of files.old) (named_by options.now).files inputs →
-        Prints (frame_of plan.now inputs) (named_by options.now).output (W.contents out.old) (W.contents out.new) result }
+        Leaves (frame_of plan.now inputs) plan.now.notations (named_by options.now).output (W.contents out.old) (W.contents out.new)
+        (O.bytes_of files.old) (O.bytes_of files.new) result }
     ensures failed { (inputs : List (List ℕ)) → Tell (O.bytes_of files.old) (named_by options.now).files inputs → FailsAs (frame_of plan.now inputs) result }
     ensures elsewhere { IsSome (named_by options.now).output → Keeps (W.contents out.old) (W.contents out.new) }
     ensures unwritten { IfErr result (λ f. f ≢ failure.Run fault.Write → Keeps (W.contents out.old) (W.contents out.new)) }
+    ensures untouched { IfErr result (λ _. O.bytes_of files.new ≡ O.bytes_of files.old) }
 {
     let names = options.files();
     count_files(plan, names)?;
@@ -461,16 +490,20 @@ fn write_frame<T: Threads + Wait + Sync, R: Read + Drop + Send, O: Opener, W: Wr
     learned: &mut Learned,
 ) -> Result<(), Failure>
     ensures printed { (texts : List (List ℕ)) → Tell R.remaining inputs.items texts →
-        Prints (frame_of plan.now texts) (named_by options.now).output (W.contents out.old) (W.contents out.new) result }
+        Leaves (frame_of plan.now texts) plan.now.notations (named_by options.now).output (W.contents out.old) (W.contents out.new)
+        (O.bytes_of files.old) (O.bytes_of files.new) result }
     ensures failed { (texts : List (List ℕ)) → Tell R.remaining inputs.items texts → FailsAs (frame_of plan.now texts) result }
     ensures elsewhere { IsSome (named_by options.now).output → Keeps (W.contents out.old) (W.contents out.new) }
     ensures unwritten { IfErr result (λ f. f ≢ failure.Run fault.Write → Keeps (W.contents out.old) (W.contents out.new)) }
+    ensures untouched { IfErr result (λ _. O.bytes_of files.new ≡ O.bytes_of files.old) }
 {
     let (batch_size, workers) = (options.batch_size(), options.workers());
     match options.output() {
         None => run_over(rt, alloc, plan, inputs, out, batch_size, workers),
         Some(name) => match files.output_of(alloc, name) {
-            Ok(output) => run_to_file(rt, alloc, plan, options, inputs, output, learned),
+            Ok(output) => run_to_file(
+                rt, alloc, plan, options, inputs, name, output, files, learned,
+            ),
             Err(fault) => Err(learned.failure_of_write(fault)),
         },
     }
@@ -490,30 +523,34 @@ fn count_files(plan: &Checked, names: &[&str]) -> Result<(), Failure>
 }
 
 // Writes the frame of the plan over inputs in the place of a file, which stays as it was if there is no frame.
-fn run_to_file<T: Threads + Wait + Sync, R: Read + Drop + Send, O: Output>(
+fn run_to_file<T: Threads + Wait + Sync, R: Read + Drop + Send, O: Opener>(
     rt: &T,
     alloc: Global,
     plan: &Checked,
     options: &Options<'_>,
     inputs: Vec<R>,
-    output: O,
+    name: &str,
+    output: O::Output,
+    files: &mut O,
     learned: &mut Learned,
 ) -> Result<(), Failure>
-    ensures kept { (texts : List (List ℕ)) → Tell R.remaining inputs.items texts → OnOk result ((frame : Frame) × (frame_of plan.now texts ≡ Ok frame)) }
+    ensures placed { (texts : List (List ℕ)) → Tell R.remaining inputs.items texts → OnOk result ((frame : Frame) × (frame_of plan.now texts ≡ Ok frame) ×
+        (O.Output.contents output ≡ Some [] → IsPlaced (O.bytes_of files.old) (O.bytes_of files.new) name.now (printed_in plan.now.notations frame))) }
     ensures failed { (texts : List (List ℕ)) → Tell R.remaining inputs.items texts → FailsAs (frame_of plan.now texts) result }
+    ensures untouched { IfErr result (λ _. O.bytes_of files.new ≡ O.bytes_of files.old) }
 {
     let mut output = Noted::new(output);
     let (batch_size, workers) = (options.batch_size(), options.workers());
     let answer = run_over(rt, alloc, plan, inputs, &mut output, batch_size, workers);
     let Noted { writer, error } = output;
     match answer {
-        Ok(()) => match writer.keep() {
+        Ok(()) => match files.keep(name, writer) {
             Ok(()) => Ok(()),
-            Err(error) => Err(learned.failure_of_write(OpenFault::of(error))),
+            Err(fault) => Err(learned.failure_of_write(fault)),
         },
         Err(failure) => {
             learned.write = error;
-            writer.discard();
+            files.discard(writer);
             Err(failure)
         }
     }
@@ -526,6 +563,7 @@ fn open_all<O: Opener>(
     names: &[&str],
 ) -> Result<Vec<O::Reader>, Failure>
     requires { length names.now < 2 ^ 16 }
+    ensures same { O.bytes_of files.new ≡ O.bytes_of files.old }
     ensures told { (inputs : List (List ℕ)) → Tell (O.bytes_of files.old) (map (λ name. name.now) names.now) inputs →
         IfOk result (λ readers. Tell O.Reader.remaining readers.items inputs) }
     ensures failed { IfErr result IsOutside }

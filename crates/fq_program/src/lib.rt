@@ -10,5 +10,5 @@ mod program;
 
 pub use command_line::with_words;
 pub use fq_messages::{Failure, Status, report};
-pub use fq_shell::{Noted, OpenFault, Opener, Output, SystemFiles, SystemOutput, Unread};
+pub use fq_shell::{Noted, OpenFault, Opener, SystemFiles, SystemOutput, Unread};
 pub use program::one_input;

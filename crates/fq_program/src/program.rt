@@ -2,7 +2,7 @@
 ghost use Rattle.std.specs.Prelude.{◌≡◌, ◌≢◌, ◌⊎◌, ◌∷◌, [], ℕ, List, Some, Ok, Err, IfErr, OnOk, MatchResult};
 ghost use Rattle.std.specs.Io.KnownBytes.{Appends, Keeps};
 ghost use Rattle.fq_column.specs.Frame.{Frame};
-ghost use Rattle.fq_csv.specs.Printed.{printed};
+ghost use Rattle.fq_csv.specs.Printed.{printed, printed_in};
 ghost use Rattle.fq_run.specs.declared.faults.Fault.TheVariants as fault;
 ghost use Rattle.fq_run.specs.Run.{Tell};
 ghost use Rattle.fq_messages.specs.Ending.{code_of, done, bad_device, no_memory, status_of, IsOutside};
@@ -82,7 +82,7 @@ fn run_file<T: Threads + Wait + Sync, W: Write>(
     file: &[u8],
     out: &mut W,
 ) -> Result<(), Failure>
-    ensures printed { OnOk result ((frame : Frame) × (frame_of plan.now (file.now ∷ []) ≡ Ok frame) × Appends (W.contents out.old) (W.contents out.new) (printed frame)) }
+    ensures printed { OnOk result ((frame : Frame) × (frame_of plan.now (file.now ∷ []) ≡ Ok frame) × Appends (W.contents out.old) (W.contents out.new) (printed_in plan.now.notations frame)) }
     ensures failed { IfErr result (λ f. (frame_of plan.now (file.now ∷ []) ≡ Err f) ⊎ IsOutside f) }
     ensures unwritten { IfErr result (λ f. f ≢ failure.Run fault.Write → Keeps (W.contents out.old) (W.contents out.new)) }
 {
@@ -101,7 +101,7 @@ pub fn run_over<T: Threads + Wait + Sync, R: Read + Drop + Send, W: Write>(
     workers: u16,
 ) -> Result<(), Failure>
     ensures printed { (files : List (List ℕ)) → Tell R.remaining inputs.items files →
-        OnOk result ((frame : Frame) × (frame_of plan.now files ≡ Ok frame) × Appends (W.contents out.old) (W.contents out.new) (printed frame)) }
+        OnOk result ((frame : Frame) × (frame_of plan.now files ≡ Ok frame) × Appends (W.contents out.old) (W.contents out.new) (printed_in plan.now.notations frame)) }
     ensures failed { (files : List (List ℕ)) → Tell R.remaining inputs.items files → AreSettings batch_size workers →
         IfErr result (λ f. (frame_of plan.now files ≡ Err f) ⊎ IsOutside f) }
     ensures unwritten { IfErr result (λ f. f ≢ failure.Run fault.Write → Keeps (W.contents out.old) (W.contents out.new)) }

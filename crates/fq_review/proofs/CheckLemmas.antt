@@ -9,10 +9,12 @@ use Rattle.std.proofs.lemmas.Bool.Decides.{nat_tests}
 use Rattle.csv.specs.Reading.{default_config, records, strip_bom}
 use Rattle.fq_column.specs.declared.cells.Cell.{Cell}
 use Rattle.fq_column.specs.declared.cells.Kind.{Kind}
-use Rattle.fq_column.specs.Frame.{Field, Fields, Name, Row, names_of, same_name}
+use Rattle.fq_column.specs.Frame.{Name, Row, kinds_of, names_of, same_name}
 use Rattle.fq_column.specs.Lists.{all_or_missing, zip_with}
+use Rattle.fq_notation.specs.declared.notations.Notation.{Notation}
 use Rattle.fq_csv.specs.Field.{cell_under}
-use Rattle.fq_csv.specs.File.{Record, row_of, rows_after, rows_under_header}
+use Rattle.fq_column.specs.Masked.{masked}
+use Rattle.fq_csv.specs.File.{Record, cells_by, noted, row_of, rows_after, rows_under_header}
 use Rattle.fq_csv.specs.declared.faults.ScanFault.{ScanFault}
 use Rattle.fq_csv.specs.declared.faults.ScanFault.TheVariants.{BadCell, TooLong, Width}
 use Rattle.fq_csv.specs.declared.layouts.Layout.{Layout}
@@ -104,8 +106,15 @@ flawless-parts marks (f ∷ fs) rest e =
 -- ---- rows
 
 module _ (layout : Layout) where
-  abbrev pub is_of_column : Field × List ℕ → Bool
-  is_of_column p = is_some (cell_under layout.nulls p.0.1 p.1)
+  -- a column's kind and notation
+  abbrev Form : Type 0
+  Form = Kind × Notation
+
+  abbrev pub forms : List Form
+  forms = noted layout.notations (kinds_of layout.schema)
+
+  abbrev pub is_of_column : Form × List ℕ → Bool
+  is_of_column p = is_some (cell_under layout.nulls p.0.0 p.0.1 p.1)
 
   ok-both : {X Y : Type 0} (f : X → Y) (g : ℕ → ℕ) (r : Result X ℕ) → is_ok (result_map_both f g r) ≡ is_ok r
   ok-both f g (Ok x) = refl
@@ -115,27 +124,27 @@ module _ (layout : Layout) where
   one-cell None more = refl
   one-cell (Some c) more = ok-both (λ rest. c ∷ rest) suc (all_or_missing more)
 
-  all-cells : (fields : Fields) (r : Record) → is_ok (all_or_missing (zip_with (λ f field. cell_under layout.nulls f.1 field) fields r)) ≡ list_all is_of_column (zip fields r)
+  all-cells : (ks : List Form) (r : Record) → is_ok (all_or_missing (zip_with (λ (k : Form) field. cell_under layout.nulls k.0 k.1 field) ks r)) ≡ list_all is_of_column (zip ks r)
   all-cells [] r = refl
-  all-cells (f ∷ fields) [] = refl
-  all-cells (f ∷ fields) (x ∷ r) =
-      one-cell (cell_under layout.nulls f.1 x) (zip_with (λ g field. cell_under layout.nulls g.1 field) fields r) ∙ ap (λ b. is_of_column (f, x) && b) (all-cells fields r)
+  all-cells (k ∷ ks) [] = refl
+  all-cells (k ∷ ks) (x ∷ r) =
+      one-cell (cell_under layout.nulls k.0 k.1 x) (zip_with (λ (g : Form) field. cell_under layout.nulls g.0 g.1 field) ks r) ∙ ap (λ b. is_of_column (k, x) && b) (all-cells ks r)
 
   -- a field more of a row
-  pub cells-more : (fields : Fields) (r : Record) (i : ℕ) (f : Field) (x : List ℕ) → slice_get fields i ≡ Some f → slice_get r i ≡ Some x →
-      list_all is_of_column (zip (take (i + 1) fields) (take (i + 1) r)) ≡ (list_all is_of_column (zip (take i fields) (take i r)) && is_some (cell_under layout.nulls f.1 x))
-  cells-more fields r i f x a b = ap (λ n. list_all is_of_column (zip (take n fields) (take n r))) (let e : i + 1 ≡ suc i = omega arith in e) ∙ go fields r i a b
+  pub cells-more : (ks : List Form) (r : Record) (i : ℕ) (f : Form) (x : List ℕ) → slice_get ks i ≡ Some f → slice_get r i ≡ Some x →
+      list_all is_of_column (zip (take (i + 1) ks) (take (i + 1) r)) ≡ (list_all is_of_column (zip (take i ks) (take i r)) && is_of_column (f, x))
+  cells-more ks r i f x a b = ap (λ n. list_all is_of_column (zip (take n ks) (take n r))) (let e : i + 1 ≡ suc i = omega arith in e) ∙ go ks r i a b
     where
-      go : (fields : Fields) (r : Record) (i : ℕ) → slice_get fields i ≡ Some f → slice_get r i ≡ Some x →
-          list_all is_of_column (zip (take (suc i) fields) (take (suc i) r)) ≡ (list_all is_of_column (zip (take i fields) (take i r)) && is_some (cell_under layout.nulls f.1 x))
+      go : (ks : List Form) (r : Record) (i : ℕ) → slice_get ks i ≡ Some f → slice_get r i ≡ Some x →
+          list_all is_of_column (zip (take (suc i) ks) (take (suc i) r)) ≡ (list_all is_of_column (zip (take i ks) (take i r)) && is_of_column (f, x))
       go [] r i a b = absurd (cc)
-      go (g ∷ fields) [] i a b = absurd (cc)
-      go (g ∷ fields) (y ∷ r) zero a b =
+      go (g ∷ ks) [] i a b = absurd (cc)
+      go (g ∷ ks) (y ∷ r) zero a b =
           let first : g ≡ f = cc in
           let second : y ≡ x = cc in
           and-true (is_of_column (g, y)) ∙ (λ k. is_of_column (first k, second k))
-      go (g ∷ fields) (y ∷ r) (suc i) a b =
-          ap (λ c. is_of_column (g, y) && c) (go fields r i a b) ∙ sym (and-assoc (is_of_column (g, y)) (list_all is_of_column (zip (take i fields) (take i r))) (is_some (cell_under layout.nulls f.1 x)))
+      go (g ∷ ks) (y ∷ r) (suc i) a b =
+          ap (λ c. is_of_column (g, y) && c) (go ks r i a b) ∙ sym (and-assoc (is_of_column (g, y)) (list_all is_of_column (zip (take i ks) (take i r))) (is_of_column (f, x)))
 
   -- the rows of a stream have no fault exactly if each record is a row, and they are not too many
   module _ (file limit : ℕ) where
@@ -144,7 +153,7 @@ module _ (layout : Layout) where
       wide = length r == length layout.schema
 
       abbrev cells : Result Row ℕ
-      cells = all_or_missing (zip_with (λ f field. cell_under layout.nulls f.1 field) layout.schema r)
+      cells = all_or_missing (cells_by (cell_under layout.nulls) layout.notations (kinds_of layout.schema) r)
 
       abbrev all : Bool
       all = list_all (is_row layout) rs
@@ -158,22 +167,23 @@ module _ (layout : Layout) where
       module _ (rest : n + 1 ≤ limit → is_none (rows_after file layout limit (n + 1) rs).fault ≡ (all && nat_le (n + 1 + length rs) limit)) where
         few : nat_lt limit (n + 1) ≡ false → wide ≡ true → (c : Result Row ℕ) → cells ≡ c → Goal
         few l w (Ok row) c =
-            let here : row_of file layout limit (n + 1) r ≡ Ok (row ∷ []) = rw (l, w, c) refl in
-            let is : is_row layout r ≡ true = rw w (sym (all-cells layout.schema r) ∙ ap is_ok c) in
+            let kept : Row = masked layout.projection row in
+            let here : row_of file layout limit (n + 1) r ≡ Ok (kept ∷ []) = rw (l, w, c) refl in
+            let is : is_row layout r ≡ true = rw w (sym (all-cells forms r) ∙ ap is_ok c) in
             let room : n + 1 ≤ limit = grind (arith, nat_tests, l) in
-            ap (λ u. is_none u.fault) (after-row file layout limit n r rs row here)
+            ap (λ u. is_none u.fault) (after-row file layout limit n r rs kept here)
             ∙ rest room
             ∙ ap (λ m. all && nat_le m limit) (let e : n + 1 + length rs ≡ n + suc (length rs) = omega arith in e)
             ∙ sym (ap (λ b. (b && all) && nat_le (n + suc (length rs)) limit) is)
         few l w (Err i) c =
             let here : row_of file layout limit (n + 1) r ≡ Err (BadCell file (n + 1) i) = rw (l, w, c) refl in
-            not-row (rw w (sym (all-cells layout.schema r) ∙ ap is_ok c)) (BadCell file (n + 1) i) here
+            not-row (rw w (sym (all-cells forms r) ∙ ap is_ok c)) (BadCell file (n + 1) i) here
 
         within : nat_lt limit (n + 1) ≡ false → (b : Bool) → wide ≡ b → Goal
         within l true w = few l w cells refl
         within l false w =
             let here : row_of file layout limit (n + 1) r ≡ Err (Width file (n + 1)) = rw (l, w) refl in
-            not-row (ap (λ b. b && list_all is_of_column (zip layout.schema r)) w) (Width file (n + 1)) here
+            not-row (ap (λ b. b && list_all is_of_column (zip forms r)) w) (Width file (n + 1)) here
 
         row-fine : (b : Bool) → nat_lt limit (n + 1) ≡ b → Goal
         row-fine true l =

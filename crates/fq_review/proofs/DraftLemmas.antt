@@ -19,11 +19,6 @@ pub ok-of-three : {X E : Type 0} {P Q R S : X → Type 0} (result : Result X E) 
 ok-of-three (Ok x) all p q r = all x p q r
 ok-of-three (Err e) all p q r = tt
 
--- what is said of an option that is there
-pub there : {X S : Type 0} (N : Type 0) (o : Option X) → is_some o ≡ true → MatchOption o N (λ _. S) → S
-there N None e m = absurd (cc)
-there N (Some x) e m = m
-
 -- ---- lists
 
 last-of : {X : Type 0} (xs : List X) → 0 < length xs → (init : List X) × (x : X) × (xs ≡ init ++ x ∷ [])

@@ -5,7 +5,9 @@ use Rattle.std.specs.Str.{is_utf8}
 use Rattle.std.proofs.lemmas.Option.{same_Some}
 use Rattle.fq_column.specs.declared.cells.Kind.{Kind}
 use Rattle.fq_column.specs.declared.cells.Kind.TheVariants as kind
-use Rattle.fq_csv.specs.Field.{cell_under, is_null, is_one_of, truth_of, whole_of}
+use Rattle.fq_notation.specs.Digits.{whole_of}
+use Rattle.fq_notation.specs.declared.notations.Notation.TheVariants.{Plain}
+use Rattle.fq_csv.specs.Field.{cell_under, is_null, is_one_of, truth_of}
 use Rattle.fq_review.specs.Drafted.{drafted_kind, is_int, joined, joined_kind, kind_alone}
 
 -- a part of a column says no other kind
@@ -32,7 +34,7 @@ parts k (Some kind.Text) (Some kind.Text) h = mixed k (Some kind.Text) (Some kin
 
 module _ (nulls : List (List ℕ)) where
   abbrev Reads : Kind → List ℕ → Type 0
-  Reads k field = is_some (cell_under nulls k field) ≡ true
+  Reads k field = is_some (cell_under nulls k Plain field) ≡ true
 
   empty-reads : (k : Kind) (b : Bool) → is_one_of nulls [] ≡ b → Reads k []
   empty-reads k true e = rw e refl
@@ -107,12 +109,12 @@ module _ (nulls : List (List ℕ)) where
   all-read k (f ∷ fields) h (suc i) d less = all-read k fields (parts k (kind_alone nulls f) (joined_kind nulls fields) h).1 i d (omega (arith, less))
 
 at-kind : (nulls fields : List (List ℕ)) (k : Kind) → drafted_kind nulls fields ≡ k → Within k (joined_kind nulls fields)
-    → All (λ field. is_utf8 field ≡ true → is_some (cell_under nulls (drafted_kind nulls fields) field) ≡ true) fields
-at-kind nulls fields k e h = subst (λ j. All (λ field. is_utf8 field ≡ true → is_some (cell_under nulls j field) ≡ true) fields) (sym e) (all-read nulls k fields h)
+    → All (λ field. is_utf8 field ≡ true → is_some (cell_under nulls (drafted_kind nulls fields) Plain field) ≡ true) fields
+at-kind nulls fields k e h = subst (λ j. All (λ field. is_utf8 field ≡ true → is_some (cell_under nulls j Plain field) ≡ true) fields) (sym e) (all-read nulls k fields h)
 
-pub drafted-read : (nulls fields : List (List ℕ)) → All (λ field. is_utf8 field ≡ true → is_some (cell_under nulls (drafted_kind nulls fields) field) ≡ true) fields
+pub drafted-read : (nulls fields : List (List ℕ)) → All (λ field. is_utf8 field ≡ true → is_some (cell_under nulls (drafted_kind nulls fields) Plain field) ≡ true) fields
 drafted-read nulls fields = by (joined_kind nulls fields) refl
   where
-    by : (o : Option Kind) → joined_kind nulls fields ≡ o → All (λ field. is_utf8 field ≡ true → is_some (cell_under nulls (drafted_kind nulls fields) field) ≡ true) fields
+    by : (o : Option Kind) → joined_kind nulls fields ≡ o → All (λ field. is_utf8 field ≡ true → is_some (cell_under nulls (drafted_kind nulls fields) Plain field) ≡ true) fields
     by None e = at-kind nulls fields kind.Text (ap (λ p. elim p as (λ _. Kind) [ None ↦ kind.Text | Some k ↦ k ]) e) (inr (inr refl))
     by (Some k) e = at-kind nulls fields k (ap (λ p. elim p as (λ _. Kind) [ None ↦ kind.Text | Some j ↦ j ]) e) (inr (inl e))

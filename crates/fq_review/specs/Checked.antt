@@ -3,9 +3,10 @@ use Rattle.std.specs.Prelude.{◌+◌, ◌==◌, ◌&&◌, Bool, true, false, �
 use Rattle.std.specs.Global.{Global}
 use Rattle.std.specs.List.{list_all}
 use Rattle.fq_column.specs.declared.cells.Kind.{Kind}
-use Rattle.fq_column.specs.Frame.{Name}
+use Rattle.fq_column.specs.Frame.{Name, kinds_of}
+use Rattle.fq_notation.specs.declared.notations.Notation.{Notation}
 use Rattle.fq_csv.specs.Field.{cell_under}
-use Rattle.fq_csv.specs.File.{Record, file_stream}
+use Rattle.fq_csv.specs.File.{Record, file_stream, noted}
 use Rattle.fq_csv.specs.declared.layouts.Layout.{Layout}
 use Rattle.fq_csv.specs.declared.scanners.TheConstants.{MAX_ROWS}
 use Rattle.fq_places.specs.Marks.{marks_of}
@@ -18,11 +19,11 @@ names_in columns = map (λ c. string_bytes c.0) columns
 
 -- how a file with these columns is read, where these texts are null
 abbrev pub layout_of : List (String Global × Kind) → List (List ℕ) → Layout
-layout_of columns nulls = record { schema = map (λ c. (string_bytes c.0, c.1)) columns; nulls = nulls }
+layout_of columns nulls = record { schema = map (λ c. (string_bytes c.0, c.1)) columns; nulls = nulls; notations = []; projection = [] }
 
 -- whether a record is a row: it has as many fields as there are columns, each a cell of its column
 abbrev pub is_row : Layout → Record → Bool
-is_row layout fields = (length fields == length layout.schema) && list_all (λ p. is_some (cell_under layout.nulls p.0.1 p.1)) (zip layout.schema fields)
+is_row layout fields = (length fields == length layout.schema) && list_all (λ (p : (Kind × Notation) × List ℕ). is_some (cell_under layout.nulls p.0.0 p.0.1 p.1)) (zip (noted layout.notations (kinds_of layout.schema)) fields)
 
 -- whether the records after a header are rows, as many as a file may have
 abbrev pub are_rows : Layout → List Record → Bool

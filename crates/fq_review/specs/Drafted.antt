@@ -8,7 +8,8 @@ use Rattle.std.specs.Str.{bytes_eq}
 use Rattle.fq_column.specs.declared.cells.Kind.{Kind}
 use Rattle.fq_column.specs.declared.cells.Kind.TheVariants as kind
 use Rattle.fq_column.specs.Frame.{Name, same_name}
-use Rattle.fq_csv.specs.Field.{is_null, truth_of, whole_of}
+use Rattle.fq_notation.specs.Digits.{whole_of}
+use Rattle.fq_csv.specs.Field.{is_null, truth_of}
 use Rattle.fq_csv.specs.File.{Record}
 use Rattle.fq_review.specs.Checked.{names_in}
 use Rattle.fq_review.specs.declared.drafts.Source.{Source}

@@ -17,6 +17,7 @@ use crate::tallies::Tally;
 use csv::ByteRecord;
 use fq_column::{Kind, Memory};
 use fq_csv::{MAX_ROWS, NullValues, is_cell};
+use fq_notation::Notation;
 use fq_places::{LinedRecords, Mark, Quoted, Unread};
 use std::alloc::Global;
 use std::io::{Read, Write};
@@ -271,7 +272,7 @@ impl Check {
                 unreachable!()
             };
             let (column, kind) = (columns[place].0.as_str(), columns[place].1);
-            if !is_cell(field, kind, nulls) {
+            if !is_cell(field, kind, Notation::Plain, nulls) {
                 let bad = BadField {
                     column,
                     kind,

@@ -1,5 +1,5 @@
 //! A plan that files draft.
-ghost use Rattle.std.specs.Prelude.{◌≡◌, ◌∷◌, [], ◌++◌, ℕ, List, Some, IfOk, MatchOption, OnOk, false, length, map, reverse, string_bytes};
+ghost use Rattle.std.specs.Prelude.{◌≡◌, ◌+◌, ◌∷◌, [], ◌++◌, ℕ, List, Some, IfOk, MatchOption, OnOk, false, length, map, min, reverse, string_bytes};
 ghost use Rattle.std.specs.Cmp.Lexicographic.{pointwise};
 ghost use Rattle.csv.specs.Reading.{default_config, records as records_of, strip_bom};
 ghost use Rattle.csv.specs.Records.{fields_of};
@@ -129,6 +129,7 @@ impl Draft {
     /// A draft of no file, in which these texts are null.
     pub fn new(alloc: Global, nulls: NullValues) -> Draft
         ensures nulls { result.nulls ≡ nulls }
+        ensures files { result.files ≡ 0 }
         ensures sources { AreSourcesOf nulls result.sources.items [] }
     {
         Draft {
@@ -140,13 +141,17 @@ impl Draft {
         }
     }
 
-    /// How many files were read.
-    pub fn files(&self) -> u16 {
+    /// How many files were read, at most 65,535.
+    pub fn files(&self) -> u16
+        ensures { result ≡ self.now.files }
+    {
         self.files
     }
 
     /// How many sources there are.
-    pub fn sources(&self) -> usize {
+    pub fn sources(&self) -> usize
+        ensures { result ≡ length self.now.sources.items }
+    {
         self.sources.len()
     }
 
@@ -158,6 +163,7 @@ impl Draft {
         marks: B,
     ) -> Result<(), DraftFault>
         ensures nulls { self.new.nulls ≡ self.old.nulls }
+        ensures files { self.new.files ≡ min (self.old.files + 1) 65535 }
         ensures sources { OnOk result ((bytes : List ℕ) → A.remaining records ≡ Some bytes → B.remaining marks ≡ Some bytes → (files : List (List Record)) → AreSourcesOf self.old.nulls self.old.sources.items files →
             AreSourcesOf self.old.nulls self.new.sources.items (files ++ records_of default_config (strip_bom bytes) ∷ [])) }
     {
@@ -176,6 +182,7 @@ impl Draft {
         marks: B,
     ) -> Result<Source, DraftFault>
         ensures nulls { self.new.nulls ≡ self.old.nulls }
+        ensures files { self.new.files ≡ self.old.files }
         ensures sources { IfOk result (λ source. (bytes : List ℕ) → A.remaining records ≡ Some bytes → B.remaining marks ≡ Some bytes → (files : List (List Record)) → AreSourcesOf self.old.nulls self.old.sources.items files →
             AreSourcesOf self.old.nulls (self.new.sources.items ++ source ∷ []) (files ++ records_of default_config (strip_bom bytes) ∷ [])) }
     {
@@ -196,6 +203,7 @@ impl Draft {
     // Keeps what is to be said of a file with this header.
     fn note_header(&mut self, file: u16, line: u64, header: &ByteRecord) -> Result<(), Memory>
         ensures nulls { self.new.nulls ≡ self.old.nulls }
+        ensures files { self.new.files ≡ self.old.files }
         ensures sources { self.new.sources ≡ self.old.sources }
     {
         let (alloc, notes) = (self.alloc, &mut self.notes);
@@ -205,6 +213,7 @@ impl Draft {
     // Keeps what is to be said of the flaws that show where a file ends.
     fn note_flaws(&mut self, file: u16, flaws: &[Mark]) -> Result<(), Memory>
         ensures nulls { self.new.nulls ≡ self.old.nulls }
+        ensures files { self.new.files ≡ self.old.files }
         ensures sources { self.new.sources ≡ self.old.sources }
     {
         keep_open_quotes(&mut self.notes, file, flaws)
@@ -236,6 +245,7 @@ impl Draft {
     // The source of a file with this header: the last, with one file more, if it has the same names, and else another.
     fn take_source(&mut self, file: u16, header: &ByteRecord) -> Result<Source, DraftFault>
         ensures nulls { self.new.nulls ≡ self.old.nulls }
+        ensures files { self.new.files ≡ self.old.files }
         ensures sources { IfOk result (λ source. (files : List (List Record)) → AreSourcesOf self.old.nulls self.old.sources.items files →
             AreSourcesOf self.old.nulls (self.new.sources.items ++ source ∷ []) (files ++ (fields_of header.now ∷ []) ∷ [])) }
     {

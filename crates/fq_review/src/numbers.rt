@@ -2,7 +2,8 @@
 use crate::texts::decimal_places;
 use csv::ByteRecord;
 use fq_column::{Kind, Memory};
-use fq_csv::{NullValues, is_null, whole};
+use fq_csv::{NullValues, is_null};
+use fq_notation::whole;
 use std::alloc::Global;
 
 /// How many fields of each column of a file are numbers, as long as no field of it is something else.

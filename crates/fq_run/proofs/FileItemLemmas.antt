@@ -4,15 +4,16 @@ use Rattle.std.specs.Int.{div_ceil}
 use Rattle.std.specs.Result.{result_map_both}
 use Rattle.std.proofs.Common.{◌≡◌, ℕ, suc, ◌+◌, ◌<◌, Bool, true, false, nat_lt, List, [], ◌∷◌, ◌++◌, map, length, flat_map, take, drop, Option, Some, None, option_map, Ok, Err, refl, ap, sym, ◌∙◌, arith, append-nil, cond, length-append}
 use Rattle.std.proofs.lemmas.List.{length-map}
-use Rattle.fq_column.specs.Frame.{Fields, Row}
+use Rattle.fq_column.specs.Frame.{Fields, Row, kinds_of}
 use Rattle.fq_column.specs.Lists.{all_or_missing, numbers, pieces, zip_with}
 use Rattle.fq_column.specs.Schema.{same_fields}
 use Rattle.fq_column.specs.SchemaLaws.{same_fields_decides}
+use Rattle.fq_column.specs.Masked.{masked}
 use Rattle.fq_column.specs.Stream.{Stream, done, faulted, rename_fault, then_stream}
 use Rattle.fq_column.proofs.PieceLemmas.{flat_map-pieces}
 use Rattle.fq_column.proofs.StreamLemmas.{then_stream-assoc}
 use Rattle.fq_csv.specs.Field.{cell_under}
-use Rattle.fq_csv.specs.File.{Record, row_of, rows_after}
+use Rattle.fq_csv.specs.File.{Record, cells_by, row_of, rows_after}
 use Rattle.fq_csv.specs.HandedOut.{framed}
 use Rattle.fq_csv.specs.Stage.{ended}
 use Rattle.fq_csv.specs.Taking.{FieldRun, RecordStream, rows_of_records}
@@ -156,13 +157,13 @@ file-worked p b file layout w some h =
 
 module _ (file : ℕ) (layout : Layout) (limit : ℕ) where
   one-row : (n : ℕ) (r : Record) (rows : List Row) → row_of file layout limit n r ≡ Ok rows → length rows ≡ 1
-  one-row n r rows = go (nat_lt limit n) (not (length r == length layout.schema)) (all_or_missing (zip_with (λ f field. cell_under layout.nulls f.1 field) layout.schema r))
+  one-row n r rows = go (nat_lt limit n) (not (length r == length layout.schema)) (all_or_missing (cells_by (cell_under layout.nulls) layout.notations (kinds_of layout.schema) r))
     where
       go : (long wide : Bool) (cells : Result Row ℕ) →
-          cond long (Err (TooLong file)) (cond wide (Err (Width file n)) (result_map_both (λ row. row ∷ []) (BadCell file n) cells)) ≡ Ok rows → length rows ≡ 1
+          cond long (Err (TooLong file)) (cond wide (Err (Width file n)) (result_map_both (λ row. masked layout.projection row ∷ []) (BadCell file n) cells)) ≡ Ok rows → length rows ≡ 1
       go true wide cells e = absurd (cc e)
       go false true cells e = absurd (cc e)
-      go false false (Ok row) e = let same : row ∷ [] ≡ rows = cc e in sym (ap length same)
+      go false false (Ok row) e = let same : masked layout.projection row ∷ [] ≡ rows = cc e in sym (ap length same)
       go false false (Err i) e = absurd (cc e)
 
   -- if no record faults, each is a row

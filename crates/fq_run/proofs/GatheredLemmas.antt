@@ -7,13 +7,14 @@ use Rattle.fq_expr.specs.Front.{NumberedSteps}
 use Rattle.fq_lanes.specs.Engine.{Finishes}
 use Rattle.fq_lanes.specs.Beside.{Each}
 use Rattle.fq_lanes.specs.Numbering.{numbered}
+use Rattle.fq_notation.specs.declared.notations.Notation.{Notation}
 use Rattle.fq_run.specs.EngineRun.{Gives, opened, records_of_files}
 use Rattle.fq_run.specs.Feeding.{Feeding, MayCome}
 use Rattle.fq_run.specs.GatheredRun.{HasGathered}
 use Rattle.fq_run.specs.Kept.{AreSound, Takes}
 use Rattle.fq_run.specs.Physical.{file_layouts, file_streams, files_wanted, side_files}
 use Rattle.fq_run.specs.Run.{Tell}
-use Rattle.fq_run.specs.Stages.{IsRunnable}
+use Rattle.fq_run.specs.Stages.{IsRunnable, physical_of}
 use Rattle.fq_run.specs.Standing.{Waits}
 use Rattle.fq_run.specs.Working.{work_on}
 use Rattle.fq_run.specs.declared.file_feeds.FileItem.{FileItem}
@@ -41,14 +42,14 @@ module _ (sources : List SourceFiles) (front : NumberedSteps) (stages : List Sta
   abbrev at_first : List SideSource
   at_first = before_main sources front stages inputs c sides main parts ++ main_one sources front stages inputs c sides main parts ∷ []
 
-  pub has-gathered : {R S : Type 0} (has : S → Fields → List Row → Type 0) (remaining : R → Option (List ℕ)) (readers : List R) (b : ℕ) (feeds : List Feeding) (first last : TailState S) (trace : List (ℕ × ℕ)) →
+  pub has-gathered : {R S : Type 0} (has : S → Fields → List Row → Type 0) (remaining : R → Option (List ℕ)) (readers : List R) (notations : List Notation) (b : ℕ) (feeds : List Feeding) (first last : TailState S) (trace : List (ℕ × ℕ)) →
       0 < b → length readers ≡ files_wanted (plan sources front stages inputs c) →
       feeds ≡ opened remaining b 0 (flat_map (λ (s : SourceFiles). replicate s.files s.layout) sources) readers →
       first.side_files ≡ side_files (plan sources front stages inputs c) →
       Waits has stages c.fits.0 (before_main sources front stages inputs c sides main parts) (main_one sources front stages inputs c sides main parts) first →
       Finishes MayCome (λ file item out. out ≡ work_on front (inputs - main.files) file item) (Takes-one has stages c.fits.0) feeds first trace last →
-      HasGathered has remaining readers (plan sources front stages inputs c) b last trace
-  has-gathered has remaining readers b feeds first last trace some count feeds-are files waits finished =
+      HasGathered has remaining readers (physical_of sources front stages notations) b last trace
+  has-gathered has remaining readers notations b feeds first last trace some count feeds-are files waits finished =
       let items : List (List FileItem) = finished.0 in
       let log : List (ℕ × ℕ × Worked) = finished.2.0 in
       let works : ℕ → FileItem → Worked → Type 0 = λ file item out. out ≡ work_on front (inputs - main.files) file item in

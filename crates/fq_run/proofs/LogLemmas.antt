@@ -112,6 +112,12 @@ pub took-sources : (log : List (ℕ × ℕ × Worked)) (gs : List SideSource) �
 took-sources [] gs = refl
 took-sources (e ∷ es) gs = (taken_in e.0 e.2 gs, refl, took-sources es (taken_in e.0 e.2 gs))
 
+-- what is taken in one way is taken in each that follows from it
+pub took-weaker : {S O : Type 0} (P Q : S → ℕ → ℕ → O → S → Type 0) → ((old : S) (file serial : ℕ) (out : O) (new : S) → P old file serial out new → Q old file serial out new) →
+    (log : List (ℕ × ℕ × O)) (t u : S) → Took P t log u → Took Q t log u
+took-weaker P Q weaker [] t u took = took
+took-weaker P Q weaker (e ∷ es) t u took = (took.0, weaker t e.0 e.1 e.2 took.0 took.1, took-weaker P Q weaker es took.0 u took.2)
+
 -- below, `has` says which rows a tail's sink has taken
 module _ {S : Type 0} (has : S → Fields → List Row → Type 0) (stages : List Stage) (after : Fields) where
   -- a tail stands for these sources

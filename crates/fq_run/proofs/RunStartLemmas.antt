@@ -70,8 +70,9 @@ count-of-rows (s ∷ sources) =
     ∙ ap (λ n. s.files + n) (count-of-rows sources) ∙ sym (sum_by-cons (λ (s : Source). s.files) (source_of_files s) (map source_of_files sources))
 
 module _ (sources : List SourceFiles) (front : NumberedSteps) (stages : List Stage) (inputs : ℕ) (c : IsRunnable sources front stages inputs) where
+  -- the plan, whose notations play no part here
   abbrev pub plan : Physical
-  plan = physical_of sources front stages
+  plan = physical_of sources front stages []
 
   pub leading-is : front ≡ leading_steps plan
   leading-is = λ i. record { steps = front.steps; fields = c.on_main i; first = c.from_first i }

@@ -6,11 +6,13 @@ use Rattle.std.specs.List.{range_with_len}
 use Rattle.std.specs.Result.{result_map_both}
 use Rattle.fq_column.specs.declared.cells.Cell.{Cell}
 use Rattle.fq_column.specs.declared.cells.Kind.{Kind}
-use Rattle.fq_column.specs.Frame.{Fields, Row, names_of, same_name}
+use Rattle.fq_column.specs.Frame.{Fields, Row, kinds_of, names_of, same_name}
 use Rattle.fq_column.specs.Lists.{all_or_missing, pieces, zip_with}
+use Rattle.fq_column.specs.Masked.{masked}
 use Rattle.fq_column.specs.Stream.{Stream, done, faulted, one_by_one, then_stream}
+use Rattle.fq_notation.specs.declared.notations.Notation.{Notation}
 use Rattle.fq_csv.specs.Field.{cell_under}
-use Rattle.fq_csv.specs.File.{Record, row_by}
+use Rattle.fq_csv.specs.File.{Record, cells_by, row_by}
 use Rattle.fq_csv.specs.HandedOut.{framed}
 use Rattle.fq_csv.specs.Records.{IsOfText}
 use Rattle.fq_csv.specs.Sources.{row_limit}
@@ -84,11 +86,11 @@ IsTextWork (worked.Piece p) = Unit {0}
 IsTextWork (worked.Cut p fault) = IsOfText (Some fault)
 IsTextWork (worked.Ended fault) = IsOfText (Some fault)
 
-row-text : (read : Kind → List ℕ → Option Cell) (file : ℕ) (fields : Fields) (limit n : ℕ) (fs : Record) → IfErr (row_by read file fields limit n fs) (λ f. IsOfText (Some f))
-row-text read file fields limit n fs = go (nat_lt limit n) (not (length fs == length fields)) (all_or_missing (zip_with (λ f field. read f.1 field) fields fs))
+row-text : (read : Kind → Notation → List ℕ → Option Cell) (notations : List Notation) (marks : List Bool) (file : ℕ) (fields : Fields) (limit n : ℕ) (fs : Record) → IfErr (row_by read notations marks file fields limit n fs) (λ f. IsOfText (Some f))
+row-text read notations marks file fields limit n fs = go (nat_lt limit n) (not (length fs == length fields)) (all_or_missing (cells_by read notations (kinds_of fields) fs))
   where
     go : (many wide : Bool) (row : Result Row ℕ) →
-        IfErr (cond many (Err (TooLong file)) (cond wide (Err (Width file n)) (result_map_both (λ (row : Row). row ∷ []) (BadCell file n) row))) (λ f. IsOfText (Some f))
+        IfErr (cond many (Err (TooLong file)) (cond wide (Err (Width file n)) (result_map_both (λ (row : Row). masked marks row ∷ []) (BadCell file n) row))) (λ f. IsOfText (Some f))
     go true wide row = tt
     go false true row = tt
     go false false (Ok row) = tt
@@ -105,8 +107,8 @@ one-text step h (x ∷ xs) = go (step x) (h x) (one-text step h xs)
 
 run-text : (run : FieldRun) → IsOfText (rows_of_run run).fault
 run-text run =
-    one-text (λ (p : ℕ × Record). row_by (cell_under run.layout.nulls) run.file run.layout.schema row_limit p.0 p.1)
-    (λ p. row-text (cell_under run.layout.nulls) run.file run.layout.schema row_limit p.0 p.1) (zip (range_with_len (run.before + 1) (length run.records)) run.records)
+    one-text (λ (p : ℕ × Record). row_by (cell_under run.layout.nulls) run.layout.notations run.layout.projection run.file run.layout.schema row_limit p.0 p.1)
+    (λ p. row-text (cell_under run.layout.nulls) run.layout.notations run.layout.projection run.file run.layout.schema row_limit p.0 p.1) (zip (range_with_len (run.before + 1) (length run.records)) run.records)
 
 work-text : (front : NumberedSteps) (sides file : ℕ) (x : FileItem) → IsTextItem x → IsTextWork (work_on front sides file x)
 work-text front sides file (file_item.Ended fault) h = h

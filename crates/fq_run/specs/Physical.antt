@@ -1,5 +1,5 @@
--- A physical plan: the sources of a run, the leading row-wise steps on the rows of the last, and the stages after them; and what a
--- run of it comes to.
+-- A physical plan: the sources of a run, the leading row-wise steps on the rows of the last, the stages after them, and how the frame is
+-- written; and what a run of it comes to.
 use Rattle.std.specs.Prelude.{ℕ, List, [], map, drop, sum_by, flat_map, replicate, Some, None, Result, Err}
 use Rattle.fq_column.specs.Frame.{Fields, Frame}
 use Rattle.fq_column.specs.Stream.{Stream, rename_fault}
@@ -7,6 +7,7 @@ use Rattle.fq_csv.specs.declared.faults.ScanFault.{ScanFault}
 use Rattle.fq_csv.specs.declared.layouts.Layout.{Layout}
 use Rattle.fq_expr.specs.Expression.{Step}
 use Rattle.fq_expr.specs.Steps.{apply_steps, fields_after_all}
+use Rattle.fq_notation.specs.declared.notations.Notation.{Notation}
 use Rattle.fq_run.specs.Outcome.{outcome}
 use Rattle.fq_csv.specs.Sources.{Source, but_last, last_or, layout_of, streams_of_files}
 use Rattle.fq_run.specs.Sources.{concat_streams, first_fault, frames_of, scan_fault, source_streams}
@@ -18,6 +19,8 @@ pub record Physical : Type 0 where
   pub sources : List Source
   pub front : List Step
   pub stages : List Stage
+  -- how the ints of the frame's columns are written, a notation for each; a column past them is plain
+  pub notations : List Notation
 
 -- how many files are wanted, and how many of them are of the sources before the last
 abbrev pub files_wanted : Physical → ℕ

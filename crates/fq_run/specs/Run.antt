@@ -4,11 +4,12 @@ use Rattle.std.specs.Io.KnownBytes.{Appends, Keeps}
 use Rattle.fq_column.specs.Frame.{Frame}
 use Rattle.fq_column.specs.Lists.{numbers, pieces}
 use Rattle.fq_column.specs.Stream.{Stream}
-use Rattle.fq_csv.specs.Printed.{printed as printed_frame}
+use Rattle.fq_csv.specs.Printed.{printed_in}
 use Rattle.fq_csv.specs.declared.faults.ScanFault.{ScanFault}
 use Rattle.fq_lanes.specs.declared.faults.RunFault.{RunFault}
 use Rattle.fq_lanes.specs.declared.reports.Report.{Report}
 use Rattle.fq_lanes.specs.declared.faults.RunFault.TheVariants as engine
+use Rattle.fq_notation.specs.declared.notations.Notation.{Notation}
 use Rattle.fq_run.specs.declared.faults.Fault.{Fault}
 use Rattle.fq_run.specs.declared.faults.Fault.TheVariants.{Inputs, Setting, Memory, Read, Write}
 use Rattle.fq_csv.specs.declared.scanners.TheConstants.{MAX_BATCH_SIZE}
@@ -73,15 +74,15 @@ trace_of batch_size us = flat_map (λ p. map (λ serial. (p.0, serial)) (numbers
 -- ---- the answer
 
 -- below, a run wants so many files and is given so many readers, which tell the bytes of files if `Told` holds of these; they come to
--- streams, which have an outcome, and the trace that a report holds
-module _ (wanted given batch_size workers : ℕ) (Told : List (List ℕ) → Type 0) (streams : List (List ℕ) → List (Stream ScanFault)) (outcome : List (Stream ScanFault) → Result Frame Fault) where
+-- streams, which have an outcome, and the trace that a report holds; a frame is written in these notations
+module _ (wanted given batch_size workers : ℕ) (Told : List (List ℕ) → Type 0) (streams : List (List ℕ) → List (Stream ScanFault)) (outcome : List (Stream ScanFault) → Result Frame Fault) (notations : List Notation) where
   -- what is answered, where the output held these bytes and now holds those
   pub record IsAnswer (before after : Option (List ℕ)) (result : Result Report Fault) : Type 0 where
     -- the number of inputs is judged first, then the settings
     pub refused : (f : Fault) → start_refusal wanted given batch_size workers ≡ Some f → result ≡ Err f
     pub started : IfErr result (λ f. IsStartFault f → start_refusal wanted given batch_size workers ≡ Some f)
     -- a report: the frame of the outcome was written, and each file's batches were taken in order
-    pub printed : (files : List (List ℕ)) → Told files → OnOk result ((frame : Frame) × (outcome (streams files) ≡ Ok frame) × Appends before after (printed_frame frame))
+    pub printed : (files : List (List ℕ)) → Told files → OnOk result ((frame : Frame) × (outcome (streams files) ≡ Ok frame) × Appends before after (printed_in notations frame))
     pub trace : (files : List (List ℕ)) → Told files → IfOk result (λ report. report.trace.items ≡ trace_of batch_size (streams files))
     -- a fault of the files or of the steps is the outcome
     pub fault : (files : List (List ℕ)) → Told files → IfErr result (λ f. IsOfMeaning f → outcome (streams files) ≡ Err f)

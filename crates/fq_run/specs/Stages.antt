@@ -5,6 +5,7 @@ use Rattle.fq_column.specs.declared.faults.StepFault.{StepFault}
 use Rattle.fq_column.specs.declared.faults.StepFault.TheVariants.{NoSuchSource}
 use Rattle.fq_expr.specs.Front.{NumberedSteps}
 use Rattle.fq_expr.specs.Kinds.{steps_schema}
+use Rattle.fq_notation.specs.declared.notations.Notation.{Notation}
 use Rattle.fq_ops.specs.AggregateData.{outputs_of}
 use Rattle.fq_ops.specs.Group.{group_schema}
 use Rattle.fq_ops.specs.Join.{join_schema}
@@ -18,9 +19,9 @@ use Rattle.fq_run.specs.declared.operators.Operator.{Operator}
 use Rattle.fq_run.specs.declared.operators.Operator.TheVariants.{Rows, Join, GroupBy, RollingSum}
 use Rattle.fq_run.specs.declared.stages.Stage.{Stage}
 
--- the physical plan that sources, leading row-wise steps and stages are
-abbrev pub physical_of : List SourceFiles → NumberedSteps → List Stage → Physical
-physical_of sources front stages = record { sources = map source_of_files sources; front = front.steps; stages = stages }
+-- the physical plan that sources, leading row-wise steps, stages and the notations of the frame's columns are
+abbrev pub physical_of : List SourceFiles → NumberedSteps → List Stage → List Notation → Physical
+physical_of sources front stages notations = record { sources = map source_of_files sources; front = front.steps; stages = stages; notations = notations }
 
 -- the columns after a join with a source of these columns, if it is there
 abbrev pub schema_with : How → Fields → List Name → Option Fields → Result Fields StepFault
@@ -40,11 +41,12 @@ module _ (sides : List Fields) where
   Fit fields [] after = fields ≡ after
   Fit fields (s ∷ stages) after = Accepts fields s.operator s.after × Fit s.after stages after
 
--- a physical plan that can run: few files, leading steps on the main source's columns that are numbered from 0, and stages that fit
+-- a physical plan that can run, whatever its notations: few files, leading steps on the main source's columns that are numbered from 0, and
+-- stages that fit
 pub record IsRunnable (sources : List SourceFiles) (front : NumberedSteps) (stages : List Stage) (inputs : ℕ) : Type 0 where
   pub some_source : 1 ≤ length sources
-  pub inputs_wanted : inputs ≡ files_wanted (physical_of sources front stages)
-  pub few_files : files_wanted (physical_of sources front stages) ≤ MAX_FILES
+  pub inputs_wanted : inputs ≡ files_wanted (physical_of sources front stages [])
+  pub few_files : files_wanted (physical_of sources front stages []) ≤ MAX_FILES
   pub from_first : front.first ≡ 0
-  pub on_main : front.fields ≡ main_fields (physical_of sources front stages)
-  pub fits : (after : Fields) × Fit (side_fields (physical_of sources front stages)) (front_fields (physical_of sources front stages)) stages after
+  pub on_main : front.fields ≡ main_fields (physical_of sources front stages [])
+  pub fits : (after : Fields) × Fit (side_fields (physical_of sources front stages [])) (front_fields (physical_of sources front stages [])) stages after

@@ -11,6 +11,7 @@ use fq_column::Schema;
 use fq_csv::{MAX_FILES, SourceFiles};
 use fq_expr::Front;
 use fq_lanes::MAX_FEEDS;
+use fq_notation::Notations;
 use std::alloc::Global;
 use std::marker::Model;
 
@@ -18,7 +19,7 @@ use std::marker::Model;
 const _: () = prove!(MAX_FILES as usize == MAX_FEEDS);
 
 /// What a run does: it reads sources, of which the last is the main one, takes leading row-wise steps on the rows of that in the
-/// workers, and passes these rows through stages.
+/// workers, passes these rows through stages, and writes what these make of them.
 #[derive(Drop)]
 pub struct PhysicalPlan {
     /// The sources before the main one.
@@ -28,6 +29,8 @@ pub struct PhysicalPlan {
     /// The main source's columns after the leading steps.
     pub(crate) after_leading: Schema,
     pub(crate) stages: Vec<Stage>,
+    /// How the ints of the frame's columns are written.
+    pub(crate) notations: Notations,
     pub(crate) inputs: u16,
 }
 
@@ -46,15 +49,16 @@ impl Model for PhysicalPlan {
     ghost use Rattle.fq_run.specs.Physical.{side_files};
     ghost use Rattle.fq_run.specs.Stages.{IsRunnable, physical_of};
 
-    ghost view = { λ p. physical_of (p.sides.items ++ p.main ∷ []) p.leading.front p.stages.items };
+    ghost view = { λ p. physical_of (p.sides.items ++ p.main ∷ []) p.leading.front p.stages.items p.notations };
 
     ghost invariant = { λ p. IsRunnable (p.sides.items ++ p.main ∷ []) p.leading.front p.stages.items p.inputs
-        × (p.leading.side_files ≡ side_files (physical_of (p.sides.items ++ p.main ∷ []) p.leading.front p.stages.items))
+        × (p.leading.side_files ≡ side_files (physical_of (p.sides.items ++ p.main ∷ []) p.leading.front p.stages.items p.notations))
         × (p.after_leading ≡ fields_after_all p.leading.front.fields p.leading.front.steps) };
 }
 
 impl PhysicalPlan {
-    /// A plan of these sources, leading steps that leave these columns, and the stages after them.
+    /// A plan of these sources, leading steps that leave these columns, and the stages after them. The ints of the frame's columns are
+    /// written in these notations.
     pub fn new(
         alloc: Global,
         sides: Vec<SourceFiles>,
@@ -62,10 +66,11 @@ impl PhysicalPlan {
         front: Front,
         after_leading: Schema,
         stages: Vec<Stage>,
+        notations: Notations,
     ) -> PhysicalPlan
-        requires runnable { let plan = physical_of (sides.items ++ main ∷ []) front stages.items in IsRunnable (sides.items ++ main ∷ []) front stages.items (files_wanted plan) }
+        requires runnable { let plan = physical_of (sides.items ++ main ∷ []) front stages.items notations in IsRunnable (sides.items ++ main ∷ []) front stages.items (files_wanted plan) }
         requires columns { after_leading ≡ fields_after_all front.fields front.steps }
-        ensures { result ≡ physical_of (sides.items ++ main ∷ []) front stages.items }
+        ensures { result ≡ physical_of (sides.items ++ main ∷ []) front stages.items notations }
     {
         let side_files = file_count(sides.as_slice());
         let inputs = side_files + main.files;
@@ -79,6 +84,7 @@ impl PhysicalPlan {
             },
             after_leading,
             stages,
+            notations,
             inputs,
         }
     }

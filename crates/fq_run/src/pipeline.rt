@@ -3,6 +3,7 @@ ghost use Rattle.std.specs.Prelude.{◌≡◌, ◌≤◌, ◌⊎◌, ◌++◌, L
 ghost use Rattle.std.specs.List.{list_any};
 ghost use Rattle.fq_column.specs.Frame.{Fields, Row};
 ghost use Rattle.fq_column.specs.Stream.{done};
+ghost use Rattle.fq_notation.specs.declared.notations.Notation.{Notation};
 ghost use Rattle.fq_run.specs.Pipelines.{EndsIn, HandsOn, HasRun, Transforming};
 ghost use Rattle.fq_run.specs.RunningOperators.{HaveTaken, IsUnder, passed_stream, rows_in};
 ghost use Rattle.fq_run.specs.Stages.{Fit};
@@ -58,8 +59,8 @@ impl<'a> Pipeline<'a> {
         sink: &mut S,
     ) -> Result<(), Fault>
         requires { (w : Transforming) × ((rows : List Row) × ((out : List Row) × (HasRun self.old.operators.items w rows out × IsUnder w.before input.batch))) }
-        ensures goes_on { OnOk result ((w : Transforming) (rows out : List Row) → HasRun self.old.operators.items w rows out → IsUnder w.before input.batch →
-            (more : List Row) × ((input.fault ≡ None) × (HasRun self.new.operators.items w (rows ++ rows_in input.batch) (out ++ more) × (S.has sink.old w.after out → S.has sink.new w.after (out ++ more))))) }
+        ensures goes_on { OnOk result ((notations : List Notation) (w : Transforming) (rows out : List Row) → HasRun self.old.operators.items w rows out → IsUnder w.before input.batch →
+            (more : List Row) × ((input.fault ≡ None) × (HasRun self.new.operators.items w (rows ++ rows_in input.batch) (out ++ more) × (S.has notations sink.old w.after out → S.has notations sink.new w.after (out ++ more))))) }
         ensures ends { IfErr result (λ f. (f ≡ fault.Memory) ⊎ ((w : Transforming) (rows out : List Row) → HasRun self.old.operators.items w rows out → IsUnder w.before input.batch →
             EndsIn w.transforms rows (passed_stream input) f)) }
     {
@@ -69,8 +70,8 @@ impl<'a> Pipeline<'a> {
     /// No more comes: what is left goes to the sink, or the fault that ends all is answered. No more can be taken.
     pub(crate) fn finish<S: RowSink>(&mut self, alloc: Global, sink: &mut S) -> Result<(), Fault>
         requires { (w : Transforming) × ((rows : List Row) × ((out : List Row) × HasRun self.old.operators.items w rows out)) }
-        ensures all { OnOk result ((w : Transforming) (rows out : List Row) → HasRun self.old.operators.items w rows out → S.has sink.old w.after out →
-            (more : List Row) × ((whole_all w.transforms (done rows) ≡ done (out ++ more)) × S.has sink.new w.after (out ++ more))) }
+        ensures all { OnOk result ((notations : List Notation) (w : Transforming) (rows out : List Row) → HasRun self.old.operators.items w rows out → S.has notations sink.old w.after out →
+            (more : List Row) × ((whole_all w.transforms (done rows) ≡ done (out ++ more)) × S.has notations sink.new w.after (out ++ more))) }
         ensures ends { IfErr result (λ f. (f ≡ fault.Memory) ⊎ ((w : Transforming) (rows out : List Row) → HasRun self.old.operators.items w rows out →
             (whole_all w.transforms (done rows)).fault ≡ Some f)) }
     {
@@ -93,8 +94,8 @@ impl<'a> Pipeline<'a> {
         requires place { place ≤ length self.old.operators.items }
         requires can { (ms : List Transform) × ((rows : List Row) × ((before : Fields) × ((after : Fields) × (HaveTaken (drop place self.old.operators.items) ms rows × (Chain before ms after × IsUnder before input.batch))))) }
         ensures kept { OnOk result ((length self.new.operators.items ≡ length self.old.operators.items) × (take place self.new.operators.items ≡ take place self.old.operators.items)) }
-        ensures goes_on { OnOk result ((ms : List Transform) (rows : List Row) (before after : Fields) → HaveTaken (drop place self.old.operators.items) ms rows → Chain before ms after →
-            IsUnder before input.batch → (input.fault ≡ None) × HandsOn S.has (drop place self.new.operators.items) ms rows after (rows_in input.batch) sink.old sink.new) }
+        ensures goes_on { OnOk result ((notations : List Notation) (ms : List Transform) (rows : List Row) (before after : Fields) → HaveTaken (drop place self.old.operators.items) ms rows → Chain before ms after →
+            IsUnder before input.batch → (input.fault ≡ None) × HandsOn (S.has notations) (drop place self.new.operators.items) ms rows after (rows_in input.batch) sink.old sink.new) }
         ensures ends { IfErr result (λ f. (f ≡ fault.Memory) ⊎ ((ms : List Transform) (rows : List Row) (before after : Fields) → HaveTaken (drop place self.old.operators.items) ms rows →
             Chain before ms after → IsUnder before input.batch → EndsIn ms rows (passed_stream input) f)) }
     {

@@ -8,6 +8,7 @@ ghost use Rattle.fq_run.specs.declared.faults.Fault.TheVariants as fault;
 use crate::faults::Fault;
 use fq_column::{Batch, Memory, Schema};
 use fq_csv::{print_names, print_rows};
+use fq_notation::Notations;
 use std::alloc::Global;
 use std::io::Write;
 
@@ -27,13 +28,17 @@ impl PrintedText {
         Ok(PrintedText { pieces })
     }
 
-    /// The rows of batches.
-    pub(crate) fn of_rows(alloc: Global, batches: Vec<Batch>) -> Result<PrintedText, Memory>
-        ensures { IfOk result (λ text. text_of text ≡ rows_text batches.items) }
+    /// The rows of batches, in these notations.
+    pub(crate) fn of_rows(
+        alloc: Global,
+        batches: Vec<Batch>,
+        notations: &Notations,
+    ) -> Result<PrintedText, Memory>
+        ensures { IfOk result (λ text. text_of text ≡ rows_text notations.now batches.items) }
     {
         let mut pieces = Vec::with_capacity(alloc, batches.len())?;
         for batch in batches {
-            pieces.push(print_rows(alloc, &batch)?)?;
+            pieces.push(print_rows(alloc, &batch, notations)?)?;
         }
         Ok(PrintedText { pieces })
     }

@@ -1,12 +1,13 @@
 //! Printing beside the caller's thread.
 ghost use Rattle.std.specs.Prelude.{◌≡◌, ◌++◌, Ok, IfOk, OnOk};
-ghost use Rattle.fq_csv.specs.Printed.{printed_names, printed_rows};
+ghost use Rattle.fq_csv.specs.Printed.{printed_names, printed_rows_in};
 ghost use Rattle.fq_run.specs.PrintedText.{rows_text, text_of};
 ghost use Rattle.fq_run.specs.Printing.{part_text, whole_text};
 
 use crate::printed_text::PrintedText;
 use crate::row_sinks::RowSink;
 use fq_column::{Batch, Memory, Schema};
+use fq_notation::Notations;
 use std::alloc::Global;
 use std::collections::VecDeque;
 use std::snapshot::Snapshot;
@@ -20,14 +21,15 @@ pub(crate) const ROWS_AT_ONCE: usize = 2_048;
 /// How many rows are few: at most eight batches of more rows are gathered.
 const FEW_ROWS: usize = 256;
 
-/// What a thread promises that prints batches.
+/// What a thread promises that prints batches in notations.
 #[derive(Drop)]
 pub(crate) struct PrintPromise {
     batches: Snapshot<Vec<Batch>>,
+    notations: Snapshot<Notations>,
 }
 
 impl Promise<Result<PrintedText, Memory>> for PrintPromise {
-    ghost kept_by = { λ p r. IfOk r (λ text. text_of text ≡ rows_text p.batches.value.items) };
+    ghost kept_by = { λ p r. IfOk r (λ text. text_of text ≡ rows_text p.notations.value p.batches.value.items) };
 }
 
 /// A part of the text.
@@ -56,6 +58,8 @@ impl Part {
 pub(crate) struct PrintSettings<'r, T> {
     pub(crate) rt: &'r T,
     pub(crate) alloc: Global,
+    /// How ints are written.
+    pub(crate) notations: &'r Notations,
     /// The most threads that print at once. If it is one, none is started, and the caller's prints.
     pub(crate) threads: usize,
 }
@@ -68,19 +72,21 @@ impl<'r, T: Threads> PrintSettings<'r, T> {
 
     // Starts a thread that prints batches, or prints them here if none may be started.
     fn print(&self, batches: Vec<Batch>) -> Result<Part, Memory>
-        ensures { IfOk result (λ part. part_text part ≡ rows_text batches.items) }
+        ensures { IfOk result (λ part. part_text part ≡ rows_text self.now.notations.now batches.items) }
     {
         let alloc = self.alloc;
         if self.threads <= 1 {
-            return Ok(Part::Text(PrintedText::of_rows(alloc, batches)?));
+            return Ok(Part::Text(PrintedText::of_rows(alloc, batches, self.notations)?));
         }
+        let notations = self.notations.copy(alloc)?;
         let promise = PrintPromise {
             batches: Snapshot::of(&batches),
+            notations: Snapshot::of(&notations),
         };
         match thread::spawn_with(
             self.rt,
             promise,
-            move || PrintedText::of_rows(alloc, batches),
+            move || PrintedText::of_rows(alloc, batches, &notations),
         ) {
             Ok(thread) => Ok(Part::Thread(thread)),
             Err(refused) => Ok(Part::Text((refused.value)()?)),
@@ -102,9 +108,9 @@ pub(crate) struct Printing<'r, T> {
 }
 
 impl<'r, T: Threads> RowSink for Printing<'r, T> {
-    ghost use Rattle.fq_csv.specs.Printed.{printed};
+    ghost use Rattle.fq_csv.specs.Printed.{printed_in};
 
-    ghost has = { λ p fields rows. whole_text p ≡ printed (record { fields = fields; rows = rows }) };
+    ghost has = { λ notations p fields rows. (p.press.notations.now ≡ notations) × (whole_text p ≡ printed_in notations (record { fields = fields; rows = rows })) };
 
     fn take(&mut self, batch: Batch) -> Result<(), Memory> {
         self.print(batch)
@@ -124,7 +130,8 @@ impl<'r, T: Threads> Printing<'r, T> {
         press: PrintSettings<'r, T>,
         schema: &Schema,
     ) -> Result<Printing<'r, T>, Memory>
-        ensures { IfOk result (λ p. whole_text p ≡ printed_names schema.now) }
+        ensures text { IfOk result (λ p. whole_text p ≡ printed_names schema.now) }
+        ensures notations { IfOk result (λ p. p.press.notations.now ≡ press.entry.notations.now) }
     {
         let alloc = press.alloc;
         let text = PrintedText::of_names(alloc, schema)?;
@@ -140,7 +147,8 @@ impl<'r, T: Threads> Printing<'r, T> {
 
     // Takes the rows of a batch, to be printed after those before.
     fn print(&mut self, batch: Batch) -> Result<(), Memory>
-        ensures { OnOk result (whole_text self.new ≡ whole_text self.old ++ printed_rows batch.rows) }
+        ensures text { OnOk result (whole_text self.new ≡ whole_text self.old ++ printed_rows_in self.old.press.notations.now batch.rows) }
+        ensures notations { self.new.press.notations.now ≡ self.old.press.notations.now }
     {
         if batch.rows() == 0 {
             return Ok(());
@@ -156,7 +164,8 @@ impl<'r, T: Threads> Printing<'r, T> {
 
     // Makes a part of the gathered batches.
     fn hand_on(&mut self) -> Result<(), Memory>
-        ensures { OnOk result (whole_text self.new ≡ whole_text self.old) }
+        ensures text { OnOk result (whole_text self.new ≡ whole_text self.old) }
+        ensures notations { self.new.press.notations.now ≡ self.old.press.notations.now }
     {
         if self.parts.len() >= self.press.threads {
             self.settle_first()?;
@@ -175,7 +184,8 @@ impl<'r, T: Threads> Printing<'r, T> {
 
     // Moves the first part, once it is printed, to the end of the text.
     fn settle_first(&mut self) -> Result<(), Memory>
-        ensures { OnOk result (whole_text self.new ≡ whole_text self.old) }
+        ensures text { OnOk result (whole_text self.new ≡ whole_text self.old) }
+        ensures notations { self.new.press.notations.now ≡ self.old.press.notations.now }
     {
         match self.parts.pop_front() {
             Some(part) => self.text.append(part.wait(self.press.rt)?),
@@ -194,7 +204,7 @@ impl<'r, T: Threads> Printing<'r, T> {
             batches,
             room: _,
         } = self;
-        let last = PrintedText::of_rows(press.alloc, batches);
+        let last = PrintedText::of_rows(press.alloc, batches, press.notations);
         let mut all = Ok(text);
         for part in parts {
             all = followed_by(all, part.wait(press.rt));

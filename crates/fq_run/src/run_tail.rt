@@ -1,6 +1,7 @@
 //! The tail of a run: each worked item goes through the remaining steps as soon as it is taken, and what these make of it to a sink.
 ghost use Rattle.std.specs.Prelude.{◌≡◌, ◌≢◌, ◌⊎◌, [], map, None, Some, Err, IfOk, IfErr, OnOk, IsSome};
 ghost use Rattle.fq_column.specs.Frame.{Fields};
+ghost use Rattle.fq_notation.specs.declared.notations.Notation.{Notation};
 ghost use Rattle.fq_run.specs.Gathering.{gathered_stream};
 ghost use Rattle.fq_run.specs.Later.{later_steps};
 ghost use Rattle.fq_run.specs.Pipelines.{HasRun};
@@ -58,11 +59,12 @@ impl<'a, S> Model for RunTail<'a, S> {
 }
 
 impl<'a, S: RowSink> Tail for RunTail<'a, S> {
+    ghost use Rattle.std.specs.Prelude.{List};
     ghost use Rattle.fq_run.specs.Standing.{TailTakes};
 
     type Out = Worked;
 
-    ghost takes = { λ old file _ out new. TailTakes S.has old file out new };
+    ghost takes = { λ old file _ out new. (notations : List Notation) → TailTakes (S.has notations) old file out new };
 
     ghost refuses = { λ _ _. Unit {0} };
 
@@ -99,8 +101,8 @@ impl<'a, S: RowSink> RunTail<'a, S> {
     ) -> RunTail<'a, S>
         requires { (after : Fields) × Fit (map (λ g. g.batch.fields) sides.items) before stages.now after }
         ensures files { result.side_files ≡ side_files }
-        ensures waits { (after : Fields) (main : Source) → S.has sink after [] → before ≡ main.batch.fields → gathered_stream main ≡ done [] →
-            Waits S.has stages.entry.now after sides.items main result }
+        ensures waits { (notations : List Notation) (after : Fields) (main : Source) → S.has notations sink after [] → before ≡ main.batch.fields → gathered_stream main ≡ done [] →
+            Waits (S.has notations) stages.entry.now after sides.items main result }
     {
         RunTail {
             alloc,
@@ -117,8 +119,8 @@ impl<'a, S: RowSink> RunTail<'a, S> {
     // Takes a worked item of a source before the main one.
     fn take_before_main(&mut self, file: u16, item: Worked) -> Result<(), Memory>
         ensures files { self.new.side_files ≡ self.old.side_files }
-        ensures taken { OnOk result ((stages : List AnyStage) (after : Fields) (sides : List Source) (main : Source) → Waits S.has stages after sides main self.old →
-            Waits S.has stages after (taken_in file item sides) main self.new) }
+        ensures taken { OnOk result ((notations : List Notation) (stages : List AnyStage) (after : Fields) (sides : List Source) (main : Source) → Waits (S.has notations) stages after sides main self.old →
+            Waits (S.has notations) stages after (taken_in file item sides) main self.new) }
     {
         let taken = take_in(self.sides.as_mut_slice(), file, item);
         if taken.is_err() {
@@ -131,8 +133,8 @@ impl<'a, S: RowSink> RunTail<'a, S> {
     // Takes a worked item of the main source.
     fn take_main(&mut self, item: Worked) -> Result<(), Memory>
         ensures files { self.new.side_files ≡ self.old.side_files }
-        ensures taken { OnOk result ((stages : List AnyStage) (after : Fields) (sides : List Source) (main : Source) → FitOver stages after sides main →
-            Stands S.has stages after sides main self.old → Stands S.has stages after sides (gathered main item) self.new) }
+        ensures taken { OnOk result ((notations : List Notation) (stages : List AnyStage) (after : Fields) (sides : List Source) (main : Source) → FitOver stages after sides main →
+            Stands (S.has notations) stages after sides main self.old → Stands (S.has notations) stages after sides (gathered main item) self.new) }
     {
         self.open()?;
         let Some(pipeline) = &mut self.pipeline else {
@@ -151,8 +153,8 @@ impl<'a, S: RowSink> RunTail<'a, S> {
     fn open(&mut self) -> Result<(), Memory>
         ensures files { self.new.side_files ≡ self.old.side_files }
         ensures opened { OnOk result (self.new.operators ≡ None → IsSome self.new.fault) }
-        ensures stands { OnOk result ((stages : List AnyStage) (after : Fields) (sides : List Source) (main : Source) → FitOver stages after sides main →
-            Stands S.has stages after sides main self.old → Stands S.has stages after sides main self.new) }
+        ensures stands { OnOk result ((notations : List Notation) (stages : List AnyStage) (after : Fields) (sides : List Source) (main : Source) → FitOver stages after sides main →
+            Stands (S.has notations) stages after sides main self.old → Stands (S.has notations) stages after sides main self.new) }
     {
         if self.fault.is_some() || self.pipeline.is_some() {
             return Ok(());
@@ -172,8 +174,8 @@ impl<'a, S: RowSink> RunTail<'a, S> {
 
     /// The sink, which has taken the rows that all comes to; or its fault.
     pub(crate) fn finish(self) -> Result<S, Fault>
-        ensures { (stages : List AnyStage) (after : Fields) (sides : List Source) (main : Source) → FitOver stages after sides main → Stands S.has stages after sides main self.entry →
-            Ends S.has (outcome_of_stages stages sides main) result }
+        ensures { (notations : List Notation) (stages : List AnyStage) (after : Fields) (sides : List Source) (main : Source) → FitOver stages after sides main → Stands (S.has notations) stages after sides main self.entry →
+            Ends (S.has notations) (outcome_of_stages stages sides main) result }
     {
         let mut tail = self;
         let opened = tail.open();

@@ -1,7 +1,8 @@
 //! A physical plan over files.
 ghost use Rattle.std.specs.Prelude.{◌≡◌, ◌≤◌, ℕ, List, [], vec_len, Ok, Err, IfOk, IfErr};
 ghost use Rattle.fq_column.specs.Frame.{Frame};
-ghost use Rattle.fq_csv.specs.Printed.{printed};
+ghost use Rattle.fq_csv.specs.Printed.{printed_in};
+ghost use Rattle.fq_notation.specs.declared.notations.Notation.{Notation};
 ghost use Rattle.fq_run.specs.GatheredRun.{HasGathered};
 ghost use Rattle.fq_run.specs.Physical.{file_streams, files_wanted, last_columns, outcome_of_run};
 ghost use Rattle.fq_run.specs.PrintedText.{text_of};
@@ -50,7 +51,7 @@ impl PhysicalPlan {
         batch_size: u32,
         workers: u16,
     ) -> Result<Report, Fault>
-        ensures { IsAnswer (files_wanted self.now) (vec_len inputs) batch_size workers (Tell R.remaining inputs.items) (file_streams self.now) (outcome_of_run self.now) (W.contents out.old) (W.contents out.new) result }
+        ensures { IsAnswer (files_wanted self.now) (vec_len inputs) batch_size workers (Tell R.remaining inputs.items) (file_streams self.now) (outcome_of_run self.now) self.now.notations (W.contents out.old) (W.contents out.new) result }
     {
         let wanted = self.inputs();
         let got = inputs.len();
@@ -79,7 +80,7 @@ impl PhysicalPlan {
         requires batch_size { (1 ≤ batch_size) × (batch_size ≤ MAX_BATCH_SIZE) }
         requires workers { (1 ≤ workers) × (workers ≤ MAX_WORKERS) }
         ensures frame { (files : List (List ℕ)) → Tell R.remaining inputs.items files → IfOk result
-            (λ r. (frame : Frame) × (outcome_of_run self.now (file_streams self.now files) ≡ Ok frame) × (text_of r.0 ≡ printed frame)) }
+            (λ r. (frame : Frame) × (outcome_of_run self.now (file_streams self.now files) ≡ Ok frame) × (text_of r.0 ≡ printed_in self.now.notations frame)) }
         ensures trace { (files : List (List ℕ)) → Tell R.remaining inputs.items files → IfOk result
             (λ r. r.1.trace.items ≡ trace_of batch_size (file_streams self.now files)) }
         ensures fault { (files : List (List ℕ)) → Tell R.remaining inputs.items files → IfErr result
@@ -90,6 +91,7 @@ impl PhysicalPlan {
         let press = PrintSettings {
             rt,
             alloc,
+            notations: &self.notations,
             threads: self.printing_threads(workers),
         };
         let text = Printing::new(press, self.last_schema())?;
@@ -128,7 +130,7 @@ impl PhysicalPlan {
         requires inputs { vec_len inputs ≡ files_wanted self.now }
         requires batch_size { (1 ≤ batch_size) × (batch_size ≤ MAX_BATCH_SIZE) }
         requires workers { (1 ≤ workers) × (workers ≤ MAX_WORKERS) }
-        ensures gathered { IfOk result (λ r. S.has sink (last_columns self.entry.now) [] → HasGathered S.has R.remaining inputs.items self.entry.now batch_size r.0 r.1.trace.items) }
+        ensures gathered { IfOk result (λ r. (notations : List Notation) → S.has notations sink (last_columns self.entry.now) [] → HasGathered (S.has notations) R.remaining inputs.items self.entry.now batch_size r.0 r.1.trace.items) }
         ensures fault { IfErr result IsEngineFault }
         ensures read { IfErr result (NamesFile (vec_len inputs)) }
     {

@@ -1,8 +1,8 @@
 //! What opens files by name.
-ghost use Rattle.std.specs.Prelude.{◌≡◌, ℕ, List, Option, Some, None, IfOk, true};
+ghost use Rattle.std.specs.Prelude.{◌≡◌, ℕ, List, [], Option, Some, None, IfOk, IfErr, OnOk, true};
 ghost use Rattle.std.specs.Str.{bytes_eq};
 
-use crate::outputs::{Output, SystemOutput};
+use crate::outputs::SystemOutput;
 use crate::progress::{Line, Watched};
 use fq_places::Unread;
 use std::alloc::Global;
@@ -44,8 +44,8 @@ pub trait Opener {
     /// What reads an open file.
     type Reader: Read + Drop + Send;
 
-    /// What takes the frame in the place of a file.
-    type Output: Output;
+    /// What takes the frame, in the place of a file once it is kept.
+    type Output: Write + Drop;
 
     // The bytes of the file of a name, if they are known.
     ghost bytes_of: { Self → List ℕ → Option (List ℕ) } = { λ _ _. None };
@@ -56,7 +56,20 @@ pub trait Opener {
         ensures told { (bytes : List ℕ) → bytes_of self.old name.now ≡ Some bytes → IfOk result (λ reader. Self.Reader.remaining reader ≡ Some bytes) };
 
     /// What takes the place of the file of this name, once it is kept. Fails if nothing can be written there.
-    fn output_of(&mut self, alloc: Global, name: &str) -> Result<Self::Output, OpenFault>;
+    fn output_of(&mut self, alloc: Global, name: &str) -> Result<Self::Output, OpenFault>
+        ensures same { bytes_of self.new ≡ bytes_of self.old }
+        ensures told { (bytes : List ℕ) → bytes_of self.old name.now ≡ Some bytes → IfOk result (λ output. Self.Output.contents output ≡ Some []) };
+
+    /// Puts what was written in the place of the file of this name, for which it was made. If that fails, the file stays as it was, unless
+    /// it is written as it is.
+    fn keep(&mut self, name: &str, output: Self::Output) -> Result<(), OpenFault>
+        ensures placed { (before written : List ℕ) → bytes_of self.old name.now ≡ Some before → Self.Output.contents output ≡ Some written →
+            OnOk result (bytes_of self.new name.now ≡ Some written) }
+        ensures failed { IfErr result (λ _. bytes_of self.new ≡ bytes_of self.old) };
+
+    /// Lets go what was written; the file stays as it was.
+    fn discard(&mut self, output: Self::Output)
+        ensures { bytes_of self.new ≡ bytes_of self.old };
 
     /// Whether two names are those of one file. An opener may know no more of this than the names say, and does not if it tells the bytes of
     /// the second.
@@ -83,7 +96,9 @@ pub trait Opener {
     {}
 
     /// Takes away what the readers have shown.
-    fn clear_progress(&mut self) {}
+    fn clear_progress(&mut self)
+        ensures { bytes_of self.new ≡ bytes_of self.old }
+    {}
 }
 
 /// The files of a system, its standard input under the name `-`, which can be opened once, and its standard error, which shows progress if
@@ -152,6 +167,14 @@ impl<
         name: &str,
     ) -> Result<SystemOutput<'a, F, L>, OpenFault> {
         SystemOutput::create(alloc, self.files, self.error, name).map_err(OpenFault::of)
+    }
+
+    fn keep(&mut self, _name: &str, output: SystemOutput<'a, F, L>) -> Result<(), OpenFault> {
+        output.keep().map_err(OpenFault::of)
+    }
+
+    fn discard(&mut self, output: SystemOutput<'a, F, L>) {
+        output.discard();
     }
 
     fn is_same_file(&mut self, one: &str, other: &str) -> bool {

@@ -57,15 +57,6 @@ impl<W: Write> Write for Noted<W> {
     }
 }
 
-/// What is written in the place of a file.
-pub trait Output: Write + Drop {
-    /// Puts what was written in the place of the file. If that fails, the file stays as it was, unless it is written as it is.
-    fn keep(self) -> io::Result<()>;
-
-    /// Lets go what was written; the file stays as it was.
-    fn discard(self);
-}
-
 /// What takes a frame in a system.
 #[derive(Drop)]
 pub enum SystemOutput<'a, F: Files<File = File>, L: Write> {
@@ -115,6 +106,22 @@ impl<'a, F: Files<File = File>, L: Write + Drop> SystemOutput<'a, F, L> {
         there: Option<Metadata>,
     ) -> io::Result<SystemOutput<'a, F, L>> {
         Ok(SystemOutput::New(NewFile::beside(alloc, files, place, there)?))
+    }
+
+    /// Puts what was written in the place of the file. If that fails, the file stays as it was, unless it is written as it is.
+    pub fn keep(self) -> io::Result<()> {
+        match self {
+            SystemOutput::New(new) => new.keep(),
+            SystemOutput::AsItIs(_) | SystemOutput::Error(_) => Ok(()),
+        }
+    }
+
+    /// Lets go what was written; the file stays as it was.
+    pub fn discard(self) {
+        match self {
+            SystemOutput::New(new) => new.remove(),
+            SystemOutput::AsItIs(_) | SystemOutput::Error(_) => {}
+        }
     }
 }
 
@@ -244,22 +251,6 @@ impl<F: Files<File = File>, L: Write> Write for SystemOutput<'_, F, L> {
             SystemOutput::New(new) => new.file.flush(),
             SystemOutput::AsItIs(file) => file.flush(),
             SystemOutput::Error(error) => error.flush(),
-        }
-    }
-}
-
-impl<F: Files<File = File>, L: Write + Drop> Output for SystemOutput<'_, F, L> {
-    fn keep(self) -> io::Result<()> {
-        match self {
-            SystemOutput::New(new) => new.keep(),
-            SystemOutput::AsItIs(_) | SystemOutput::Error(_) => Ok(()),
-        }
-    }
-
-    fn discard(self) {
-        match self {
-            SystemOutput::New(new) => new.remove(),
-            SystemOutput::AsItIs(_) | SystemOutput::Error(_) => {}
         }
     }
 }

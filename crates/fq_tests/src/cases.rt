@@ -1,5 +1,5 @@
 //! Runs of the program over inputs in memory, with the answers that are wanted.
-use fq_program::{Noted, OpenFault, Opener, Output, Unread, one_input, with_words};
+use fq_program::{Noted, OpenFault, Opener, Unread, one_input, with_words};
 use std::alloc::Global;
 use std::io;
 use std::io::{ErrorKind, Write};
@@ -40,6 +40,12 @@ impl<'a> Opener for Inputs<'a> {
     fn output_of(&mut self, _alloc: Global, _name: &str) -> Result<Nowhere, OpenFault> {
         Err(OpenFault::Failed(io::Error::from(ErrorKind::NotFound)))
     }
+
+    fn keep(&mut self, _name: &str, _output: Nowhere) -> Result<(), OpenFault> {
+        Ok(())
+    }
+
+    fn discard(&mut self, _output: Nowhere) {}
 }
 
 /// What takes no frame.
@@ -54,14 +60,6 @@ impl Write for Nowhere {
     fn flush(&mut self) -> io::Result<()> {
         Ok(())
     }
-}
-
-impl Output for Nowhere {
-    fn keep(self) -> io::Result<()> {
-        Ok(())
-    }
-
-    fn discard(self) {}
 }
 
 impl<'a> Inputs<'a> {

@@ -71,6 +71,17 @@ fn columns_that_change_their_places_each_is_computed_from_the_row_as_it_was(
 }
 
 #[test]
+fn a_selection_names_a_column_several_times_and_swaps_others(rt: HostRuntime) -> Result<(), Fail> {
+    gives(
+        &rt,
+        rt.alloc(),
+        r#"{"version":1,"sources":[{"files":1,"columns":[["a","text"],["b","text"],["n","int"]]}],"steps":[{"select":[["x",{"col":"a"}],["b",{"col":"n"}],["m",["add",{"col":"n"},1]],["y",{"col":"a"}],["n",{"col":"b"}],["z",{"col":"a"}]]}]}"#,
+        &["a,b,n\none,first,1\n,second,\na text of more than twenty-four bytes,third,3\n"],
+        "x,b,m,y,n,z\none,1,2,one,first,one\n,,,,second,\na text of more than twenty-four bytes,3,4,a text of more than twenty-four bytes,third,a text of more than twenty-four bytes\n",
+    )
+}
+
+#[test]
 fn is_null_and_fill_null(rt: HostRuntime) -> Result<(), Fail> {
     gives(
         &rt,

@@ -19,7 +19,11 @@ mod groups;
 #[cfg(test)]
 mod joins;
 #[cfg(test)]
+mod needed_columns;
+#[cfg(test)]
 mod order_of_faults;
+#[cfg(test)]
+mod outputs;
 #[cfg(test)]
 mod plan_texts;
 #[cfg(test)]

@@ -51,12 +51,12 @@ totals-more front old new rows more made law same whole take h =
 -- the totals of a file, by those of the stream that a scanner has still to hand out
 pub totals-of-file : (front : NumberedSteps) (columns : Fields) (nulls : List (List ℕ)) (limit : ℕ) (bytes : List ℕ) (remaining : Option (List ℕ)) (upcoming : Option (Stream ScanFault)) (frame : Frame) →
     columns ≡ orders → nulls ≡ [] → front ≡ record order_steps { fields = columns } →
-    upcoming ≡ option_map (file_stream 0 (record { schema = columns; nulls = nulls }) limit) remaining → remaining ≡ Some bytes →
+    upcoming ≡ option_map (file_stream 0 (record { schema = columns; nulls = nulls; notations = []; projection = [] }) limit) remaining → remaining ≡ Some bytes →
     ((u : Stream ScanFault) → upcoming ≡ Some u → AreTotals front u frame) → AreTotals order_steps (file_stream 0 (plain orders) limit bytes) frame
 totals-of-file front columns nulls limit bytes remaining upcoming frame same none steps stream known are =
     let front-is : front ≡ order_steps = steps ∙ ap (λ (c : Fields). let p : NumberedSteps = record order_steps { fields = c } in p) same in
-    let layout-is : (let l : Layout = record { schema = columns; nulls = nulls } in l) ≡ plain orders =
-    ap (λ (n : List (List ℕ)). let l : Layout = record { schema = columns; nulls = n } in l) none ∙ ap plain same in
-    let upcoming-is = stream ∙ ap (option_map (file_stream 0 (record { schema = columns; nulls = nulls }) limit)) known ∙ ap (λ (l : Layout). Some (file_stream 0 l limit bytes)) layout-is in
+    let layout-is : (let l : Layout = record { schema = columns; nulls = nulls; notations = []; projection = [] } in l) ≡ plain orders =
+    ap (λ (n : List (List ℕ)). let l : Layout = record { schema = columns; nulls = n; notations = []; projection = [] } in l) none ∙ ap plain same in
+    let upcoming-is = stream ∙ ap (option_map (file_stream 0 (record { schema = columns; nulls = nulls; notations = []; projection = [] }) limit)) known ∙ ap (λ (l : Layout). Some (file_stream 0 l limit bytes)) layout-is in
     let P : NumberedSteps → Type 0 = λ p. AreTotals p (file_stream 0 (plain orders) limit bytes) frame in
     subst P front-is (are (file_stream 0 (plain orders) limit bytes) upcoming-is)

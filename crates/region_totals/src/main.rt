@@ -23,6 +23,7 @@ ghost use Rattle.region_totals.specs.declared.Failure.TheVariants as failure;
 use fq_column::{Batch, Kind, Memory, Schema, StepFault};
 use fq_csv::{MAX_ROWS, NullValues, Scan, ScanFault, Scanner, print_frame};
 use fq_expr::{Binary, Expr, Front, Piece, RowFault, RowStep, Unary, steps_of_joined_streams};
+use fq_notation::Notations;
 use fq_ops::{Agg, Function, GroupFault, Grouper, MAX_GROUPED_ROWS, What, group_schema};
 use std::alloc::Global;
 use std::io;
@@ -94,7 +95,7 @@ fn totals<R: Read + Drop>(alloc: Global, file: R) -> Result<Vec<u8>, Failure>
     let nulls = NullValues::new(Vec::new(alloc));
     let scanner = Scanner::new(alloc, file, 0, columns, nulls, BATCH_SIZE, MAX_ROWS)?;
     let frame = grouped(alloc, scanner, &front, grouper)?;
-    Ok(print_frame(alloc, &frame)?)
+    Ok(print_frame(alloc, &frame, &Notations::plain(alloc))?)
 }
 
 // The columns of the file.

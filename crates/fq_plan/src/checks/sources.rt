@@ -9,8 +9,9 @@ ghost use Rattle.fq_language.specs.View.{source_data};
 ghost use Rattle.fq_plan.specs.Stages.{IsMemoryAt};
 
 use fq_column::{Kind, Memory, Schema, StepFault};
-use fq_csv::{Layout, SourceFiles};
+use fq_csv::{Layout, Projection, SourceFiles};
 use fq_language::{CheckFault, Place, Source};
+use fq_notation::Notations;
 use std::alloc::Global;
 
 /// The sources with their schemas, or the first refusal.
@@ -48,7 +49,12 @@ fn add_source(
     } = source;
     let (names, kinds) = unzip(alloc, columns)?;
     let schema = Schema::new(names, kinds)?;
-    let layout = Layout { schema, nulls };
+    let layout = Layout {
+        schema,
+        nulls,
+        notations: Notations::plain(alloc),
+        projection: Projection::all(alloc),
+    };
     Ok(checked.push(SourceFiles { files, layout })?)
 }
 

@@ -103,8 +103,8 @@ impl PassedSteps {
         }
     }
 
-    // The columns after the steps.
-    fn schema(&self) -> &Schema
+    /// The columns after the steps.
+    pub fn schema(&self) -> &Schema
         ensures { result.now ≡ columns_after self.now }
     {
         self.stages

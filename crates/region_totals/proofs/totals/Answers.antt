@@ -1,5 +1,7 @@
-use Rattle.std.proofs.Common.{ap, ◌∙◌, map, string_bytes}
+use Rattle.std.proofs.Common.{ap, ◌∙◌, List, map, string_bytes}
 use Rattle.fq_column.specs.Frame.{Fields}
+use Rattle.fq_notation.specs.declared.notations.Notation.{Notation}
+use Rattle.fq_csv.specs.Printed.{printed_in}
 use Rattle.fq_csv.specs.Scan.{Scanning}
 use Rattle.fq_expr.specs.Front.{NumberedSteps}
 use Rattle.region_totals.specs.Report.{order_steps}
@@ -15,4 +17,4 @@ returns g c bytes known =
     let stream = ap (λ (s : Scanning). s.upcoming) c.in_ok-scanner.ensures.scanner in
     let totals = totals-of-file c.in_ok-front.front columns c.new-nulls.result _ bytes (g.R.Read.remaining c.args.file) c.in_ok-scanner.scanner.upcoming frame
     c.in_ok-columns.ensures nulls steps stream known c.in_ok-frame.ensures in
-    (frame, totals, c.in_ok-print_frame.ensures)
+    (frame, totals, c.in_ok-print_frame.ensures ∙ ap (λ (ns : List Notation). printed_in ns frame) c.plain.ensures)

@@ -1,6 +1,10 @@
 use Rattle.std.specs.Prelude.{slice_get}
-use Rattle.std.proofs.Common.{◌≡◌, ◌<◌, ◌∙◌, Some, arith, length, sym}
+use Rattle.std.proofs.Common.{◌≡◌, ◌<◌, ◌∙◌, Some, ap, arith, get_or, length, sym}
 use Rattle.csv.specs.Records.{fields_of}
+use Rattle.fq_column.specs.Masked.{masked_cell}
+use Rattle.fq_csv.specs.Field.{cell_under}
+use Rattle.fq_csv.specs.Rows.{with_cell}
+use Rattle.fq_csv.specs.declared.readings.Reading.{Reading}
 use Rattle.fq_csv.proofs.HeldRowLemmas.{Added-bad, Added-done, Added-more}
 use Rattle.fq_csv.proofs.ReaderLemmas.{ascii-fields, field-gone, field-text, field-there}
 use Rattle.fq_csv.proofs.text_rows.push_record.Goals.{then-has_texts, else-has_texts}
@@ -24,24 +28,33 @@ push_field-requires c = λ e.
 pub returns-then-not-branch-clause-none : goal.returns-then-not-branch-clause-none
 returns-then-not-branch-clause-none c =
     let fs = fields_of c.args.row.now in
+    let i = c.loop-i.i in
+    let layout = c.args.layout.now in
     let same : length fs ≡ length c.args.columns.now = omega (arith, c.len.ensures, c.if-len-columns.false) in
-    let here : Some c.in-Some.field.now ≡ slice_get fs c.loop-i.i = c.in-Some.ensures.value ∙ field-there fs c.loop-i.i in
+    let here : Some c.in-Some.field.now ≡ slice_get fs i = c.in-Some.ensures.value ∙ field-there fs i in
     let e = rw c.if-not-branch.true at c.in_ok-push_field.ensures.good in
-    let bad = Added-bad c.args.nulls.now c.args.height c.args.columns.now fs c.loop-i.i c.loop-i.columns c.index-columns-i.result c.push_field.new.column c.in-Some.field.now
-    c.loop-i.invariant c.loop-i-test.true here e.0 e.1 c.requires.height in
+    let read = c.index-readings-i.is ∙ c.requires.readings.each i (omega (arith, c.loop-i-test.true, c.requires.wide)) c.index-readings-i.result in
+    let none = ap (λ (r : Reading). cell_under layout.nulls (get_or c.loop-i.columns i c.index-columns-i.result).kind r.notation c.in-Some.field.now) (sym read) ∙ e.0 in
+    let bad = Added-bad layout c.args.columns.now fs i c.loop-i.columns c.loop-i.invariant c.args.height c.index-columns-i.result c.push_field.new.column c.in-Some.field.now
+    c.loop-i-test.true here none e.1 c.requires.height in
     ((same, bad.0, c.loop-i-test.true), c.cut_columns.ensures ∙ bad.1)
 
 pub loop-i-preserved : goal.loop-i-preserved
 loop-i-preserved c =
     let fs = fields_of c.args.row.now in
-    let here : Some c.in-Some.field.now ≡ slice_get fs c.loop-i.i = c.in-Some.ensures.value ∙ field-there fs c.loop-i.i in
+    let i = c.loop-i.i in
+    let layout = c.args.layout.now in
+    let column = get_or c.loop-i.columns i c.index-columns-i.result in
+    let here : Some c.in-Some.field.now ≡ slice_get fs i = c.in-Some.ensures.value ∙ field-there fs i in
     let e = rw c.if-not-branch.false at c.in_ok-push_field.ensures.good in
-    Added-more c.args.nulls.now c.args.columns.now fs c.loop-i.i c.loop-i.columns c.index-columns-i.result c.push_field.new.column c.in-Some.field.now e.0
-    c.loop-i.invariant c.loop-i-test.true here e.1 e.2
+    let read = c.index-readings-i.is ∙ c.requires.readings.each i (omega (arith, c.loop-i-test.true, c.requires.wide)) c.index-readings-i.result in
+    let cell = ap (λ (r : Reading). cell_under layout.nulls column.kind r.notation c.in-Some.field.now) (sym read) ∙ e.1 in
+    Added-more layout c.args.columns.now fs i c.loop-i.columns c.loop-i.invariant c.index-columns-i.result c.push_field.new.column c.in-Some.field.now e.0
+    c.loop-i-test.true here cell (e.2 ∙ ap (λ (r : Reading). with_cell column (masked_cell r.is_kept e.0)) read)
 
 pub returns-clause-row : goal.returns-clause-row
 returns-clause-row c =
     let fs = fields_of c.args.row.now in
     let same : length fs ≡ length c.args.columns.now = omega (arith, c.len.ensures, c.if-len-columns.false) in
-    let done = Added-done c.args.nulls.now c.args.columns.now fs c.loop-i.i c.loop-i.columns c.loop-i.invariant c.loop-i-test.false c.loop-i.auto.i-end same in
+    let done = Added-done c.args.layout.now c.args.columns.now fs c.loop-i.i c.loop-i.columns c.loop-i.invariant c.loop-i-test.false c.loop-i.auto.i-end in
     (done.0, same, done.1, done.2, done.3)

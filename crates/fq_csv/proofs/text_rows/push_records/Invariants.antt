@@ -1,7 +1,6 @@
 use Rattle.std.specs.Prelude.{◌≡◌, ◌++◌, List, length}
 use Rattle.csv.specs.Reading.{default_config, records}
 use Rattle.fq_csv.specs.File.{Record}
-use Rattle.fq_csv.specs.Rows.{kinds_in}
 use Rattle.fq_csv.specs.Readers.{TextHasLeft, IsPlain}
 use Rattle.fq_csv.proofs.TextRowLemmas.{HasRows}
 use Rattle.fq_csv.proofs.text_rows.push_records.Given as goal
@@ -14,5 +13,5 @@ invariant-loop-row l = record {
   left : TextHasLeft l.reader rest;
   split : records default_config l.fn.text ≡ before ++ rest;
   number : length before ≡ l.row;
-  rows : HasRows l.nulls (kinds_in l.fn.columns) before l.columns;
+  rows : HasRows l.layout before l.columns;
 }

@@ -34,3 +34,7 @@ returns-clause-ragged c = refl
 pub returns-clause-too_long : goal.returns-clause-too_long
 unfolding files_on_literals
 returns-clause-too_long c = refl
+
+pub returns-clause-decimals_and_dates : goal.returns-clause-decimals_and_dates
+unfolding files_on_literals
+returns-clause-decimals_and_dates c = refl

@@ -9,3 +9,7 @@ returns-clause-null_alone c = refl
 pub returns-clause-quoted : goal.returns-clause-quoted
 unfolding files_on_literals
 returns-clause-quoted c = refl
+
+pub returns-clause-decimals_and_dates : goal.returns-clause-decimals_and_dates
+unfolding files_on_literals
+returns-clause-decimals_and_dates c = refl

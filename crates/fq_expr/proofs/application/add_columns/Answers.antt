@@ -9,14 +9,21 @@ use Rattle.fq_column.specs.Schema.{fields_of}
 use Rattle.fq_expr.specs.Expression.{with_columns}
 use Rattle.fq_expr.specs.Kinds.{item_names, step_schema}
 use Rattle.fq_expr.specs.ExpressionData.{items_of}
-use Rattle.fq_expr.specs.Outputs.{all_kinds, cells_of_column}
+use Rattle.fq_expr.specs.Outputs.{AreOutputs, all_kinds, cells_of_column}
 use Rattle.fq_expr.proofs.ItemLemmas.{length-items_of, length-item_names}
 use Rattle.fq_expr.proofs.JudgementLemmas.{ok-is, with_columns-ok, adds-room, adds-bound, fields_after-is}
 use Rattle.fq_expr.specs.Steps.{with_values}
 use Rattle.fq_expr.proofs.OutputLemmas.{length-put_all-more}
+use Rattle.fq_expr.proofs.MadeLemmas.{made-outputs}
 use Rattle.fq_expr.proofs.SelectionLemmas.{ok-same, added-kinds, added-lengths, added-rows, made-item}
 use Rattle.fq_expr.proofs.application.add_columns.Goals as goal
-use Rattle.fq_expr.proofs.application.add_columns.Goals.{After-into_parts-schema, In_ok-put_columns}
+use Rattle.fq_expr.proofs.application.add_columns.Goals.{After-into_parts-schema, In_ok-outputs, In_ok-put_columns}
+
+-- the items' columns in the rows before the first that faults
+outputs : (c : In_ok-outputs) → AreOutputs c.args.batch.fields (items_of c.args.items.now) c.args.batch.rows c.in_ok-outputs.outputs.columns.items c.in_ok-outputs.outputs.rows c.in_ok-outputs.outputs.item
+outputs c =
+    let made = c.in_ok-evaluated.evaluated in
+    made-outputs c.args.batch (items_of c.args.items.now) made.made.items made.rows c.in_ok-outputs.outputs.rows made.item c.in_ok-outputs.outputs.item c.in_ok-outputs.outputs.columns.items c.in_ok-evaluated.ensures c.in_ok-outputs.ensures.columns c.in_ok-outputs.ensures.rows
 
 pub evaluate_items-requires-clause-kinds : goal.evaluate_items-requires-clause-kinds
 evaluate_items-requires-clause-kinds c =
@@ -48,7 +55,7 @@ put_columns-requires-clause-room c = let d = (goal.at.put_columns-requires-claus
     let items = items_of c.args.items.now in
     let s = ok-is (step_schema c.args.batch.fields (with_columns items)) c.requires in
     let a = with_columns-ok c.args.batch.fields items s.0 s.1 in
-    let same : a.0 ≡ map kind_of_cells c.in_ok-outputs.outputs.columns.items = ok-same a.0 (map kind_of_cells c.in_ok-outputs.outputs.columns.items) (all_kinds c.args.batch.fields items) a.1.kinds c.in_ok-outputs.ensures.kinds in
+    let same : a.0 ≡ map kind_of_cells c.in_ok-outputs.outputs.columns.items = ok-same a.0 (map kind_of_cells c.in_ok-outputs.outputs.columns.items) (all_kinds c.args.batch.fields items) a.1.kinds (outputs (goal.at.put_columns-requires-clause-room c).In_ok-outputs).kinds in
     let e : length (put_all c.into_parts-schema.result.0 (zip (item_names items) (map kind_of_cells (into_iter_items c.into_iter.result)))) ≡ length (put_all c.args.batch.fields (fields_of (item_names items) a.0)) =
     λ i. length (put_all (fields d i) (zip (item_names items) ((ap (map kind_of_cells) c.into_iter.ensures.rest ∙ sym same) i))) in
     omega (arith, e, adds-room c.args.batch.fields items s.0 a.0 a.1 (length-item_names c.args.items.now ∙ sym (length-items_of c.args.items.now)))
@@ -63,12 +70,12 @@ under c = c.in_ok-put_columns.ensures.columns ∙ (λ i. put_all (zip (names_of 
 
 pub new-requires-clause-kinds : goal.new-requires-clause-kinds
 new-requires-clause-kinds c = let d = goal.at.new-requires-clause-kinds c in
-    added-kinds c.args.batch.fields (items_of c.args.items.now) c.args.batch.rows c.in_ok-outputs.outputs.columns.items c.in_ok-outputs.outputs.rows c.in_ok-outputs.outputs.item c.in_ok-outputs.ensures
+    added-kinds c.args.batch.fields (items_of c.args.items.now) c.args.batch.rows c.in_ok-outputs.outputs.columns.items c.in_ok-outputs.outputs.rows c.in_ok-outputs.outputs.item (outputs (goal.at.new-requires-clause-kinds c).In_ok-outputs)
     c.into_parts-schema.result.1.items (stands d.After-into_parts-schema) (rows d.After-into_parts-schema) c.put_columns.new.schema (schema d.In_ok-put_columns) c.put_columns.new.columns.items (under d.In_ok-put_columns) c.in_ok-put_columns.ensures.width
 
 pub new-requires-clause-lengths : goal.new-requires-clause-lengths
 new-requires-clause-lengths c = let d = goal.at.new-requires-clause-lengths c in
-    added-lengths c.args.batch.fields (items_of c.args.items.now) c.args.batch.rows c.in_ok-outputs.outputs.columns.items c.in_ok-outputs.outputs.rows c.in_ok-outputs.outputs.item c.in_ok-outputs.ensures
+    added-lengths c.args.batch.fields (items_of c.args.items.now) c.args.batch.rows c.in_ok-outputs.outputs.columns.items c.in_ok-outputs.outputs.rows c.in_ok-outputs.outputs.item (outputs (goal.at.new-requires-clause-lengths c).In_ok-outputs)
     c.into_parts-schema.result.1.items (stands d.After-into_parts-schema) (rows d.After-into_parts-schema) c.put_columns.new.schema (schema d.In_ok-put_columns) c.put_columns.new.columns.items (under d.In_ok-put_columns) c.in_ok-put_columns.ensures.width
 
 pub returns-clause-fields : goal.returns-clause-fields
@@ -76,7 +83,7 @@ returns-clause-fields c = let d = goal.at.returns-clause-fields c in
     let items = items_of c.args.items.now in
     let s = ok-is (step_schema c.args.batch.fields (with_columns items)) c.requires in
     let a = with_columns-ok c.args.batch.fields items s.0 s.1 in
-    let same : a.0 ≡ map kind_of_cells c.in_ok-outputs.outputs.columns.items = ok-same a.0 (map kind_of_cells c.in_ok-outputs.outputs.columns.items) (all_kinds c.args.batch.fields items) a.1.kinds c.in_ok-outputs.ensures.kinds in
+    let same : a.0 ≡ map kind_of_cells c.in_ok-outputs.outputs.columns.items = ok-same a.0 (map kind_of_cells c.in_ok-outputs.outputs.columns.items) (all_kinds c.args.batch.fields items) a.1.kinds (outputs (goal.at.returns-clause-fields c).In_ok-outputs).kinds in
     ap (λ (f : Frame). f.fields) c.new.ensures
     ∙ schema d.In_ok-put_columns
     ∙ ap (λ ks. put_all c.args.batch.fields (zip (item_names items) ks)) (sym same)
@@ -93,8 +100,8 @@ returns-clause-rows c = let d = goal.at.returns-clause-rows c in
       length-put_all-more c.args.batch.fields (zip (item_names (items_of c.args.items.now)) (map kind_of_cells c.in_ok-outputs.outputs.columns.items)),
     ) in
     ap (λ (f : Frame). f.rows) c.new.ensures
-    ∙ added-rows c.args.batch.fields (items_of c.args.items.now) c.args.batch.rows c.in_ok-outputs.outputs.columns.items c.in_ok-outputs.outputs.rows c.in_ok-outputs.outputs.item c.in_ok-outputs.ensures
+    ∙ added-rows c.args.batch.fields (items_of c.args.items.now) c.args.batch.rows c.in_ok-outputs.outputs.columns.items c.in_ok-outputs.outputs.rows c.in_ok-outputs.outputs.item (outputs (goal.at.returns-clause-rows c).In_ok-outputs)
     c.into_parts-schema.result.1.items (stands d.After-into_parts-schema) (rows d.After-into_parts-schema) c.put_columns.new.schema (schema d.In_ok-put_columns) c.put_columns.new.columns.items (under d.In_ok-put_columns) c.in_ok-put_columns.ensures.width some
 
 pub returns-clause-fault : goal.returns-clause-fault
-returns-clause-fault c = made-item c.args.batch.fields (items_of c.args.items.now) c.args.batch.rows c.in_ok-outputs.outputs.columns.items c.in_ok-outputs.outputs.rows c.in_ok-outputs.outputs.item c.in_ok-outputs.ensures (λ values row. with_values c.args.batch.fields (items_of c.args.items.now) values row)
+returns-clause-fault c = made-item c.args.batch.fields (items_of c.args.items.now) c.args.batch.rows c.in_ok-outputs.outputs.columns.items c.in_ok-outputs.outputs.rows c.in_ok-outputs.outputs.item (outputs (goal.at.returns-clause-fault c).In_ok-outputs) (λ values row. with_values c.args.batch.fields (items_of c.args.items.now) values row)

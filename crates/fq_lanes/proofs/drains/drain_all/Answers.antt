@@ -36,3 +36,8 @@ returns-clause-refused g c some = c.drain_workers.ensures.fault ∙ ap (λ (b : 
 
 pub returns-clause-blames : goal.returns-clause-blames
 returns-clause-blames g c b = c.drain_workers.ensures.blames _ (c.drain_lanes-of_feeds.ensures.blames b)
+
+pub returns-clause-precedes : goal.returns-clause-precedes
+returns-clause-precedes g c p file told e at end =
+    subst (λ (f : RunFault). Precedes f (fault_at e file)) (sym c.drain_workers.ensures.fault)
+    (still (any_refused (worker_views c.args.workers.now.items) (worker_views c.drain_workers.new.workers.items)) c.drain_lanes-of_feeds.result (fault_at e file) (c.drain_lanes-of_feeds.ensures.precedes p file told e at end))

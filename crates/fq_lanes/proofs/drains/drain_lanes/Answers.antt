@@ -6,14 +6,14 @@ use Rattle.std.proofs.lemmas.Option.{same_Some, slice_get_within}
 use Rattle.fq_lanes.specs.Faults.{Precedes, fault_at}
 use Rattle.fq_lanes.specs.FeedLane.{feed_name, feed_views, told_of}
 use Rattle.fq_lanes.specs.HubView.{Tells, told_in}
-use Rattle.fq_lanes.specs.Turns.{BlamesTold}
+use Rattle.fq_lanes.specs.Turns.{BlamesTold, PrecedesTold}
 use Rattle.fq_lanes.specs.declared.faults.FeedFault.{FeedFault}
 use Rattle.fq_lanes.specs.declared.messages.FromFeed.TheVariants.{End}
 use Rattle.fq_lanes.proofs.LaneLemmas.{set_cases, tolds_same, tolds_then}
 use Rattle.fq_lanes.proofs.BesideLemmas.{get_or_place, get_set_other}
 use Rattle.fq_lanes.proofs.DrainLemmas.{fault-told}
 use Rattle.fq_lanes.proofs.FeedFaultLemmas.{first_precedes, first_precedes_other, precedes_itself, precedes_other_then, precedes_then}
-use Rattle.fq_lanes.proofs.HubStepLemmas.{drain_grows, drain_blames}
+use Rattle.fq_lanes.proofs.HubStepLemmas.{drain_grows, drain_blames, drain_precedes}
 use Rattle.fq_lanes.proofs.drains.drain_lanes.Goals as goal
 
 pub loop-file-init : goal.loop-file-init
@@ -26,6 +26,7 @@ loop-file-init g c = record {
   given = precedes_itself c.args.fault;
   theirs = λ j old new h. absurd (omega (arith, h));
   blames = λ b. b;
+  precedes = λ p. p;
 }
 
 pub loop-file-preserved : goal.loop-file-preserved
@@ -64,6 +65,8 @@ loop-file-preserved g c =
           (earlier.0, earlier.1, precedes_other_then c.first_fault-first.result c.loop-file.first earlier.0 j before earlier.2));
       blames = λ b. subst (λ e. BlamesTold (told_in (feed_views (set ns c.loop-file.file n'))) e) (sym first-is)
           (drain_blames ns c.loop-file.file n n' c.loop-file.first end at c.drain-other.ensures.told told (c.loop-file.invariant.blames b));
+      precedes = λ p. subst (λ e. PrecedesTold (told_in (feed_views (set ns c.loop-file.file n'))) e) (sym first-is)
+          (drain_precedes ns c.loop-file.file n n' c.loop-file.first end at c.drain-other.ensures.fault (c.loop-file.invariant.precedes p));
     }
 
 pub returns-clause-theirs : goal.returns-clause-theirs

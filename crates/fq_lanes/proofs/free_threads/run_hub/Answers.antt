@@ -29,4 +29,4 @@ returns-in-Err-clause-done g c =
     (sizes (feed_views ns')).0 ∙ length-map ns' feed_view ∙ c.drain_all.ensures.size ∙ sym (length-map ns feed_view) ∙ sym (sizes (feed_views ns)).0 in
     subst (λ l. Halts g.S.Tail.takes g.S.Tail.refuses c.args.hub.now.tail l (worker_views c.drain_all.new.workers.items) c.run_turns.new.hub.tail c.drain_all.result) (tolds_feed_views ns')
     (halts_on g.S.Tail.takes g.S.Tail.refuses c.args.hub.now.tail (told_in (feed_views ns)) (told_in (feed_views ns')) (worker_views c.run_turns.new.workers.items) (worker_views c.drain_all.new.workers.items)
-    c.run_turns.new.hub.tail c.in-Err.fault c.drain_all.result size c.drain_all.ensures.told c.drain_all.ensures.answered c.drain_all.ensures.blames halts)
+    c.run_turns.new.hub.tail c.in-Err.fault c.drain_all.result size c.drain_all.ensures.told c.drain_all.ensures.answered c.drain_all.ensures.blames c.drain_all.ensures.precedes halts)

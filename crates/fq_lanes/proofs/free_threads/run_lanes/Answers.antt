@@ -19,12 +19,12 @@ pub returns-clause-stopped : goal.returns-clause-stopped
 returns-clause-stopped g c =
     let (told, began, (ds, replied, done)) = rw c.in-Ok-started.is at c.run_threads-run.ensures.done in
     let hub = c.run_threads-run.result.0.hub in
-    let ((events, halt), blames) = run_err g.S.Tail.takes g.S.Tail.refuses c.args.tail told ds hub c.run_threads-run.result.0.outcome c.in-Err-outcome.fault done c.in-Err-outcome.is in
+    let ((events, halt), blames, precedes) = run_err g.S.Tail.takes g.S.Tail.refuses c.args.tail told ds hub c.run_threads-run.result.0.outcome c.in-Err-outcome.fault done c.in-Err-outcome.is in
     lanes_stop g.F.Feed.gives g.F.Feed.may_fail (g.W.Work.gives c.args.work.now) g.S.Tail.takes g.S.Tail.refuses c.args.feeds.items c.args.tail told ds hub.tail events began replied halt
 
 pub returns-clause-fault : goal.returns-clause-fault
 returns-clause-fault g c =
     let (told, began, (ds, replied, done)) = rw c.in-Ok-started.is at c.run_threads-run.ensures.done in
     let hub = c.run_threads-run.result.0.hub in
-    let ((events, halt), blames) = run_err g.S.Tail.takes g.S.Tail.refuses c.args.tail told ds hub c.run_threads-run.result.0.outcome c.in-Err-outcome.fault done c.in-Err-outcome.is in
+    let ((events, halt), blames, precedes) = run_err g.S.Tail.takes g.S.Tail.refuses c.args.tail told ds hub c.run_threads-run.result.0.outcome c.in-Err-outcome.fault done c.in-Err-outcome.is in
     blames_feed g.F.Feed.gives g.F.Feed.may_fail c.args.feeds.items told c.in-Err-outcome.fault began blames

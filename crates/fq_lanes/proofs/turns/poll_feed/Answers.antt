@@ -6,7 +6,7 @@ use Rattle.fq_lanes.specs.Due.{due, due_count}
 use Rattle.fq_lanes.specs.FeedLane.{feed_name, feed_view, feed_views}
 use Rattle.fq_lanes.specs.Sink.{file_count}
 use Rattle.fq_lanes.specs.HubView.{told_in}
-use Rattle.fq_lanes.specs.Turns.{BlamesTold}
+use Rattle.fq_lanes.specs.Turns.{BlamesTold, PrecedesTold}
 use Rattle.fq_lanes.specs.FileWindow.{IsNear}
 use Rattle.fq_lanes.specs.declared.events.Event.{Event}
 use Rattle.fq_lanes.specs.declared.events.Event.TheVariants.{Close}
@@ -15,7 +15,7 @@ use Rattle.fq_lanes.specs.declared.messages.FromFeed.TheVariants.{Item}
 use Rattle.fq_lanes.proofs.LaneLemmas.{prefix_by, prefix_is, workers_same}
 use Rattle.fq_lanes.proofs.BesideLemmas.{get_or_place}
 use Rattle.fq_lanes.proofs.SlotLemmas.{not_far}
-use Rattle.fq_lanes.proofs.HubStepLemmas.{step_nothing, step_item, step_halts, worker_grows, step_blames, step_close, step_on, step_stops}
+use Rattle.fq_lanes.proofs.HubStepLemmas.{step_nothing, step_item, step_halts, worker_grows, step_blames, step_close, step_on, step_stops, lane_precedes}
 use Rattle.fq_lanes.proofs.turns.poll_feed.Goals as goal
 
 pub close-requires : goal.close-requires
@@ -80,7 +80,7 @@ returns-in-Err-clause-turn g c first events t =
     let atw = get_or_place ds c.args.worker d (slice_get_within c.args.workers.now.items c.args.worker c.requires.worker.0 c.requires.worker.1) c.index_mut.ensures.value in
     let more = prefix_by (feed_view n).told (feed_view c.next.new.self).told (Item c.in-Item.item ∷ []) c.in-Item.ensures.polled.1 in
     let grow = worker_grows ds c.args.worker d c.give.new.self atw (prefix_is (worker_view d).jobs (worker_view c.give.new.self).jobs c.in-Err.ensures.err, prefix_is (worker_view d).answers (worker_view c.give.new.self).answers c.give.ensures.answers) in
-    ((events, step_halts g.S.Tail.takes g.S.Tail.refuses first ns (worker_views ds) (worker_views (set ds c.args.worker c.give.new.self)) c.args.hub.now events c.args.file n c.next.new.self t at more grow), tt)
+    ((events, step_halts g.S.Tail.takes g.S.Tail.refuses first ns (worker_views ds) (worker_views (set ds c.args.worker c.give.new.self)) c.args.hub.now events c.args.file n c.next.new.self t at more grow), tt, λ j told e there end. tt)
 
 pub returns-in-Ok-close-clause-lanes : goal.returns-in-Ok-close-clause-lanes
 returns-in-Ok-close-clause-lanes g c =
@@ -108,7 +108,7 @@ returns-in-Err-close-clause-turn g c first events t =
     let ds = worker_views c.args.workers.now.items in
     let out = step_close g.S.Tail.takes first ns ds c.args.hub.now events c.args.file c.in-End.items n c.next.new.self t at c.in-End.ensures.polled in
     let now : List (Event g.row.S-Out.Denot) = events ++ Close c.args.file c.in-End.items ∷ [] in
-    ((now, step_stops g.S.Tail.takes g.S.Tail.refuses first (feed_views (set ns c.args.file c.next.new.self)) ds c.args.hub.now c.close.new.self.tail now out.1 (c.in-Err-close.ensures.handed first events t.handed out.0) out.2), tt)
+    ((now, step_stops g.S.Tail.takes g.S.Tail.refuses first (feed_views (set ns c.args.file c.next.new.self)) ds c.args.hub.now c.close.new.self.tail now out.1 (c.in-Err-close.ensures.handed first events t.handed out.0) out.2), tt, λ j told e there end. tt)
 
 pub returns-in-TooMany-clause-lanes : goal.returns-in-TooMany-clause-lanes
 returns-in-TooMany-clause-lanes g c =
@@ -120,7 +120,7 @@ returns-in-TooMany-clause-turn g c first events t =
     let n = c.index_mut-lane.result.now in
     let at = get_or_place ns c.args.file n (omega (arith, c.requires.file)) c.index_mut-lane.ensures.value in
     let ds = worker_views c.args.workers.now.items in
-    ((events, step_halts g.S.Tail.takes g.S.Tail.refuses first ns ds ds c.args.hub.now events c.args.file n c.next.new.self t at c.in-TooMany.ensures.polled (workers_same ds)), tt)
+    ((events, step_halts g.S.Tail.takes g.S.Tail.refuses first ns ds ds c.args.hub.now events c.args.file n c.next.new.self t at c.in-TooMany.ensures.polled (workers_same ds)), tt, λ j told e there end. tt)
 
 pub returns-in-Fault-clause-lanes : goal.returns-in-Fault-clause-lanes
 returns-in-Fault-clause-lanes g c =
@@ -136,6 +136,8 @@ returns-in-Fault-clause-turn g c first events t =
       (events, step_halts g.S.Tail.takes g.S.Tail.refuses first ns ds ds c.args.hub.now events c.args.file n c.next.new.self t at more (workers_same ds)),
       subst (λ e. BlamesTold (told_in (feed_views (set ns c.args.file c.next.new.self))) e) (sym c.feed_fault.ensures)
           (step_blames ns c.args.file n c.next.new.self c.in-Fault.fault at c.in-Fault.ensures.polled),
+      subst (λ e. PrecedesTold (told_in (feed_views (set ns c.args.file c.next.new.self))) e) (sym c.feed_fault.ensures)
+          (lane_precedes ns ds events c.args.file n c.next.new.self c.in-Fault.fault t.known at c.in-Fault.ensures.polled),
     )
 
 pub returns-then-is_far-clause-turn : goal.returns-then-is_far-clause-turn

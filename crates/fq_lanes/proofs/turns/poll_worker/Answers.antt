@@ -55,7 +55,7 @@ returns-in-Err-clause-turn g c first vs events t =
     let got = rw c.in-Some-default-Ok.field-0-1-is at c.in-Some-default-Ok.ensures.taken in
     let out = step_offer g.S.Tail.takes first vs ds c.args.hub.now events c.args.worker (c.in-Some-default-Ok.file, c.in-Some-default-Ok.serial) c.in-Some-default-Ok.out d c.receive.new.self t at c.receive.ensures.jobs got.0 got.1 in
     let now : List (Event g.row.S-Out.Denot) = events ++ Offer c.in-Some-default-Ok.file c.in-Some-default-Ok.serial c.in-Some-default-Ok.out ∷ [] in
-    ((now, step_stops g.S.Tail.takes g.S.Tail.refuses first vs (worker_views (set ds c.args.worker c.receive.new.self)) c.args.hub.now c.offer.new.self.tail now out.1 (c.in-Err.ensures.handed first events t.handed out.0) t.files), tt)
+    ((now, step_stops g.S.Tail.takes g.S.Tail.refuses first vs (worker_views (set ds c.args.worker c.receive.new.self)) c.args.hub.now c.offer.new.self.tail now out.1 (c.in-Err.ensures.handed first events t.handed out.0) t.files), tt, λ j told e there end. tt)
 
 pub returns-in-Some-default-Err-clause-workers : goal.returns-in-Some-default-Err-clause-workers
 returns-in-Some-default-Err-clause-workers g c =
@@ -67,4 +67,4 @@ returns-in-Some-default-Err-clause-turn g c first vs events t =
     let d = c.index_mut.result.now in
     let at = get_or_place ds c.args.worker d (omega (arith, c.requires.worker)) c.index_mut.ensures.value in
     let grow = worker_grows ds c.args.worker d c.receive.new.self at (worker_received c.receive.result (worker_view d) (worker_view c.receive.new.self) c.receive.ensures.jobs c.receive.ensures.taken) in
-    ((events, step_fails g.S.Tail.takes g.S.Tail.refuses first vs (worker_views ds) (worker_views (set ds c.args.worker c.receive.new.self)) c.args.hub.now events t grow), tt)
+    ((events, step_fails g.S.Tail.takes g.S.Tail.refuses first vs (worker_views ds) (worker_views (set ds c.args.worker c.receive.new.self)) c.args.hub.now events t grow), tt, λ j told e there end. tt)

@@ -1,4 +1,4 @@
-use Rattle.std.proofs.Common.{◌∙◌, ℕ, sym, subst}
+use Rattle.std.proofs.Common.{◌∙◌, ℕ, ap, sym, subst}
 use Rattle.fq_shell.specs.Arguments.{named_by}
 use Rattle.fq_messages.specs.Ending.{code_of}
 use Rattle.fq_messages.proofs.EndingLemmas.{ended-as, ended-well}
@@ -18,7 +18,12 @@ returns-clause-status g c text inputs known tell =
 pub returns-clause-output : goal.returns-clause-output
 returns-clause-output g c text inputs known tell none done =
     let ended = ended-well c.run_named-ending.result (sym c.answer_ending.ensures.code ∙ done) (c.run_named-ending.ensures.printed text inputs known tell) in
-    (ended.0, ended.1, ended.2 none)
+    (ended.0, ended.1, ended.2.here none)
+
+pub returns-clause-placed : goal.returns-clause-placed
+returns-clause-placed g c text inputs name known tell some done =
+    let ended = ended-well c.run_named-ending.result (sym c.answer_ending.ensures.code ∙ done) (c.run_named-ending.ensures.printed text inputs known tell) in
+    (ended.0, ended.1, λ bytes was. ap (λ k. k name) c.answer_ending.ensures.same ∙ ended.2.there name some bytes was)
 
 pub returns-clause-quiet : goal.returns-clause-quiet
 returns-clause-quiet g c done = ended-well c.run_named-ending.result (sym c.answer_ending.ensures.code ∙ done) c.answer_ending.ensures.quiet

@@ -8,16 +8,16 @@ use Rattle.fq_messages.specs.declared.failures.Failure.TheVariants.{Run}
 use Rattle.fq_program.proofs.CheckLemmas.{read-checked, review-comes, review-counted, review-refused}
 use Rattle.fq_program.proofs.command_line.check_counted.Goals as goal
 
-pub returns-in_err-count_files : goal.returns-in_err-count_files
-returns-in_err-count_files g c inputs tell fine =
+pub returns-in_err-count_files-clause-checked : goal.returns-in_err-count_files-clause-checked
+returns-in_err-count_files-clause-checked g c inputs tell fine =
     let exit = err_from_is_err_and c.from_residual.result c.from_residual.ensures.1 in
     let many = sym (length-map c.files.result.now (λ name. name.now)) ∙ ap length c.files.ensures in
     let differs : length (named_by c.args.options.now).files ≢ files_wanted c.args.plan.now = λ same. c.in_err-count_files.ensures.wrong.0 (many ∙ same) in
     let is = exit.2 ∙ c.in_err-count_files.ensures.wrong.1 ∙ ap (λ (n : ℕ). Run (Inputs (files_wanted c.args.plan.now) n)) many in
     rw exit.1 (inl (review-refused (g.O.Opener.bytes_of c.args.files.now) c.args.plan.now (named_by c.args.options.now).files inputs tell differs ∙ sym (ap Err is)))
 
-pub returns : goal.returns
-returns g c inputs tell fine = elim c.in_ok-plan.ensures [
+pub returns-clause-checked : goal.returns-clause-checked
+returns-clause-checked g c inputs tell fine = elim c.in_ok-plan.ensures [
   | inl spelled ↦
       let many = sym (length-map c.files.result.now (λ name. name.now)) ∙ ap length c.files.ensures in
       let same = read-checked c.args.text.now c.in_ok-plan.plan c.args.plan.now (sym spelled) fine in

@@ -38,7 +38,8 @@ returns-clause-early g c differs =
     absurd (differs (sym many ∙ c.in_ok-count_files.ensures.right))
 
 pub returns-clause-printed : goal.returns-clause-printed
-returns-clause-printed g c inputs tell = c.write_frame.ensures.printed inputs (c.in_ok-inputs.ensures.told inputs (rw c.files-names.ensures tell))
+returns-clause-printed g c inputs tell =
+    rw c.open_all.ensures.same at c.write_frame.ensures.printed inputs (c.in_ok-inputs.ensures.told inputs (rw c.files-names.ensures tell))
 
 pub returns-clause-failed : goal.returns-clause-failed
 returns-clause-failed g c inputs tell = c.write_frame.ensures.failed inputs (c.in_ok-inputs.ensures.told inputs (rw c.files-names.ensures tell))

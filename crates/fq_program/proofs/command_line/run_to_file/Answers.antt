@@ -1,11 +1,14 @@
-use Rattle.std.proofs.Common.{inr}
-use Rattle.fq_program.proofs.NamedLemmas.{settings-in-range}
+use Rattle.std.proofs.Common.{inr, subst}
+use Rattle.std.specs.Io.KnownBytes.{Appends}
+use Rattle.fq_csv.specs.Printed.{printed_in}
+use Rattle.fq_program.proofs.NamedLemmas.{settings-in-range, written-whole}
 use Rattle.fq_program.proofs.command_line.run_to_file.Goals as goal
 
-pub returns-in-Ok-keep-clause-kept : goal.returns-in-Ok-keep-clause-kept
-returns-in-Ok-keep-clause-kept g c texts tell =
+pub returns-in-Ok-keep-clause-placed : goal.returns-in-Ok-keep-clause-placed
+returns-in-Ok-keep-clause-placed g c texts tell =
     let ran = rw c.in-Ok.is at (c.run_over-answer.ensures.printed texts tell) in
-    (ran.0, ran.1)
+    let whole = subst (λ w. Appends (g.O.Output.Write.contents w) (g.O.Output.Write.contents c.run_over-answer.new.out.writer) (printed_in c.args.plan.now.notations ran.0)) c.new-output.ensures.writer ran.2 in
+    (ran.0, ran.1, λ empty bytes was. c.in-Ok-keep.ensures.placed bytes _ was (written-whole _ _ _ whole empty))
 
 pub returns-in-Err-keep-clause-failed : goal.returns-in-Err-keep-clause-failed
 returns-in-Err-keep-clause-failed g c texts tell = inr c.failure_of_write.ensures

@@ -30,6 +30,15 @@ returns-in-Ok-clause-output g c text inputs run tell none done =
     let ended = c.answer_run.ensures.output text inputs told tells here done in
     (ended.0, ap (λ (names : Names). outcome_of names text inputs) (sym named) ∙ ended.1, ended.2)
 
+pub returns-in-Ok-clause-placed : goal.returns-in-Ok-clause-placed
+returns-in-Ok-clause-placed g c text inputs name run tell some done =
+    let named : named_by c.in-Ok.options ≡ names_of (map string_bytes c.args.words.items) = rw c.as_slice.ensures.value at c.in-Ok.ensures.taken.1 in
+    let told = subst (λ (names : Names). plan_text (g.O.Opener.bytes_of c.args.files.now) names ≡ Some text) (sym named) run.plan in
+    let tells = subst (λ (names : Names). Tell (g.O.Opener.bytes_of c.args.files.now) names.files inputs) (sym named) tell in
+    let there = subst (λ (names : Names). names.output ≡ Some name) (sym named) some in
+    let ended = c.answer_run.ensures.placed text inputs name told tells there done in
+    (ended.0, ap (λ (names : Names). outcome_of names text inputs) (sym named) ∙ ended.1, ended.2)
+
 pub returns-in-Ok-clause-elsewhere : goal.returns-in-Ok-clause-elsewhere
 returns-in-Ok-clause-elsewhere g c run there =
     let named : named_by c.in-Ok.options ≡ names_of (map string_bytes c.args.words.items) = rw c.as_slice.ensures.value at c.in-Ok.ensures.taken.1 in

@@ -1,7 +1,6 @@
 use Rattle.std.proofs.Common.{◌∙◌, ◌++◌, ◌∷◌, [], ap, map, sym, Some, inl}
 use Rattle.std.proofs.lemmas.List.{map-append}
 use Rattle.std.proofs.lemmas.Result.{err_from_is_err_and}
-use Rattle.fq_column.specs.Frame.{Fields}
 use Rattle.fq_column.specs.Refusal.{first_refusal}
 use Rattle.fq_column.specs.Schema.{schema_checks}
 use Rattle.fq_csv.specs.Sources.{Source, source_of_files}
@@ -15,10 +14,10 @@ returns-in_err-schema-clause-refused c =
 
 pub returns-clause-source : goal.returns-clause-source
 returns-clause-source c =
+    let fields = c.in_ok-schema.ensures.ok ∙ fields_of-columns c.args.source.columns.items _ _ c.in_ok-names.ensures.names c.in_ok-names.ensures.kinds in
     ap (map source_of_files) c.in_ok-push.ensures.items
     ∙ map-append source_of_files c.args.checked.now.items _
-    ∙ ap (λ (fields : Fields). let s : Source = record { files = c.args.source.files; fields = fields; nulls = c.args.source.nulls } in map source_of_files c.args.checked.now.items ++ (s ∷ []))
-    (c.in_ok-schema.ensures.ok ∙ fields_of-columns c.args.source.columns.items _ _ c.in_ok-names.ensures.names c.in_ok-names.ensures.kinds)
+    ∙ (λ i. let s : Source = record { files = c.args.source.files; fields = fields i; nulls = c.args.source.nulls; notations = c.plain.ensures i; projection = c.all.ensures i } in map source_of_files c.args.checked.now.items ++ (s ∷ []))
 
 pub returns-clause-passed : goal.returns-clause-passed
 returns-clause-passed c =

@@ -9,10 +9,13 @@ use Rattle.std.proofs.lemmas.Option.{slice_get-map}
 use Rattle.csv.specs.Records.{fields_of}
 use Rattle.fq_column.proofs.SchemaLemmas.{slice_get-at}
 use Rattle.fq_csv.proofs.ReaderLemmas.{field-gone, field-there}
+use Rattle.fq_column.specs.Frame.{Field, kinds_of}
+use Rattle.fq_notation.specs.declared.notations.Notation.TheVariants.{Plain}
 use Rattle.fq_csv.specs.Field.{cell_under}
+use Rattle.fq_csv.proofs.NotedLemmas.{length-noted, noted-at}
 use Rattle.fq_review.specs.Checked.{layout_of}
 use Rattle.fq_review.specs.declared.checks.Check.{Check}
-use Rattle.fq_review.proofs.CheckLemmas.{and-false, and-true, cells-more, is_of_column}
+use Rattle.fq_review.proofs.CheckLemmas.{and-false, and-true, cells-more, forms, is_of_column}
 use Rattle.fq_review.proofs.checks.Check.judge_fields.Goals as goal
 use Rattle.fq_review.proofs.checks.Check.judge_fields.Goals.{then-not-is_cell+in_ok-count, else-not-is_cell}
 
@@ -31,12 +34,13 @@ loop-place-preserved g c =
     let column = c.index-columns-place-in-loop-place.result in
     let field = c.in-Some.field.now in
     let old = c.args.self.now.problems == 0 in
-    let before = list_all (is_of_column layout) (zip (take i layout.schema) (take i fs)) in
-    let at = slice_get-map (λ d. (string_bytes d.0, d.1)) columns i ∙ ap (option_map (λ d. (string_bytes d.0, d.1))) (slice_get-at columns i column (omega (arith, c.loop-place-test.true)) c.index-columns-place-in-loop-place.is) in
-    let more = cells-more layout layout.schema fs i (string_bytes column.0, column.1) field at (sym (c.in-Some.ensures.value ∙ field-there fs i)) in
-    let cell = is_some (cell_under layout.nulls column.1 field) in
+    let before = list_all (is_of_column layout) (zip (take i (forms layout)) (take i fs)) in
+    let named = slice_get-map (λ d. (string_bytes d.0, d.1)) columns i ∙ ap (option_map (λ d. (string_bytes d.0, d.1))) (slice_get-at columns i column (omega (arith, c.loop-place-test.true)) c.index-columns-place-in-loop-place.is) in
+    let at = noted-at layout.notations (kinds_of layout.schema) i column.1 (slice_get-map (λ (f : Field). f.1) layout.schema i ∙ ap (option_map (λ (f : Field). f.1)) named) in
+    let more = cells-more layout (forms layout) fs i (column.1, Plain) field at (sym (c.in-Some.ensures.value ∙ field-there fs i)) in
+    let cell = is_some (cell_under layout.nulls column.1 Plain field) in
     let all = ap (λ b. old && b) more in
-    let judged = ap (λ d. is_some (cell_under layout.nulls d.1 field)) c.index-columns-place-in-loop-place.is ∙ sym c.is_cell.ensures in
+    let judged = ap (λ d. is_some (cell_under layout.nulls d.1 Plain field)) c.index-columns-place-in-loop-place.is ∙ sym c.is_cell.ensures in
     elim c.if-not-is_cell.branch [
       | then-not-is_cell+in_ok-count w ↦
           let bad : cell ≡ false = judged ∙ w.if-not-is_cell.true in
@@ -57,8 +61,9 @@ returns g c =
     let old = c.args.self.now.problems == 0 in
     let size : length layout.schema ≡ length columns = length-map _ _ in
     let wide : (length fs == length layout.schema) ≡ true = grind (arith, nat_tests, size, c.len.ensures, c.if-len-columns.false) in
-    let fields_all : take i layout.schema ≡ layout.schema = take_all i layout.schema (omega (arith, size, c.loop-place-test.false)) in
+    let formed = length-noted layout.notations (kinds_of layout.schema) ∙ length-map _ _ in
+    let fields_all : take i (forms layout) ≡ forms layout = take_all i (forms layout) (omega (arith, formed, size, c.loop-place-test.false)) in
     let cells_all : take i fs ≡ fs = take_all i fs (omega (arith, c.len.ensures, c.if-len-columns.false, c.loop-place-test.false)) in
     c.loop-place.invariant
     ∙ (λ k. old && list_all (is_of_column layout) (zip (fields_all k) (cells_all k)))
-    ∙ sym (ap (λ b. old && (b && list_all (is_of_column layout) (zip layout.schema fs))) wide)
+    ∙ sym (ap (λ b. old && (b && list_all (is_of_column layout) (zip (forms layout) fs))) wide)

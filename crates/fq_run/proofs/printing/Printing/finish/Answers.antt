@@ -24,4 +24,4 @@ returns g c =
     r.4
     ∙ ap (λ (bs : List ℕ). bs ++ text_of r.1) (IfOk-at_ok _ r.2 c.loop-part.invariant.1 ∙ ap (λ (ps : List Part). text_of c.args.self.text ++ flat_map part_text ps) (sym all))
     ∙ ap (λ (bs : List ℕ). (text_of c.args.self.text ++ flat_map part_text c.args.self.parts.items) ++ bs) (IfOk-at_ok _ r.3 c.of_rows-last.ensures)
-    ∙ append_assoc (text_of c.args.self.text) (flat_map part_text c.args.self.parts.items) (rows_text c.args.self.batches.items)) c.followed_by.ensures
+    ∙ append_assoc (text_of c.args.self.text) (flat_map part_text c.args.self.parts.items) (rows_text c.args.self.press.notations.now c.args.self.batches.items)) c.followed_by.ensures

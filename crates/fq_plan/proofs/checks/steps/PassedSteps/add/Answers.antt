@@ -17,7 +17,7 @@ returns-in_ok-push-in-Rows-clause-leads c main h =
     let none : length p.stages.items ≡ 0 = grind (arith, nat_tests, c.is_empty.ensures, c.if-is_empty.true, p.stages.ok.0) in
     lead-further (columns_of c.args.sides.now) p (map step_of c.push.new.self.items) (step_of step) c.in_ok-self-in-Rows.field-0 main none
     (ap (map step_of) c.in_ok-push-in-Rows.ensures.items ∙ map-append step_of p.leading.items (step ∷ []))
-    (judged-ok (step_schema p.after_leading (step_of step)) c.in_ok-self-in-Rows.field-0 c.in_ok-self-in-Rows.ensures) h
+    (judged-ok (step_schema p.after_leading (step_of step)) c.in_ok-self-in-Rows.field-0 c.in_ok-self-in-Rows.ensures.judged) h
 
 pub returns-in_ok-push-in_default-clause-leads : goal.returns-in_ok-push-in_default-clause-leads
 returns-in_ok-push-in_default-clause-leads c main h =
