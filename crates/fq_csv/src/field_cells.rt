@@ -97,37 +97,37 @@ fn is_known_cell(
 /// Allocates for a text that is kept, and if the column grows.
 pub(crate) fn push_field(
     column: &mut Column,
-    reading: Reading,
+    reading: &Reading,
     field: &[u8],
     is_text: bool,
     nulls: &NullValues,
 ) -> Result<bool, Memory>
     requires { is_text ≡ true → IsUtf8 field.now }
     ensures good { IfOk result (λ good. MatchBool good
-        ((cell : Cell) × (cell_under nulls.now column.old.kind reading.notation field.now ≡ Some cell) × (column.new ≡ with_cell column.old (masked_cell reading.is_kept cell)))
-        ((cell_under nulls.now column.old.kind reading.notation field.now ≡ None) × (column.new ≡ column.old))) }
+        ((cell : Cell) × (cell_under nulls.now column.old.kind reading.now.notation field.now ≡ Some cell) × (column.new ≡ with_cell column.old (masked_cell reading.now.is_kept cell)))
+        ((cell_under nulls.now column.old.kind reading.now.notation field.now ≡ None) × (column.new ≡ column.old))) }
 {
     if reading.is_kept {
-        push_cell(column, reading.notation, field, is_text, nulls)
+        push_cell(column, reading, field, is_text, nulls)
     } else {
-        push_judged(column, reading.notation, field, is_text, nulls)
+        push_judged(column, reading, field, is_text, nulls)
     }
 }
 
 /// Judges a field, and appends null in the place of the cell that it is.
 fn push_judged(
     column: &mut Column,
-    notation: Notation,
+    reading: &Reading,
     field: &[u8],
     is_text: bool,
     nulls: &NullValues,
 ) -> Result<bool, Memory>
     requires { is_text ≡ true → IsUtf8 field.now }
     ensures good { IfOk result (λ good. MatchBool good
-        ((cell : Cell) × (cell_under nulls.now column.old.kind notation field.now ≡ Some cell) × (column.new ≡ with_cell column.old Cell.Null))
-        ((cell_under nulls.now column.old.kind notation field.now ≡ None) × (column.new ≡ column.old))) }
+        ((cell : Cell) × (cell_under nulls.now column.old.kind reading.now.notation field.now ≡ Some cell) × (column.new ≡ with_cell column.old Cell.Null))
+        ((cell_under nulls.now column.old.kind reading.now.notation field.now ≡ None) × (column.new ≡ column.old))) }
 {
-    if !is_known_cell(field, column.kind(), notation, is_text, nulls) {
+    if !is_known_cell(field, column.kind(), reading.notation, is_text, nulls) {
         return Ok(false);
     }
     column.push_null()?;
@@ -137,22 +137,22 @@ fn push_judged(
 /// Appends the cell that a field is.
 fn push_cell(
     column: &mut Column,
-    notation: Notation,
+    reading: &Reading,
     field: &[u8],
     is_text: bool,
     nulls: &NullValues,
 ) -> Result<bool, Memory>
     requires { is_text ≡ true → IsUtf8 field.now }
     ensures good { IfOk result (λ good. MatchBool good
-        ((cell : Cell) × (cell_under nulls.now column.old.kind notation field.now ≡ Some cell) × (column.new ≡ with_cell column.old cell))
-        ((cell_under nulls.now column.old.kind notation field.now ≡ None) × (column.new ≡ column.old))) }
+        ((cell : Cell) × (cell_under nulls.now column.old.kind reading.now.notation field.now ≡ Some cell) × (column.new ≡ with_cell column.old cell))
+        ((cell_under nulls.now column.old.kind reading.now.notation field.now ≡ None) × (column.new ≡ column.old))) }
 {
     if is_null(field, nulls) {
         column.push_null()?;
         return Ok(true);
     }
     match column.kind() {
-        Kind::Whole => match notation.int(field) {
+        Kind::Whole => match reading.notation.int(field) {
             Some(value) => column.push_whole(value)?,
             None => return Ok(false),
         },

@@ -15,8 +15,8 @@ ghost use Rattle.fq_csv.specs.declared.scans.Scan.TheVariants.{Batch, End};
 
 /// What a scanner hands out, call by call, is the pieces of its stream's rows with serials in order, and then their
 /// number and the stream's end; if a read or an allocation fails, it is the first of these. If no text is read as null
-/// and no column has a notation, each field is read by its column's kind alone. Which columns are kept changes no fault: their stream is that of all columns,
-/// with null in the place of the cells that are not kept.
+/// and no column has a notation, each field is read by its column's kind alone. Which columns are kept changes no fault:
+/// their stream is that of all columns, with null in the place of the cells that are not kept.
 pub fn scan_laws()
     ensures plain { (file limit : ℕ) (fields : Fields) (bytes : List ℕ) → file_stream file (plain fields) limit bytes ≡ stream_by cell_of [] [] file fields limit bytes }
     ensures projection { (file limit : ℕ) (layout : Layout) (bytes : List ℕ)

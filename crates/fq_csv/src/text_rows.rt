@@ -56,7 +56,8 @@ fn push_record(
         let Some(field) = row.get(i) else {
             unreachable!()
         };
-        if !push_field(&mut columns[i], readings[i], field, is_ascii, &layout.nulls)? {
+        let reading = &readings[i];
+        if !push_field(&mut columns[i], reading, field, is_ascii, &layout.nulls)? {
             cut_columns(columns, height as usize);
             return Ok(Some(NoRow::BadCell(i as u16)));
         }

@@ -1,5 +1,5 @@
 -- Digits that follow those of a number, and the digits that a text begins with.
-use Rattle.std.proofs.Common.{◌≡◌, ◌<◌, ◌≤◌, ◌^◌, ◌+◌, ◌-◌, ◌*◌, ◌∙◌, ℕ, zero, suc, ℤ, pos, neg_ℤ, Bool, Some, None, cond, List, [], ◌∷◌, ◌++◌, true, false, ap, arith, refl, sym, inl, inr, length, length-append, slice_index_or}
+use Rattle.std.proofs.Common.{◌≡◌, ◌<◌, ◌≤◌, ◌^◌, ◌+◌, ◌-◌, ◌*◌, ◌∙◌, ℕ, zero, suc, pos, neg_ℤ, Bool, Some, None, cond, List, [], ◌∷◌, ◌++◌, true, false, ap, arith, refl, sym, inl, inr, length, length-append, slice_index_or}
 use Rattle.std.specs.Prelude.{◌&&◌}
 use Rattle.std.specs.Char.{digit_value, is_ascii_digit}
 use Rattle.std.specs.Str.{all_ascii_digits}

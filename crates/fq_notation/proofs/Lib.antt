@@ -3,3 +3,4 @@ pub mod DecimalLemmas
 pub mod PrintLemmas
 pub mod DateLemmas
 pub mod LawLemmas
+pub mod NamedLemmas

@@ -9,6 +9,7 @@ use jiff_core::civil::Date;
 
 /// The int that a field is as a date, `YYYY-MM-DD`: year * 10,000 + month * 100 + day, if the Gregorian calendar has that day and its
 /// year is 1 to 9999.
+#[inline(never)]
 pub fn date(field: &[u8]) -> Option<i64>
     ensures { result ≡ date_of field.now }
 {

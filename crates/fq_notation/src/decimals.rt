@@ -45,7 +45,7 @@ const POWERS: [u64; 19] = [
 /// The int that a field is as a decimal of this scale: the number that it spells, times 10^scale, if that is a whole number within 64 bits.
 ///
 /// An optional sign, digits, and optionally a point and more digits; one digit at least. Nothing is rounded: digits past the scale are `0`.
-#[inline]
+#[inline(never)]
 pub fn decimal(field: &[u8], scale: Scale) -> Option<i64>
     ensures { result ≡ decimal_of scale field.now }
 {

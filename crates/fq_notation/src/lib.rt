@@ -6,6 +6,7 @@ mod dates;
 mod decimals;
 mod digits;
 mod laws;
+mod named;
 mod notations;
 mod scales;
 #[cfg(test)]
@@ -17,6 +18,7 @@ pub use dates::{date, date_text};
 pub use decimals::{decimal, decimal_text};
 pub use digits::whole;
 pub use laws::notation_laws;
+pub use named::NamedNotations;
 pub use notations::Notation;
 pub use scales::Scale;
 pub use texts::IntText;

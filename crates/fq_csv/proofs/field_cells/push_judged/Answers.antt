@@ -11,6 +11,6 @@ pub returns : goal.returns
 returns c =
     let nulls = c.args.nulls.now in
     let field = c.args.field.now in
-    let judged : is_some (cell_under nulls c.args.column.now.kind c.args.notation field) ≡ true = ap (λ k. is_some (cell_under nulls k c.args.notation field)) (sym c.kind.ensures) ∙ sym c.is_known_cell.ensures ∙ c.if-not-is_known_cell.false in
-    let cell = the-cell (cell_under nulls c.args.column.now.kind c.args.notation field) judged in
+    let judged : is_some (cell_under nulls c.args.column.now.kind c.args.reading.now.notation field) ≡ true = ap (λ k. is_some (cell_under nulls k c.args.reading.now.notation field)) (sym c.kind.ensures) ∙ sym c.is_known_cell.ensures ∙ c.if-not-is_known_cell.false in
+    let cell = the-cell (cell_under nulls c.args.column.now.kind c.args.reading.now.notation field) judged in
     record { good = (cell.0, cell.1, c.in_ok-push_null.ensures.ok) }

@@ -1,10 +1,8 @@
-use Rattle.std.proofs.Common.{◌≡◌, ◌<◌, ◌≤◌, ◌^◌, ◌∙◌, ◌-ℤ◌, arith, length, sym, ℕ, ℤ, List, pos, neg_ℤ, suc, true, zero, to_z, of_z, w64}
-use Rattle.std.specs.Str.Parse.{digits_value_after}
+use Rattle.std.proofs.Common.{◌≡◌, ◌<◌, ◌^◌, ◌∙◌, ◌-ℤ◌, arith, length, sym, ℕ, ℤ, pos, neg_ℤ, suc, zero, to_z, of_z, w64}
 use Rattle.std.proofs.Math.IntN.{+ℤ_idl}
 use Rattle.std.proofs.lemmas.Bool.{eqb-false, eqb-true}
 use Rattle.std.proofs.lemmas.Int.{to_z-of_z, to_z_pos}
 use mir.Val.{SFits}
-use Rattle.fq_notation.specs.Digits.{leading_digits}
 use Rattle.fq_notation.proofs.DigitLemmas.{alone, few, few-whole, no-whole, not-alone}
 use Rattle.fq_notation.proofs.digits.whole.Goals as goal
 

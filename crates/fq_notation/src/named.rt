@@ -1,0 +1,72 @@
+//! Notations by the names of columns.
+ghost use Rattle.std.specs.Prelude.{◌≡◌, IfOk, find, map, option_map};
+ghost use Rattle.fq_column.specs.Frame.{same_name};
+ghost use Rattle.fq_notation.specs.Notation.{notation_in};
+
+use crate::columns::Notations;
+use crate::notations::Notation;
+use fq_column::{Kind, Memory, Schema};
+use std::alloc::Global;
+use std::marker::Model;
+
+/// Notations of ints by the names of the columns that they are of; the ints of a column of another name are in digits.
+///
+/// Where a name stands twice, the first notation is that of its columns.
+#[derive(Debug, Drop)]
+pub struct NamedNotations<'a> {
+    named: Vec<(&'a str, Notation)>,
+}
+
+impl<'a> Model for NamedNotations<'a> {
+    ghost use Rattle.std.specs.Prelude.{List, map};
+    ghost use Rattle.fq_notation.specs.Notation.{Named};
+
+    ghost Value = { List Named };
+
+    ghost view = { λ n. map (λ entry. (entry.0.now, entry.1)) n.named.items };
+}
+
+impl<'a> NamedNotations<'a> {
+    /// These names, each with its notation.
+    pub fn new(named: Vec<(&'a str, Notation)>) -> NamedNotations<'a>
+        ensures { result ≡ map (λ entry. (entry.0.now, entry.1)) named.entry.items }
+    {
+        NamedNotations { named }
+    }
+
+    /// The names, each with its notation.
+    pub fn entries(&self) -> &[(&'a str, Notation)]
+        ensures { map (λ entry. (entry.0.now, entry.1)) result.now ≡ self.now }
+    {
+        self.named.as_slice()
+    }
+
+    /// The notation of a column of this name and kind: one of another kind than int is read and printed as it is.
+    pub fn of(&self, name: &str, kind: Kind) -> Notation
+        ensures { result ≡ notation_in self.now (name.now, kind) }
+    {
+        match kind {
+            Kind::Whole => first_under(name, self.named.as_slice()).unwrap_or(Notation::Plain),
+            Kind::Text | Kind::Truth => Notation::Plain,
+        }
+    }
+
+    /// The notations of the columns of a schema. `Memory` if an allocation fails.
+    pub fn of_columns(&self, alloc: Global, columns: &Schema) -> Result<Notations, Memory>
+        ensures { IfOk result (λ notations. notations ≡ map (notation_in self.now) columns.now) }
+    {
+        let mut notations = Vec::with_capacity(alloc, columns.len())?;
+        for column in 0..columns.len() {
+            notations.push(self.of(columns.name(column), columns.kind(column)))?;
+        }
+        Ok(Notations::new(notations))
+    }
+}
+
+/// The notation of the first entry under a name.
+fn first_under(name: &str, named: &[(&str, Notation)]) -> Option<Notation>
+    ensures { result ≡ option_map (λ entry. entry.1) (find (λ entry. same_name entry.0.now name.now) named.now) }
+{
+    let entry = named.iter().find(|entry| entry.0 == name)?;
+    Some(entry.1)
+}
