@@ -1,5 +1,5 @@
 //! Notations by the names of columns.
-ghost use Rattle.std.specs.Prelude.{◌≡◌, IfOk, find, map, option_map};
+ghost use Rattle.std.specs.Prelude.{◌≡◌, IfOk, find, map, option_map, string_bytes};
 ghost use Rattle.fq_column.specs.Frame.{same_name};
 ghost use Rattle.fq_notation.specs.Notation.{notation_in};
 
@@ -13,30 +13,30 @@ use std::marker::Model;
 ///
 /// Where a name stands twice, the first notation is that of its columns.
 #[derive(Debug, Drop)]
-pub struct NamedNotations<'a> {
-    named: Vec<(&'a str, Notation)>,
+pub struct NamedNotations {
+    named: Vec<(String, Notation)>,
 }
 
-impl<'a> Model for NamedNotations<'a> {
-    ghost use Rattle.std.specs.Prelude.{List, map};
+impl Model for NamedNotations {
+    ghost use Rattle.std.specs.Prelude.{List, map, string_bytes};
     ghost use Rattle.fq_notation.specs.Notation.{Named};
 
     ghost Value = { List Named };
 
-    ghost view = { λ n. map (λ entry. (entry.0.now, entry.1)) n.named.items };
+    ghost view = { λ n. map (λ entry. (string_bytes entry.0, entry.1)) n.named.items };
 }
 
-impl<'a> NamedNotations<'a> {
+impl NamedNotations {
     /// These names, each with its notation.
-    pub fn new(named: Vec<(&'a str, Notation)>) -> NamedNotations<'a>
-        ensures { result ≡ map (λ entry. (entry.0.now, entry.1)) named.entry.items }
+    pub fn new(named: Vec<(String, Notation)>) -> NamedNotations
+        ensures { result ≡ map (λ entry. (string_bytes entry.0, entry.1)) named.items }
     {
         NamedNotations { named }
     }
 
     /// The names, each with its notation.
-    pub fn entries(&self) -> &[(&'a str, Notation)]
-        ensures { map (λ entry. (entry.0.now, entry.1)) result.now ≡ self.now }
+    pub fn entries(&self) -> &[(String, Notation)]
+        ensures { map (λ entry. (string_bytes entry.0, entry.1)) result.now ≡ self.now }
     {
         self.named.as_slice()
     }
@@ -64,9 +64,9 @@ impl<'a> NamedNotations<'a> {
 }
 
 /// The notation of the first entry under a name.
-fn first_under(name: &str, named: &[(&str, Notation)]) -> Option<Notation>
-    ensures { result ≡ option_map (λ entry. entry.1) (find (λ entry. same_name entry.0.now name.now) named.now) }
+fn first_under(name: &str, named: &[(String, Notation)]) -> Option<Notation>
+    ensures { result ≡ option_map (λ entry. entry.1) (find (λ entry. same_name (string_bytes entry.0) name.now) named.now) }
 {
-    let entry = named.iter().find(|entry| entry.0 == name)?;
+    let entry = named.iter().find(|entry| entry.0.as_str() == name)?;
     Some(entry.1)
 }

@@ -127,50 +127,54 @@ module _ (sides : List Fields) where
       judged_steps sides n fields (s ∷ rest) ≡ Err (refused_at (place.Step n) code)
   step-refused n fields s rest code e = ap (λ r. step_then n fields r (λ mid. judged_steps sides (n + 1) mid rest)) e
 
-  -- row-wise steps, and what follows them
-  pub rows-passed : (n : ℕ) (fields : Fields) (xs : List Step) (rest : List PlanStep) (after : Fields) → steps_schema fields xs ≡ Ok after →
-      refusal_in (judged_steps sides n fields (map row_wise xs ++ rest)) ≡ refusal_in (judged_steps sides (n + length xs) after rest)
-  rows-passed n fields [] rest after e =
-      ap (λ f. refusal_in (judged_steps sides n f rest)) (let q : fields ≡ after = cc in q)
-      ∙ ap (λ m. refusal_in (judged_steps sides m after rest)) (let q : n ≡ n + 0 = omega arith in q)
-  rows-passed n fields (x ∷ xs) rest after e = go (step_schema fields x) refl (λ mid. rows-passed (n + 1) mid xs rest after) e
-    where
-      go : (r : Result Fields StepFault) → step_schema fields x ≡ r →
-          ((mid : Fields) → steps_schema mid xs ≡ Ok after → refusal_in (judged_steps sides (n + 1) mid (map row_wise xs ++ rest)) ≡ refusal_in (judged_steps sides (n + 1 + length xs) after rest)) →
-          and_then r (λ mid. steps_schema mid xs) ≡ Ok after →
-          refusal_in (judged_steps sides n fields (row_wise x ∷ (map row_wise xs ++ rest))) ≡ refusal_in (judged_steps sides (n + suc (length xs)) after rest)
-      go (Err code) q ih h = absurd (cc)
-      go (Ok mid) q ih h =
-          step-passed n fields (row_wise x) (map row_wise xs ++ rest) mid q ∙ ih mid h
-          ∙ ap (λ m. refusal_in (judged_steps sides m after rest)) (let q : n + 1 + length xs ≡ n + suc (length xs) = omega arith in q)
+  -- below, what is asked of a judgement stays the same after a step that was judged
+  module _ {Y : Type 0} (ask : Result (List Fields) CheckFault → Y)
+      (further : (n : ℕ) (fields : Fields) (s : PlanStep) (rest : List PlanStep) (after : Fields) → judged_step sides fields s ≡ Ok after →
+      ask (judged_steps sides n fields (s ∷ rest)) ≡ ask (judged_steps sides (n + 1) after rest)) where
+    -- row-wise steps, and what follows them
+    pub rows-passed : (n : ℕ) (fields : Fields) (xs : List Step) (rest : List PlanStep) (after : Fields) → steps_schema fields xs ≡ Ok after →
+        ask (judged_steps sides n fields (map row_wise xs ++ rest)) ≡ ask (judged_steps sides (n + length xs) after rest)
+    rows-passed n fields [] rest after e =
+        ap (λ f. ask (judged_steps sides n f rest)) (let q : fields ≡ after = cc in q)
+        ∙ ap (λ m. ask (judged_steps sides m after rest)) (let q : n ≡ n + 0 = omega arith in q)
+    rows-passed n fields (x ∷ xs) rest after e = go (step_schema fields x) refl (λ mid. rows-passed (n + 1) mid xs rest after) e
+      where
+        go : (r : Result Fields StepFault) → step_schema fields x ≡ r →
+            ((mid : Fields) → steps_schema mid xs ≡ Ok after → ask (judged_steps sides (n + 1) mid (map row_wise xs ++ rest)) ≡ ask (judged_steps sides (n + 1 + length xs) after rest)) →
+            and_then r (λ mid. steps_schema mid xs) ≡ Ok after →
+            ask (judged_steps sides n fields (row_wise x ∷ (map row_wise xs ++ rest))) ≡ ask (judged_steps sides (n + suc (length xs)) after rest)
+        go (Err code) q ih h = absurd (cc)
+        go (Ok mid) q ih h =
+            further n fields (row_wise x) (map row_wise xs ++ rest) mid q ∙ ih mid h
+            ∙ ap (λ m. ask (judged_steps sides m after rest)) (let q : n + 1 + length xs ≡ n + suc (length xs) = omega arith in q)
 
-  operator-passed : (n : ℕ) (fields : Fields) (o : Operator) (rest : List PlanStep) (after : Fields) → LowersTo sides n fields o after →
-      refusal_in (judged_steps sides n fields (operator_steps o ++ rest)) ≡ refusal_in (judged_steps sides (n + length (operator_steps o)) after rest)
-  operator-passed n fields (Rows front) rest after t =
-      rows-passed n fields front.steps rest after t.2
-      ∙ ap (λ k. refusal_in (judged_steps sides (n + k) after rest)) (sym (length-map front.steps row_wise))
-  operator-passed n fields (Join j) rest after t = step-passed n fields (join (pos j.source) (map string_bytes j.on.items) j.how j.nulls_equal) rest after t
-  operator-passed n fields (GroupBy g) rest after t = step-passed n fields (group_by (map string_bytes g.keys.items) (outputs_of g.aggs.items)) rest after t
-  operator-passed n fields (RollingSum r) rest after t = step-passed n fields (rolling_sum (string_bytes r.column) (pos r.window) (pos r.min_samples) (string_bytes r.name)) rest after t
+    operator-passed : (n : ℕ) (fields : Fields) (o : Operator) (rest : List PlanStep) (after : Fields) → LowersTo sides n fields o after →
+        ask (judged_steps sides n fields (operator_steps o ++ rest)) ≡ ask (judged_steps sides (n + length (operator_steps o)) after rest)
+    operator-passed n fields (Rows front) rest after t =
+        rows-passed n fields front.steps rest after t.2
+        ∙ ap (λ k. ask (judged_steps sides (n + k) after rest)) (sym (length-map front.steps row_wise))
+    operator-passed n fields (Join j) rest after t = further n fields (join (pos j.source) (map string_bytes j.on.items) j.how j.nulls_equal) rest after t
+    operator-passed n fields (GroupBy g) rest after t = further n fields (group_by (map string_bytes g.keys.items) (outputs_of g.aggs.items)) rest after t
+    operator-passed n fields (RollingSum r) rest after t = further n fields (rolling_sum (string_bytes r.column) (pos r.window) (pos r.min_samples) (string_bytes r.name)) rest after t
 
-  -- stages, and what follows them
-  pub stages-passed : (n : ℕ) (fields : Fields) (stages : List Stage) (rest : List PlanStep) (after : Fields) → Leads sides n fields stages after →
-      refusal_in (judged_steps sides n fields (stage_steps stages ++ rest)) ≡ refusal_in (judged_steps sides (n + length (stage_steps stages)) after rest)
-  stages-passed n fields [] rest after h =
-      ap (λ f. refusal_in (judged_steps sides n f rest)) h
-      ∙ ap (λ m. refusal_in (judged_steps sides m after rest)) (let q : n ≡ n + 0 = omega arith in q)
-  stages-passed n fields (s ∷ stages) rest after h =
-      let steps = operator_steps s.operator in
-      ap (λ ss. refusal_in (judged_steps sides n fields ss)) (append_assoc steps (stage_steps stages) rest)
-      ∙ operator-passed n fields s.operator (stage_steps stages ++ rest) s.after h.1
-      ∙ stages-passed (n + length steps) s.after stages rest after h.2
-      ∙ ap (λ m. refusal_in (judged_steps sides m after rest)) (omega (arith, length-append steps (stage_steps stages)))
+    -- stages, and what follows them
+    pub stages-passed : (n : ℕ) (fields : Fields) (stages : List Stage) (rest : List PlanStep) (after : Fields) → Leads sides n fields stages after →
+        ask (judged_steps sides n fields (stage_steps stages ++ rest)) ≡ ask (judged_steps sides (n + length (stage_steps stages)) after rest)
+    stages-passed n fields [] rest after h =
+        ap (λ f. ask (judged_steps sides n f rest)) h
+        ∙ ap (λ m. ask (judged_steps sides m after rest)) (let q : n ≡ n + 0 = omega arith in q)
+    stages-passed n fields (s ∷ stages) rest after h =
+        let steps = operator_steps s.operator in
+        ap (λ ss. ask (judged_steps sides n fields ss)) (append_assoc steps (stage_steps stages) rest)
+        ∙ operator-passed n fields s.operator (stage_steps stages ++ rest) s.after h.1
+        ∙ stages-passed (n + length steps) s.after stages rest after h.2
+        ∙ ap (λ m. ask (judged_steps sides m after rest)) (omega (arith, length-append steps (stage_steps stages)))
 
   pub stages-refused : (n : ℕ) (fields : Fields) (stages : List Stage) (s : PlanStep) (rest : List PlanStep) (mid : Fields) (code : StepFault) → Leads sides n fields stages mid →
       judged_step sides mid s ≡ Err code → judged_steps sides n fields (stage_steps stages ++ (s ∷ rest)) ≡ Err (refused_at (place.Step (n + length (stage_steps stages))) code)
   stages-refused n fields stages s rest mid code h e =
       refusal-is (judged_steps sides n fields (stage_steps stages ++ (s ∷ rest))) (refused_at (place.Step (n + length (stage_steps stages))) code)
-      (stages-passed n fields stages (s ∷ rest) mid h ∙ ap refusal_in (step-refused (n + length (stage_steps stages)) mid s rest code e))
+      (stages-passed refusal_in step-passed n fields stages (s ∷ rest) mid h ∙ ap refusal_in (step-refused (n + length (stage_steps stages)) mid s rest code e))
 
   -- one more stage
   pub leads-further : (n : ℕ) (fields : Fields) (stages : List Stage) (mid : Fields) (s : Stage) (m : ℕ) → Leads sides n fields stages mid →

@@ -1,7 +1,7 @@
 -- The sources of a plan, of which the last keeps the columns that the plan needs.
 use Rattle.std.proofs.Common.{◌≡◌, ◌-◌, Bool, List, [], ◌∷◌, ◌++◌, map, drop, length, refl, ap, sym, ◌∙◌, arith, length-append}
 use Rattle.std.proofs.lemmas.List.{map-append}
-use Rattle.fq_csv.specs.Sources.{Source, but_last, source_of_files}
+use Rattle.fq_csv.specs.Sources.{Source, source_of_files}
 use Rattle.fq_csv.specs.declared.sources.SourceFiles.{SourceFiles}
 use Rattle.fq_language.specs.declared.plans.Source.{Source as Declared}
 use Rattle.fq_language.specs.View.{source_data}

@@ -10,3 +10,4 @@ pub mod WholeSourceLemmas
 pub mod NeededLemmas
 pub mod KeepingLemmas
 pub mod NarrowedLemmas
+pub mod NotedLemmas

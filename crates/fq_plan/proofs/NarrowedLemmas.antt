@@ -14,12 +14,11 @@ use Rattle.fq_csv.specs.File.{all_kept, file_stream}
 use Rattle.fq_csv.specs.Printed.{printed_in}
 use Rattle.fq_csv.specs.Sources.{Source, but_last, layout_of, row_limit}
 use Rattle.fq_csv.proofs.KeptColumnLemmas.{file-masked}
-use Rattle.fq_language.specs.Judged.{judged}
 use Rattle.fq_language.specs.Plan.{PlanData, file_streams, files_wanted, side_files}
 use Rattle.fq_lanes.specs.declared.reports.Report.{Report}
 use Rattle.fq_plan.specs.Meaning.{meaning}
 use Rattle.fq_plan.specs.Needed.{needed_alone, needed_columns}
-use Rattle.fq_plan.specs.Stages.{keeping, narrowed, plan_of, query_of, whole_plan, whole_source, IsChecked}
+use Rattle.fq_plan.specs.Stages.{keeping, narrowed, plan_of, query_of, whole_source, IsChecked}
 use Rattle.fq_plan.proofs.FileWidthLemmas.{files-wide, layouts-last}
 use Rattle.fq_plan.proofs.KeepingLemmas.{narrowed-snoc}
 use Rattle.fq_plan.proofs.NeededLemmas.{alone-same}

@@ -21,7 +21,7 @@ use Rattle.fq_run.specs.Stages.{physical_of, Fit, IsRunnable}
 use Rattle.fq_language.specs.declared.faults.CheckFault.{CheckFault}
 use Rattle.fq_csv.specs.declared.sources.SourceFiles.{SourceFiles}
 use Rattle.fq_run.specs.declared.stages.Stage.{Stage}
-use Rattle.fq_plan.proofs.CheckLemmas.{refusal_in, no-refusal, rows-passed, stages-passed}
+use Rattle.fq_plan.proofs.CheckLemmas.{refusal_in, no-refusal, rows-passed, stages-passed, step-passed}
 use Rattle.fq_plan.proofs.StageMeaning.{fits}
 use Rattle.fq_plan.proofs.WholeSourceLemmas.{judged-whole, wanted-whole}
 use Rattle.fq_run.proofs.LastLemmas.{but_last-snoc, last_or-snoc}
@@ -120,10 +120,10 @@ checked-passes p c =
     let js : List Fields = side_fields q in
     let whole : judged (query_of p) ≡ judged q = judged-whole q in
     subst (λ (r : Result (List Fields) CheckFault). IsOk r) (sym whole) (plan-passes q c.schemas
-    (rows-passed js 0 (main_fields q) p.front (stage_steps p.stages) c.leads.0 c.leads.2
+    (rows-passed js refusal_in (step-passed js) 0 (main_fields q) p.front (stage_steps p.stages) c.leads.0 c.leads.2
     ∙ ap (λ n. refusal_in (judged_steps js n c.leads.0 (stage_steps p.stages))) (let e : 0 + length p.front ≡ length p.front = omega arith in e)
     ∙ ap (λ ss. refusal_in (judged_steps js (length p.front) c.leads.0 ss)) (sym (append-nil (stage_steps p.stages)))
-    ∙ stages-passed js (length p.front) c.leads.0 p.stages [] c.leads.1 c.leads.3))
+    ∙ stages-passed js refusal_in (step-passed js) (length p.front) c.leads.0 p.stages [] c.leads.1 c.leads.3))
 
 pub checked-is : (p : Physical) → IsChecked p → checked (query_of p) ≡ Ok (query_of p)
 checked-is p c = ok-is (query_of p) (judged (query_of p)) (checked-passes p c)

@@ -1,8 +1,8 @@
 -- What a plan is and means, whichever columns its sources keep.
-use Rattle.std.proofs.Common.{◌≡◌, ℕ, ◌+◌, ◌-◌, List, [], ◌∷◌, map, take, drop, length, sum_by, Option, Some, None, Result, Ok, Err, refl, ap, sym, ◌∙◌}
-use Rattle.std.proofs.lemmas.List.{length-map, take-map}
-use Rattle.std.proofs.lemmas.List.Sums.{sum_by-cons}
-use Rattle.fq_column.specs.Frame.{Fields, Frame}
+use Rattle.std.proofs.Common.{◌≡◌, ℕ, ◌+◌, List, [], ◌∷◌, map, take, drop, Some, None, Result, Err, refl, ap, ◌∙◌}
+use Rattle.fq_column.specs.Frame.{Fields, Frame, names_of}
+use Rattle.fq_column.specs.Refusal.{first_refusal}
+use Rattle.fq_column.specs.Schema.{schema_checks}
 use Rattle.fq_column.specs.Stream.{Stream, rename_fault}
 use Rattle.fq_csv.specs.declared.faults.ScanFault.{ScanFault}
 use Rattle.fq_csv.specs.Sources.{Source, but_last, last_or}
@@ -11,29 +11,24 @@ use Rattle.fq_language.specs.Judged.{judged, judged_steps, source_refusal}
 use Rattle.fq_language.specs.Plan.{PlanData, files_wanted, main_fields, side_fields, side_files}
 use Rattle.fq_plan.specs.Meaning.{meaning, meaning_of_sources, outcome}
 use Rattle.fq_plan.specs.Stages.{whole_plan, whole_source}
-use Rattle.fq_plan.proofs.CheckLemmas.{or_later, source_checks}
+use Rattle.fq_plan.proofs.CheckLemmas.{or_later}
+use Rattle.fq_run.proofs.SameSourceLemmas.{but_last-map, same-fields, same-files, same-side-fields, same-side-files}
 use Rattle.fq_run.specs.Sources.{concat_streams, first_fault, frames_of, scan_fault, source_streams}
 use Rattle.fq_run.specs.declared.faults.Fault.{Fault}
-
-pub but_last-map : {X Y : Type 0} (f : X → Y) (xs : List X) → but_last (map f xs) ≡ map f (but_last xs)
-but_last-map f xs = ap (λ n. take (n - 1) (map f xs)) (length-map xs f) ∙ take-map f (length xs - 1) xs
 
 -- ---- sources
 
 pub fields-whole : (sources : List Source) → map (λ (s : Source). s.fields) (map whole_source sources) ≡ map (λ (s : Source). s.fields) sources
-fields-whole [] = refl
-fields-whole (s ∷ sources) = ap (λ fs. s.fields ∷ fs) (fields-whole sources)
+fields-whole = same-fields whole_source (λ s. refl) (λ s. refl)
 
-files-whole : (sources : List Source) → sum_by (λ (s : Source). s.files) (map whole_source sources) ≡ sum_by (λ (s : Source). s.files) sources
-files-whole [] = refl
-files-whole (s ∷ sources) =
-    sum_by-cons (λ (s : Source). s.files) (whole_source s) (map whole_source sources)
-    ∙ ap (λ n. s.files + n) (files-whole sources)
-    ∙ sym (sum_by-cons (λ (s : Source). s.files) s sources)
+-- sources with the same columns are refused alike
+module _ (f : Source → Source) (fields : (s : Source) → (f s).fields ≡ s.fields) where
+  pub refusal-same : (n : ℕ) (sources : List Source) → source_refusal n (map f sources) ≡ source_refusal n sources
+  refusal-same n [] = refl
+  refusal-same n (s ∷ sources) = λ i. or_later n (first_refusal (schema_checks (names_of (fields s i)))) (refusal-same (n + 1) sources i)
 
 pub refusal-whole : (n : ℕ) (sources : List Source) → source_refusal n (map whole_source sources) ≡ source_refusal n sources
-refusal-whole n [] = refl
-refusal-whole n (s ∷ sources) = ap (λ o. or_later n (source_checks s) o) (refusal-whole (n + 1) sources)
+refusal-whole = refusal-same whole_source (λ s. refl)
 
 module _ {F : Type 0} where
   streams-whole : (sources : List Source) (us : List (Stream F)) → source_streams (map whole_source sources) us ≡ source_streams sources us
@@ -49,13 +44,13 @@ module _ {F : Type 0} where
 
 module _ (p : PlanData) where
   pub wanted-whole : files_wanted (whole_plan p) ≡ files_wanted p
-  wanted-whole = files-whole p.sources
+  wanted-whole = same-files whole_source (λ s. refl) (λ s. refl) p.sources
 
   side_files-whole : side_files (whole_plan p) ≡ side_files p
-  side_files-whole = ap (sum_by (λ (s : Source). s.files)) (but_last-map whole_source p.sources) ∙ files-whole (but_last p.sources)
+  side_files-whole = same-side-files whole_source (λ s. refl) (λ s. refl) p.sources
 
   side_fields-whole : side_fields (whole_plan p) ≡ side_fields p
-  side_fields-whole = ap (map (λ (s : Source). s.fields)) (but_last-map whole_source p.sources) ∙ fields-whole (but_last p.sources)
+  side_fields-whole = same-side-fields whole_source (λ s. refl) (λ s. refl) p.sources
 
   main_fields-whole : main_fields (whole_plan p) ≡ main_fields p
   main_fields-whole = ap (last_or []) (fields-whole p.sources)

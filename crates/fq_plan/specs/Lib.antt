@@ -10,3 +10,4 @@ pub mod Tail
 pub mod Answer
 pub mod Examples
 pub mod Stages
+pub mod Noted

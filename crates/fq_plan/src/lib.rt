@@ -6,6 +6,7 @@
 
 mod checks;
 mod laws;
+mod noted;
 mod runs;
 
 pub use checks::{Check, Checked};
@@ -18,3 +19,4 @@ pub use fq_language::{
 };
 pub use fq_run::{Explanation, Fault, Worked};
 pub use laws::{meaning_of_cut_files, meaning_of_items, meaning_of_needed_columns, renamed_steps};
+pub use noted::NotationFault;

@@ -23,3 +23,4 @@ pub mod OutcomeOfPipeline
 pub mod StandingLemmas
 pub mod LogLemmas
 pub mod GatheredLemmas
+pub mod SameSourceLemmas

@@ -19,3 +19,4 @@ pub mod Printing
 pub mod TailState
 pub mod Standing
 pub mod GatheredRun
+pub mod Noted

@@ -10,6 +10,7 @@ mod faults;
 mod file_feeds;
 mod gathering;
 mod leading_steps;
+mod noted_plans;
 mod openings;
 mod operators;
 mod passed;

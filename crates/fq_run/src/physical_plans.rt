@@ -2,7 +2,7 @@
 ghost use Rattle.std.specs.Prelude.{◌≡◌, ◌≤◌, ◌++◌, ◌∷◌, [], map, sum_by};
 ghost use Rattle.fq_csv.specs.Sources.{source_of_files};
 ghost use Rattle.fq_expr.specs.Steps.{fields_after_all};
-ghost use Rattle.fq_run.specs.Physical.{files_wanted};
+ghost use Rattle.fq_run.specs.Physical.{files_wanted, last_columns};
 ghost use Rattle.fq_run.specs.Stages.{IsRunnable, physical_of};
 
 use crate::leading_steps::LeadingSteps;
@@ -94,6 +94,16 @@ impl PhysicalPlan {
         ensures { result ≡ files_wanted self.now }
     {
         self.inputs
+    }
+
+    /// The columns of the frame.
+    pub fn columns(&self) -> &Schema
+        ensures { result.now ≡ last_columns self.now }
+    {
+        self.stages
+            .as_slice()
+            .last()
+            .map_or(&self.after_leading, |stage| &stage.after)
     }
 }
 

@@ -16,7 +16,6 @@ use crate::printed_text::PrintedText;
 use crate::printing::{PrintSettings, Printing};
 use crate::row_sinks::RowSink;
 use crate::run_tail::RunTail;
-use fq_column::Schema;
 use fq_csv::MAX_BATCH_SIZE;
 use fq_lanes::{Gate, MAX_WORKERS, Report, run_lanes};
 use std::alloc::Global;
@@ -94,20 +93,10 @@ impl PhysicalPlan {
             notations: &self.notations,
             threads: self.printing_threads(workers),
         };
-        let text = Printing::new(press, self.last_schema())?;
+        let text = Printing::new(press, self.columns())?;
         let (tail, report) = self.gather(rt, alloc, gate, inputs, text, batch_size, workers)?;
         let text = tail.finish()?.finish()?;
         Ok((text, report))
-    }
-
-    // The columns of the frame.
-    fn last_schema(&self) -> &Schema
-        ensures { result.now ≡ last_columns self.now }
-    {
-        self.stages
-            .as_slice()
-            .last()
-            .map_or(&self.after_leading, |stage| &stage.after)
     }
 
     // What free threads make of the files, as far as the tail took it, with their report.

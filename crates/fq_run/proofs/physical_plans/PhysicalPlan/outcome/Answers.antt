@@ -30,7 +30,7 @@ prints-none p notations fields same names = (same, names ∙ sym (append-nil (pr
 pub returns-in_err-finish-clause-fault : goal.returns-in_err-finish-clause-fault
 returns-in_err-finish-clause-fault g c files tell =
     let all = c.in_ok-tail.ensures.gathered c.args.self.now.notations
-    (prints-none c.in_ok-text.text c.args.self.now.notations (last_columns c.args.self.now) (c.in_ok-text.ensures.notations ∙ ap (λ (p : Physical). p.notations) c.self.view_is) (c.in_ok-text.ensures.text ∙ ap printed_names c.last_schema.ensures)) in
+    (prints-none c.in_ok-text.text c.args.self.now.notations (last_columns c.args.self.now) (c.in_ok-text.ensures.notations ∙ ap (λ (p : Physical). p.notations) c.self.view_is) (c.in_ok-text.ensures.text ∙ ap printed_names c.columns.ensures)) in
     let p = err_from_is_err_and c.from_residual-in_err-finish.result c.from_residual-in_err-finish.ensures.1 in
     let base : IsOfMeaning c.in_err-finish.field-0.0 → outcome_of_run c.args.self.now (file_streams c.args.self.now files) ≡ Err c.in_err-finish.field-0.0 =
     elim (c.in_err-finish.ensures c.args.self.now.notations all.stages all.after all.sides all.main all.fits all.stands) [
@@ -74,7 +74,7 @@ reads files (JoinRows step) h = tt
 pub returns-in_err-finish-clause-kind : goal.returns-in_err-finish-clause-kind
 returns-in_err-finish-clause-kind g c =
     let all = c.in_ok-tail.ensures.gathered c.args.self.now.notations
-    (prints-none c.in_ok-text.text c.args.self.now.notations (last_columns c.args.self.now) (c.in_ok-text.ensures.notations ∙ ap (λ (p : Physical). p.notations) c.self.view_is) (c.in_ok-text.ensures.text ∙ ap printed_names c.last_schema.ensures)) in
+    (prints-none c.in_ok-text.text c.args.self.now.notations (last_columns c.args.self.now) (c.in_ok-text.ensures.notations ∙ ap (λ (p : Physical). p.notations) c.self.view_is) (c.in_ok-text.ensures.text ∙ ap printed_names c.columns.ensures)) in
     let p = err_from_is_err_and c.from_residual-in_err-finish.result c.from_residual-in_err-finish.ensures.1 in
     let base : IsRunFault c.in_err-finish.field-0.0 =
     elim (c.in_err-finish.ensures c.args.self.now.notations all.stages all.after all.sides all.main all.fits all.stands) [
@@ -86,7 +86,7 @@ returns-in_err-finish-clause-kind g c =
 pub returns-in_err-finish-clause-read : goal.returns-in_err-finish-clause-read
 returns-in_err-finish-clause-read g c =
     let all = c.in_ok-tail.ensures.gathered c.args.self.now.notations
-    (prints-none c.in_ok-text.text c.args.self.now.notations (last_columns c.args.self.now) (c.in_ok-text.ensures.notations ∙ ap (λ (p : Physical). p.notations) c.self.view_is) (c.in_ok-text.ensures.text ∙ ap printed_names c.last_schema.ensures)) in
+    (prints-none c.in_ok-text.text c.args.self.now.notations (last_columns c.args.self.now) (c.in_ok-text.ensures.notations ∙ ap (λ (p : Physical). p.notations) c.self.view_is) (c.in_ok-text.ensures.text ∙ ap printed_names c.columns.ensures)) in
     let p = err_from_is_err_and c.from_residual-in_err-finish.result c.from_residual-in_err-finish.ensures.1 in
     let files = vec_len c.args.inputs in
     let base : NamesFile files c.in_err-finish.field-0.0 =
@@ -100,7 +100,7 @@ returns-in_err-finish-clause-read g c =
 abbrev gathered : (g : Over) (c : In_ok-text-2 g) → HasGathered {S = Printing g.row.T.Denot} (Prints c.args.self.now.notations) g.R.Read.remaining c.args.inputs.items c.args.self.now c.args.batch_size c.in_ok-tail.tail c.in_ok-tail.report.trace.items
 gathered g c =
     c.in_ok-tail.ensures.gathered c.args.self.now.notations
-    (prints-none c.in_ok-text.text c.args.self.now.notations (last_columns c.args.self.now) (c.in_ok-text.ensures.notations ∙ ap (λ (p : Physical). p.notations) c.self.view_is) (c.in_ok-text.ensures.text ∙ ap printed_names c.last_schema.ensures))
+    (prints-none c.in_ok-text.text c.args.self.now.notations (last_columns c.args.self.now) (c.in_ok-text.ensures.notations ∙ ap (λ (p : Physical). p.notations) c.self.view_is) (c.in_ok-text.ensures.text ∙ ap printed_names c.columns.ensures))
 
 -- the text is that of the outcome
 framed : (g : Over) (c : In_ok-text-2 g) (files : List (List ℕ)) → Tell g.R.Read.remaining c.args.inputs.items files →

@@ -1,0 +1,39 @@
+-- A plan whose ints are in notations by the names of their columns, and why such notations are refused.
+use Rattle.std.specs.Prelude.{◌||◌, ◌++◌, Bool, List, [], ◌∷◌, length, map, Option, Some, None, Result, Ok, Err, if◌then◌else◌}
+use Rattle.std.specs.List.{list_any}
+use Rattle.fq_column.specs.Frame.{Fields, Name, has_name}
+use Rattle.fq_csv.specs.Sources.{last_or}
+use Rattle.fq_language.specs.Judged.{judged}
+use Rattle.fq_language.specs.Plan.{PlanData}
+use Rattle.fq_language.specs.declared.faults.CheckFault.{CheckFault}
+use Rattle.fq_notation.specs.Notation.{Named, notation_in}
+use Rattle.fq_plan.specs.declared.noted.NotationFault.{NotationFault}
+use Rattle.fq_plan.specs.declared.noted.NotationFault.TheVariants.{NoColumn, Twice}
+use Rattle.fq_run.specs.Noted.{has_int_column, noted_source}
+
+-- the columns after the last step, of steps that are not refused
+abbrev pub last_judged : Result (List Fields) CheckFault → Fields
+last_judged r = elim r [ Err refusal ↦ [] | Ok schemas ↦ last_or [] schemas ]
+
+-- the columns of the frame of a plan that is not refused
+abbrev pub frame_fields : PlanData → Fields
+frame_fields p = last_judged (judged p)
+
+-- a plan whose sources are read in these notations, and whose frame is printed in them
+abbrev pub noted : List Named → PlanData → PlanData
+noted named p = record { sources = map (noted_source named) p.sources; steps = p.steps; notations = map (notation_in named) (frame_fields p) }
+
+-- whether a source or the frame has a column of ints of this name
+abbrev pub has_ints : PlanData → Name → Bool
+has_ints p name = list_any (λ s. has_int_column s.fields name) p.sources || has_int_column (frame_fields p) name
+
+-- the first entry, after others under these names, whose name stands among them, or is of no column of ints
+abbrev pub refused_after : PlanData → List Name → List Named → Option NotationFault
+refused_after p names [] = None
+refused_after p names (entry ∷ named) =
+    if has_name names entry.0 then Some (Twice (length names))
+    else if has_ints p entry.0 then refused_after p (names ++ entry.0 ∷ []) named
+    else Some (NoColumn (length names))
+
+abbrev pub notation_refusal : PlanData → List Named → Option NotationFault
+notation_refusal p named = refused_after p [] named
