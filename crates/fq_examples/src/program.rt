@@ -1,6 +1,6 @@
 //! Inputs of the program, and what they come to; arguments, and the files that they name.
-ghost use Rattle.fq_program.specs.Examples.{Frames, Failures, Statuses, NamedFiles};
-ghost use Rattle.fq_shell.specs.Examples.{Orders, Hyphens, Outputs, Others, Twice, Checks};
+ghost use Rattle.fq_program.specs.Examples.{Frames, Failures, Statuses, NamedFiles, NamedNotations};
+ghost use Rattle.fq_shell.specs.Examples.{Orders, Hyphens, Outputs, Others, Notes, Twice, Checks};
 
 /// Inputs and what they come to.
 pub fn worked_inputs()
@@ -16,10 +16,12 @@ pub fn worked_arguments()
     ensures outputs { Outputs }
     ensures others { Others }
     ensures twice { Twice }
+    ensures notes { Notes }
     ensures checks { Checks }
 {}
 
 /// Runs of files that arguments name, and what they come to.
 pub fn worked_runs()
     ensures named { NamedFiles }
+    ensures notations { NamedNotations }
 {}

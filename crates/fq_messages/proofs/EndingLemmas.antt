@@ -1,7 +1,6 @@
 -- What a failure is one of.
 use Rattle.std.proofs.Common.{◌≡◌, ◌≤◌, Result, Ok, Err, refl, ap, sym, inl, inr, arith}
 use Rattle.std.specs.Prelude.{◌⊎◌, OnOk, IfErr}
-use Rattle.fq_column.specs.Frame.{Frame}
 use Rattle.fq_column.specs.declared.faults.StepFault.{StepFault}
 use Rattle.fq_column.specs.declared.faults.StepFault.TheVariants as code
 use Rattle.fq_run.specs.Run.{IsStartFault, IsOfMeaning}
@@ -11,7 +10,8 @@ use Rattle.fq_language.specs.declared.faults.PlanFault.TheVariants as plan
 use Rattle.fq_messages.specs.Ending.{status_of_fault, status_of, number_of, done, bad_device, no_memory, code_of, IsOutside}
 use Rattle.fq_messages.specs.declared.failures.Failure.{Failure}
 use Rattle.fq_messages.specs.declared.status.Status.TheVariants.{BadPlan, NoMemory}
-use Rattle.fq_messages.specs.declared.failures.Failure.TheVariants.{Arguments, InputTwice, PlanReplaced, PlanFile, Plan, Check, Run, Problems, Draft, DraftTooLarge}
+use Rattle.fq_messages.specs.declared.failures.Failure.TheVariants.{Arguments, InputTwice, PlanReplaced, Decimals, Notation, PlanFile, Plan, Check, Run, Problems, Draft, DraftTooLarge}
+use Rattle.fq_plan.specs.declared.noted.NotationFault.TheVariants as notation
 use Rattle.fq_review.specs.declared.drafts.DraftFault.TheVariants as draft
 
 -- a run's fault: it did not start, or the fault is the plan's meaning, or it came from outside
@@ -62,6 +62,10 @@ fails : (f : Failure) → 1 ≤ number_of (status_of f)
 fails Arguments = omega arith
 fails InputTwice = omega arith
 fails PlanReplaced = omega arith
+fails Decimals = omega arith
+fails (Notation (notation.NoColumn place)) = omega arith
+fails (Notation (notation.Twice place)) = omega arith
+fails (Notation notation.Memory) = omega arith
 fails PlanFile = omega arith
 fails (Plan plan.Json) = omega arith
 fails (Plan plan.Shape) = omega arith
@@ -83,8 +87,8 @@ ended-well (Ok x) e h = h
 ended-well (Err f) e h = let bad = fails f in absurd (omega (arith, bad, e))
 
 -- the status of an ending that is an answer, or came from outside
-pub ended-as : {X : Type 0} (P : Frame → Type 0) (r : Result X Failure) (answer : Result Frame Failure) →
-    OnOk r ((frame : Frame) × (answer ≡ Ok frame) × P frame) → IfErr r (λ f. (answer ≡ Err f) ⊎ IsOutside f) →
+pub ended-as : {X Y : Type 0} (P : Y → Type 0) (r : Result X Failure) (answer : Result Y Failure) →
+    OnOk r ((y : Y) × (answer ≡ Ok y) × P y) → IfErr r (λ f. (answer ≡ Err f) ⊎ IsOutside f) →
     (code_of r ≡ code_of answer) ⊎ ((code_of r ≡ bad_device) ⊎ (code_of r ≡ no_memory))
 ended-as P (Ok x) answer printed failed = inl (sym (ap code_of printed.1))
 ended-as P (Err f) answer printed failed = elim failed [

@@ -2,9 +2,12 @@
 use Rattle.std.proofs.Common.{◌≡◌, ◌∙◌, ◌+◌, ◌<◌, ◌≤◌, ℕ, zero, suc, Bool, List, [], ◌∷◌, Option, Some, None, ap, ap₂, arith, get_or, length, map, refl, sym, take}
 use Rattle.std.specs.Prelude.{◌&&◌, slice_get}
 use Rattle.std.proofs.Math.Seq.{take_all}
+use Rattle.std.proofs.lemmas.List.{length-map}
 use Rattle.fq_csv.specs.declared.layouts.Layout.{Layout}
 use Rattle.fq_language.specs.Plan.{PlanData, file_layouts, files_wanted}
 use Rattle.fq_language.proofs.FileLemmas.{layouts-count}
+use Rattle.fq_messages.specs.Reviewed.{noted_layout, noted_layouts}
+use Rattle.fq_notation.specs.Notation.{Named}
 use Rattle.fq_review.specs.Checked.{are_clean, is_clean}
 use Rattle.fq_review.proofs.CheckLemmas.{and-assoc, clean-more}
 
@@ -34,11 +37,11 @@ none-past (x ∷ xs) zero none = absurd (cc)
 none-past (x ∷ xs) (suc i) none = let rest = none-past xs i none in omega (arith, rest)
 
 -- as many files as the plan wants were judged
-pub all-clean : (plan : PlanData) (inputs : List (List ℕ)) (i : ℕ) → length inputs ≡ files_wanted plan → length inputs ≤ i →
-    are_clean (take i (file_layouts plan)) (take i inputs) ≡ are_clean (file_layouts plan) inputs
-all-clean plan inputs i counted enough =
+pub all-clean : (named : List Named) (plan : PlanData) (inputs : List (List ℕ)) (i : ℕ) → length inputs ≡ files_wanted plan → length inputs ≤ i →
+    are_clean (take i (noted_layouts named plan)) (take i inputs) ≡ are_clean (noted_layouts named plan) inputs
+all-clean named plan inputs i counted enough =
     ap₂ are_clean
-    (take_all i (file_layouts plan) (let e = layouts-count plan.sources in omega (arith, e, counted, enough)))
+    (take_all i (noted_layouts named plan) (let e = layouts-count plan.sources in omega (arith, e, length-map (file_layouts plan) (noted_layout named), counted, enough)))
     (take_all i inputs enough)
 
 -- or there is no layout left

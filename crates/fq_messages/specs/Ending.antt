@@ -7,9 +7,11 @@ use Rattle.fq_run.specs.declared.faults.Fault.TheVariants.{Inputs, Setting, Memo
 use Rattle.fq_language.specs.declared.faults.PlanFault.{PlanFault}
 use Rattle.fq_language.specs.declared.faults.PlanFault.TheVariants as plan
 use Rattle.fq_messages.specs.declared.failures.Failure.{Failure}
+use Rattle.fq_plan.specs.declared.noted.NotationFault.{NotationFault}
+use Rattle.fq_plan.specs.declared.noted.NotationFault.TheVariants as notation
 use Rattle.fq_review.specs.declared.drafts.DraftFault.{DraftFault}
 use Rattle.fq_review.specs.declared.drafts.DraftFault.TheVariants as draft
-use Rattle.fq_messages.specs.declared.failures.Failure.TheVariants.{Arguments, InputTwice, PlanReplaced, PlanFile, Plan, Check, Run, Problems, Draft, DraftTooLarge}
+use Rattle.fq_messages.specs.declared.failures.Failure.TheVariants.{Arguments, InputTwice, PlanReplaced, Decimals, Notation, PlanFile, Plan, Check, Run, Problems, Draft, DraftTooLarge}
 use Rattle.fq_messages.specs.declared.status.Status.{Status}
 use Rattle.fq_messages.specs.declared.status.Status.TheVariants.{Done, BadArguments, BadPlan, BadFile, BadDevice, NoMemory}
 
@@ -31,6 +33,9 @@ abbrev pub status_of : Failure → Status
 status_of Arguments = BadArguments
 status_of InputTwice = BadArguments
 status_of PlanReplaced = BadArguments
+status_of Decimals = BadArguments
+status_of (Notation notation.Memory) = NoMemory
+status_of (Notation fault) = BadArguments
 status_of PlanFile = BadDevice
 status_of (Plan plan.Memory) = NoMemory
 status_of (Plan fault) = BadPlan
@@ -50,6 +55,11 @@ misread fault = Plan fault
 -- a refusal of the check as a failure of the program
 abbrev pub refused : CheckFault → Failure
 refused refusal = elim refusal.code [ code.Memory ↦ Run Memory | _ ↦ Check refusal ]
+
+-- why notations are refused, as a failure of the program
+abbrev pub unnoted : NotationFault → Failure
+unnoted notation.Memory = Run Memory
+unnoted fault = Notation fault
 
 -- a fault of a draft as a failure of the program: a file that cannot be read, and a failed allocation, have one name, wherever they are
 abbrev pub undrafted : DraftFault → Failure

@@ -6,7 +6,9 @@ use crate::failures::Failure;
 use crate::file_details::FileDetails;
 use fq_column::Kind;
 use fq_language::{Plan, read_plan, reason_of};
+use fq_notation::NamedNotations;
 use fq_places::{Quoted, Unread};
+use fq_plan::{Check, NotationFault};
 use fq_run::Fault;
 use fq_shell::{OpenFault, Opener, Options, STANDARD_INPUT};
 use std::alloc::Global;
@@ -69,7 +71,9 @@ pub fn write_details<O: Opener, E: Write>(
         Failure::Check(_) => write_refusal(alloc, text, err),
         Failure::Run(Fault::Write) => write_write(options, learned.write, err),
         Failure::Run(Fault::Read { file }) => write_unread(options.files(), file, files, err),
-        Failure::Run(fault) => write_run(alloc, fault, options.files(), text, files, err),
+        Failure::Decimals => write_decimals(options, err),
+        Failure::Notation(fault) => write_notation(alloc, fault, options, text, err),
+        Failure::Run(fault) => write_run(alloc, fault, options, text, files, err),
     };
 }
 
@@ -90,6 +94,68 @@ fn write_inputs<E: Write>(options: &Options<'_>, err: &mut E) -> Option<()> {
 fn write_replaced<E: Write>(options: &Options<'_>, err: &mut E) -> Option<()> {
     writeln!(err, "  the plan is {}", options.plan()?).ok()?;
     writeln!(err, "  --output is {}", options.output()?).ok()
+}
+
+// The lists of `--decimal`.
+fn write_decimals<E: Write>(options: &Options<'_>, err: &mut E) -> Option<()> {
+    for list in options.decimals() {
+        writeln!(err, "  --decimal {list}").ok()?;
+    }
+    Some(())
+}
+
+// The entry of a notation that is refused, and the columns of ints that there are.
+fn write_notation<E: Write>(
+    alloc: Global,
+    fault: NotationFault,
+    options: &Options<'_>,
+    text: &[u8],
+    err: &mut E,
+) -> Option<()> {
+    let named = options.notations(alloc).ok()??;
+    match fault {
+        NotationFault::Memory => None,
+        NotationFault::Twice(place) => {
+            let name = Quoted(named.entries().get(place)?.0.as_bytes());
+            writeln!(err, "  {name} stands twice").ok()
+        }
+        NotationFault::NoColumn(place) => {
+            let name = Quoted(named.entries().get(place)?.0.as_bytes());
+            writeln!(err, "  {name} is no int column").ok()?;
+            write_ints(alloc, text, err)
+        }
+    }
+}
+
+// The columns of ints of a plan's sources and of its frame.
+fn write_ints<E: Write>(alloc: Global, text: &[u8], err: &mut E) -> Option<()> {
+    let plan = read_plan(alloc, text).ok()?;
+    for (number, source) in plan.sources().iter().enumerate() {
+        write!(err, "  source {number}:").ok()?;
+        let mut is_first = true;
+        for (name, kind) in source.columns() {
+            write_int(name.as_str(), *kind, &mut is_first, err)?;
+        }
+        writeln!(err, "").ok()?;
+    }
+    let checked = plan.check(alloc).ok()?;
+    let frame = checked.columns();
+    write!(err, "  the frame:").ok()?;
+    let mut is_first = true;
+    for column in 0..frame.len() {
+        write_int(frame.name(column), frame.kind(column), &mut is_first, err)?;
+    }
+    writeln!(err, "").ok()
+}
+
+// The name of a column, if it is of ints, with a comma before all but the first.
+fn write_int<E: Write>(name: &str, kind: Kind, is_first: &mut bool, err: &mut E) -> Option<()> {
+    if kind != Kind::Whole {
+        return Some(());
+    }
+    let comma = if *is_first { "" } else { "," };
+    *is_first = false;
+    write!(err, "{comma} {}", Quoted(name.as_bytes())).ok()
 }
 
 // Why a file cannot be read.
@@ -155,7 +221,7 @@ fn write_write<E: Write>(
 fn write_run<O: Opener, E: Write>(
     alloc: Global,
     fault: Fault,
-    names: &[&str],
+    options: &Options<'_>,
     text: &[u8],
     files: &mut O,
     err: &mut E,
@@ -163,7 +229,8 @@ fn write_run<O: Opener, E: Write>(
     ensures { O.bytes_of files.new ≡ O.bytes_of files.old }
 {
     let plan = read_plan(alloc, text).ok()?;
-    write_fault(alloc, fault, &plan, names, files, err)
+    let named = options.notations(alloc).ok()??;
+    write_fault(alloc, fault, &plan, &named, options.files(), files, err)
 }
 
 // What a run's fault is about, by the plan.
@@ -171,6 +238,7 @@ fn write_fault<O: Opener, E: Write>(
     alloc: Global,
     fault: Fault,
     plan: &Plan,
+    named: &NamedNotations,
     names: &[&str],
     files: &mut O,
     err: &mut E,
@@ -185,16 +253,16 @@ fn write_fault<O: Opener, E: Write>(
         Fault::JoinRows { step } | Fault::RollRange { step } => {
             writeln!(err, "  {}", plan.step_text(step, 0)).ok()
         }
-        Fault::Header { file } => FileDetails::of(plan, names, file)?.write_header(
+        Fault::Header { file } => FileDetails::of(plan, named, names, file)?.write_header(
             alloc, files, err,
         ),
         Fault::Width { file, row } => {
-            FileDetails::of(plan, names, file)?.write_width(alloc, row, files, err)
+            FileDetails::of(plan, named, names, file)?.write_width(alloc, row, files, err)
         }
         Fault::BadCell { file, row, column } => {
-            FileDetails::of(plan, names, file)?.write_cell(alloc, row, column, files, err)
+            FileDetails::of(plan, named, names, file)?.write_cell(alloc, row, column, files, err)
         }
-        Fault::TooLong { file } => FileDetails::of(plan, names, file)?.write_length(err),
+        Fault::TooLong { file } => FileDetails::of(plan, named, names, file)?.write_length(err),
         Fault::Setting | Fault::Memory | Fault::Read { .. } | Fault::Write => None,
     }
 }

@@ -9,6 +9,7 @@ use crate::status::Status;
 use fq_column::{Memory, StepFault};
 use fq_csv::MAX_FILES;
 use fq_language::{CheckFault, MAX_NULL_VALUES, MAX_SOURCES, PlanFault};
+use fq_plan::NotationFault;
 use fq_review::DraftFault;
 use fq_run::Fault;
 use std::alloc::{AllocError, AllocFailed};
@@ -27,6 +28,12 @@ pub enum Failure {
     /// The frame would take the place of the plan file.
     #[error("the frame would replace the plan")]
     PlanReplaced,
+    /// An entry of `--decimal` is no name with a scale.
+    #[error("--decimal takes NAME=SCALE, with a scale from 1 to 18")]
+    Decimals,
+    /// The plan has no column of ints for a notation, or a column has two.
+    #[error("--decimal, --date: {0}")]
+    Notation(NotationFault),
     /// The plan file cannot be opened or read.
     #[error("cannot read plan")]
     PlanFile,
@@ -62,7 +69,10 @@ impl Failure {
             Failure::Arguments
             | Failure::InputTwice
             | Failure::PlanReplaced
+            | Failure::Decimals
             | Failure::DraftTooLarge => Status::BadArguments,
+            Failure::Notation(NotationFault::Memory) => Status::NoMemory,
+            Failure::Notation(_) => Status::BadArguments,
             Failure::PlanFile => Status::BadDevice,
             Failure::Plan(PlanFault::Memory) => Status::NoMemory,
             Failure::Plan(_) => Status::BadPlan,
@@ -127,6 +137,19 @@ impl From<CheckFault> for Failure {
         match refusal.code {
             StepFault::Memory => Failure::MEMORY,
             _ => Failure::Check(refusal),
+        }
+    }
+}
+
+impl From<NotationFault> for Failure {
+    ghost use Rattle.fq_messages.specs.Ending.{unnoted};
+
+    ghost from_gives = { λ f e. e ≡ unnoted f };
+
+    fn from(fault: NotationFault) -> Failure {
+        match fault {
+            NotationFault::Memory => Failure::MEMORY,
+            _ => Failure::Notation(fault),
         }
     }
 }

@@ -5,8 +5,9 @@ use csv::ByteRecord;
 use fq_column::Kind;
 use fq_csv::MAX_ROWS;
 use fq_language::Plan;
+use fq_notation::NamedNotations;
 use fq_places::{Quoted, Unread, ends_in_quotes, line_of_record, record_at};
-use fq_review::{BadField, Header, Width, wanted};
+use fq_review::{BadField, Header, Wanted, Width};
 use fq_shell::Opener;
 use std::alloc::Global;
 use std::fmt;
@@ -18,14 +19,24 @@ use std::io::Write;
 pub struct FileDetails<'a> {
     name: &'a str,
     columns: &'a [(String, Kind)],
+    named: &'a NamedNotations,
 }
 
 impl<'a> FileDetails<'a> {
-    /// The file of this number among those of a plan, which have these names.
-    pub fn of(plan: &'a Plan, names: &[&'a str], file: u16) -> Option<FileDetails<'a>> {
+    /// The file of this number among those of a plan, which have these names; the ints of its columns are in these notations.
+    pub fn of(
+        plan: &'a Plan,
+        named: &'a NamedNotations,
+        names: &[&'a str],
+        file: u16,
+    ) -> Option<FileDetails<'a>> {
         let name: &'a str = names.get(usize::from(file))?;
         let columns = plan.source_of(file)?.columns();
-        Some(FileDetails { name, columns })
+        Some(FileDetails {
+            name,
+            columns,
+            named,
+        })
     }
 
     /// Writes where the header differs from the plan's names.
@@ -88,20 +99,17 @@ impl<'a> FileDetails<'a> {
         let name = self.name;
         let (title, kind) = self.columns.get(usize::from(column))?;
         let (title, kind) = (title.as_str(), *kind);
+        let notation = self.named.of(title, kind);
         match Found::of(alloc, files, name, row) {
             Ok(Some(found)) => {
                 let (line, note) = (found.line, found.note());
                 let field = found.record.get(usize::from(column))?;
-                let bad = BadField {
-                    column: title,
-                    kind,
-                    field,
-                };
+                let bad = BadField::of(title, kind, notation, field);
                 writeln!(err, "  {name}:{line}: {bad}{note}").ok()
             }
             Ok(None) => writeln!(err, "  {name}: it has no such row now").ok(),
             Err(cause) => {
-                let (title, wanted) = (Quoted(title.as_bytes()), wanted(kind));
+                let (title, wanted) = (Quoted(title.as_bytes()), Wanted::of(kind, notation));
                 writeln!(err, "  {name}: column {title} is {wanted}; {cause}").ok()
             }
         }

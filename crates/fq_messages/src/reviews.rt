@@ -1,21 +1,23 @@
 //! A check of the data files before a run, and a draft of a plan for them.
-ghost use Rattle.std.specs.Prelude.{◌≡◌, ◌≢◌, ◌⊎◌, ◌==◌, ◌&&◌, ℕ, List, Ok, Some, IfErr, OnOk, length, map};
+ghost use Rattle.std.specs.Prelude.{◌≡◌, ◌≢◌, ◌⊎◌, ◌==◌, ◌&&◌, ℕ, List, Ok, Some, IfErr, IfOk, OnOk, length, map};
 ghost use Rattle.fq_csv.specs.Sources.{layout_of};
-ghost use Rattle.fq_language.specs.Plan.{file_layouts, files_wanted};
-ghost use Rattle.fq_language.specs.View.{source_data};
+ghost use Rattle.fq_language.specs.Plan.{files_wanted};
+ghost use Rattle.fq_language.specs.View.{field_of, source_data};
+ghost use Rattle.fq_notation.specs.Notation.{notation_in};
 ghost use Rattle.fq_review.specs.Checked.{are_clean, is_clean};
 ghost use Rattle.fq_run.specs.Run.{Tell};
 ghost use Rattle.fq_run.specs.declared.faults.Fault.TheVariants as fault;
 ghost use Rattle.fq_shell.specs.Arguments.{named_by};
 ghost use Rattle.fq_messages.specs.Ending.{IsOutside};
-ghost use Rattle.fq_messages.specs.Reviewed.{IsVerdict};
+ghost use Rattle.fq_messages.specs.Reviewed.{IsVerdict, noted_layout, noted_layouts};
 ghost use Rattle.fq_messages.specs.declared.failures.Failure.TheVariants as failure;
 
 use crate::failures::Failure;
 use crate::inputs::{open, read_whole};
-use fq_column::Memory;
+use fq_column::{Kind, Memory};
 use fq_csv::{MAX_FILES, NullValues};
 use fq_language::{MAX_NULL_VALUES, MAX_SOURCES, Plan, Source};
+use fq_notation::{NamedNotations, Notations};
 use fq_places::Unread;
 use fq_review::{Check, Draft, DraftFault, Expected};
 use fq_run::Fault;
@@ -28,6 +30,7 @@ use std::io::Write;
 pub fn check_files<O: Opener, E: Write>(
     alloc: Global,
     plan: &Plan,
+    named: &NamedNotations,
     options: &Options<'_>,
     files: &mut O,
     err: &mut E,
@@ -35,11 +38,11 @@ pub fn check_files<O: Opener, E: Write>(
     ensures same { O.bytes_of files.new ≡ O.bytes_of files.old }
     ensures failed { IfErr result (λ f. f ≢ failure.Run fault.Write) }
     ensures judged { (inputs : List (List ℕ)) → Tell (O.bytes_of files.old) (named_by options.now).files inputs → length inputs ≡ files_wanted plan.now →
-        IsVerdict (are_clean (file_layouts plan.now) inputs) result }
+        IsVerdict (are_clean (noted_layouts named.now plan.now) inputs) result }
 {
     write_warnings(alloc, plan, options.plan().unwrap_or_default(), err)?;
     let mut check = Check::new(alloc, options.limit());
-    read_files(alloc, plan, options.files(), &mut check, files, err)?;
+    read_files(alloc, plan, named, options.files(), &mut check, files, err)?;
     write_orders(alloc, plan, options.plan().unwrap_or_default(), &check, err)?;
     if check.problems() == 0 {
         return Ok(());
@@ -65,6 +68,7 @@ fn write_warnings<E: Write>(
 fn read_files<O: Opener, E: Write>(
     alloc: Global,
     plan: &Plan,
+    named: &NamedNotations,
     names: &[&str],
     check: &mut Check,
     files: &mut O,
@@ -74,14 +78,14 @@ fn read_files<O: Opener, E: Write>(
     ensures failed { IfErr result IsOutside }
     ensures device { IfErr result (λ f. f ≢ failure.Run fault.Write) }
     ensures judged { OnOk result ((inputs : List (List ℕ)) → Tell (O.bytes_of files.old) (map (λ name. name.now) names.now) inputs → length inputs ≡ files_wanted plan.now →
-        (check.new.problems == 0) ≡ ((check.old.problems == 0) && are_clean (file_layouts plan.now) inputs)) }
+        (check.new.problems == 0) ≡ ((check.old.problems == 0) && are_clean (noted_layouts named.now plan.now) inputs)) }
 {
     let mut number = 0u16;
     for name in names {
         let Some(source) = plan.source_of(number) else {
             return Ok(());
         };
-        check_file(alloc, check, source, number, name, files, err)?;
+        check_file(alloc, check, source, named, number, name, files, err)?;
         number += 1;
     }
     Ok(())
@@ -119,6 +123,7 @@ fn check_file<O: Opener, E: Write>(
     alloc: Global,
     check: &mut Check,
     source: &Source,
+    named: &NamedNotations,
     number: u16,
     name: &str,
     files: &mut O,
@@ -128,12 +133,14 @@ fn check_file<O: Opener, E: Write>(
     ensures failed { IfErr result IsOutside }
     ensures device { IfErr result (λ f. f ≢ failure.Run fault.Write) }
     ensures judged { OnOk result ((bytes : List ℕ) → O.bytes_of files.old name.now ≡ Some bytes →
-        (check.new.problems == 0) ≡ ((check.old.problems == 0) && is_clean number (layout_of (source_data source.now)) bytes)) }
+        (check.new.problems == 0) ≡ ((check.old.problems == 0) && is_clean number (noted_layout named.now (layout_of (source_data source.now))) bytes)) }
 {
     let failure = Failure::Run(Fault::Read { file: number });
+    let notations = notations_of(alloc, source.columns(), named)?;
     let expected = Expected {
         columns: source.columns(),
         nulls: source.nulls(),
+        notations: &notations,
     };
     match files.reader_again(name) {
         Ok(again) => {
@@ -149,6 +156,21 @@ fn check_file<O: Opener, E: Write>(
         }
         Err(cause) => answer_to(Err(cause), failure),
     }
+}
+
+// The notations of columns.
+fn notations_of(
+    alloc: Global,
+    columns: &[(String, Kind)],
+    named: &NamedNotations,
+) -> Result<Notations, Memory>
+    ensures { IfOk result (λ notations. notations ≡ map (notation_in named.now) (map field_of columns.now)) }
+{
+    let mut notations = Vec::with_capacity(alloc, columns.len())?;
+    for column in columns {
+        notations.push(named.of(column.0.as_str(), column.1))?;
+    }
+    Ok(Notations::new(notations))
 }
 
 // What is answered where a file was read or not: this failure, if it is not one of memory.

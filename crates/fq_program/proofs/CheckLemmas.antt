@@ -1,70 +1,63 @@
 -- What a check of named files comes to, case by case.
-use Rattle.std.proofs.Common.{◌≡◌, ◌≢◌, ◌∙◌, ◌==◌, ℕ, Bool, true, false, List, length, Option, Some, Result, Ok, Err, refl, ap, sym, subst, inl, inr, eq-eqb, eqb-true}
-use Rattle.std.proofs.lemmas.List.{length-map}
+use Rattle.std.proofs.Common.{◌≡◌, ◌∙◌, ◌∷◌, ◌++◌, [], ℕ, zero, suc, Bool, true, false, List, flat_map, length, map, replicate, Option, Some, Result, Ok, Err, refl, ap, sym, subst, inl, inr}
+use Rattle.std.proofs.lemmas.List.{length-map, map-append}
 use Rattle.std.specs.Result.{result_map_both}
+use Rattle.fq_csv.specs.Sources.{Source, layout_of}
+use Rattle.fq_csv.specs.declared.layouts.Layout.{Layout}
 use Rattle.fq_language.specs.Judged.{checked, judged}
 use Rattle.fq_language.specs.declared.faults.CheckFault.{CheckFault}
-use Rattle.fq_language.specs.Plan.{PlanData, file_layouts, files_wanted}
+use Rattle.fq_language.specs.Plan.{PlanData, file_layouts}
 use Rattle.fq_language.specs.Spelling.{read_as_plan}
+use Rattle.fq_notation.specs.Notation.{Named}
+use Rattle.fq_plan.specs.Noted.{noted}
 use Rattle.fq_review.specs.Checked.{are_clean}
+use Rattle.fq_run.specs.Noted.{noted_source}
 use Rattle.fq_run.specs.Run.{Tell}
-use Rattle.fq_run.specs.declared.faults.Fault.TheVariants.{Inputs}
-use Rattle.fq_shell.specs.Arguments.{Names, reads_input_twice}
 use Rattle.fq_messages.specs.Ending.{code_of, number_of}
-use Rattle.fq_messages.specs.Reviewed.{IsVerdict}
+use Rattle.fq_messages.specs.Reviewed.{IsVerdict, noted_layout, noted_layouts}
 use Rattle.fq_messages.specs.declared.failures.Failure.{Failure}
-use Rattle.fq_messages.specs.declared.failures.Failure.TheVariants.{Check, InputTwice, Problems, Run}
-use Rattle.fq_program.specs.Named.{ComesTo, EndsAt, check_of, review_of}
+use Rattle.fq_messages.specs.declared.failures.Failure.TheVariants.{Check, Problems}
+use Rattle.fq_program.specs.Named.{ComesTo, EndsAt, noted_plan, reviewed}
 use Rattle.fq_program.specs.Program.{checked_plan}
-
-pub check-twice : (names : Names) (text : List ℕ) (files : List (List ℕ)) → reads_input_twice names ≡ true → check_of names text files ≡ Err InputTwice
-unfolding check_of
-check-twice names text files twice = rw twice refl
-
-pub check-refused : (names : Names) (text : List ℕ) (files : List (List ℕ)) (f : Failure) → reads_input_twice names ≡ false → checked_plan text ≡ Err f →
-    check_of names text files ≡ Err f
-unfolding check_of
-check-refused names text files f once refused = rw (once, refused) refl
-
-pub check-checked : (names : Names) (text : List ℕ) (files : List (List ℕ)) (plan : PlanData) → reads_input_twice names ≡ false → checked_plan text ≡ Ok plan →
-    check_of names text files ≡ review_of plan files
-unfolding check_of
-check-checked names text files plan once checked = rw (once, checked) refl
-
--- ---- the files of a checked plan
+use Rattle.fq_program.proofs.NamedLemmas.{noted-is}
 
 -- as many names as files
-many : (bytes_of : List ℕ → Option (List ℕ)) (names files : List (List ℕ)) → Tell bytes_of names files → length names ≡ length files
+pub many : (bytes_of : List ℕ → Option (List ℕ)) (names files : List (List ℕ)) → Tell bytes_of names files → length names ≡ length files
 many bytes_of names files tell = sym (length-map names bytes_of) ∙ ap length tell ∙ length-map files Some
 
-pub review-refused : (bytes_of : List ℕ → Option (List ℕ)) (plan : PlanData) (names files : List (List ℕ)) → Tell bytes_of names files → length names ≢ files_wanted plan →
-    review_of plan files ≡ Err (Run (Inputs (files_wanted plan) (length names)))
-review-refused bytes_of plan names files tell differs = go (length files == files_wanted plan) refl
+-- how the files of a plan in notations are read
+layouts-of : (named : List Named) (sources : List Source) →
+    flat_map (λ (s : Source). replicate s.files (layout_of s)) (map (noted_source named) sources) ≡ map (noted_layout named) (flat_map (λ (s : Source). replicate s.files (layout_of s)) sources)
+layouts-of named [] = refl
+layouts-of named (s ∷ sources) =
+    (λ i. copies s.files i ++ layouts-of named sources i)
+    ∙ sym (map-append (noted_layout named) (replicate s.files (layout_of s)) (flat_map (λ (s : Source). replicate s.files (layout_of s)) sources))
   where
-    go : (b : Bool) → (length files == files_wanted plan) ≡ b → review_of plan files ≡ Err (Run (Inputs (files_wanted plan) (length names)))
-    go true e = absurd (differs (many bytes_of names files tell ∙ eqb-true _ _ e))
-    go false e = rw (e, many bytes_of names files tell) refl
+    copies : (n : ℕ) → replicate n (layout_of (noted_source named s)) ≡ map (noted_layout named) (replicate n (layout_of s))
+    copies zero = refl
+    copies (suc n) = ap (λ rest. layout_of (noted_source named s) ∷ rest) (copies n)
 
-pub review-counted : (bytes_of : List ℕ → Option (List ℕ)) (plan : PlanData) (names files : List (List ℕ)) → Tell bytes_of names files → length names ≡ files_wanted plan →
-    length files ≡ files_wanted plan
-review-counted bytes_of plan names files tell same = sym (many bytes_of names files tell) ∙ same
+layouts-noted : (named : List Named) (plan : PlanData) → file_layouts (noted named plan) ≡ noted_layouts named plan
+layouts-noted named plan = layouts-of named plan.sources
 
 -- what a check of the files has answered is what it comes to
-pub review-comes : {X : Type 0} (plan read : PlanData) (files : List (List ℕ)) (r : Result X Failure) → read ≡ plan → length files ≡ files_wanted plan →
-    IsVerdict (are_clean (file_layouts read) files) r → ComesTo (review_of plan files) r
-review-comes {X} plan read files r same counted verdict =
-    go (are_clean (file_layouts plan) files) r refl (subst (λ (p : PlanData). IsVerdict (are_clean (file_layouts p) files) r) same verdict)
+pub review-comes : {X : Type 0} (plan read p : PlanData) (named : List Named) (n : ℕ) (files : List (List ℕ)) (r : Result X Failure) → read ≡ plan → noted_plan plan named n ≡ Ok p →
+    IsVerdict (are_clean (noted_layouts named read) files) r → ComesTo (reviewed (noted_plan plan named n) files) r
+review-comes {X} plan read p named n files r same is verdict =
+    let layouts : noted_layouts named read ≡ file_layouts p = ap (noted_layouts named) same ∙ sym (layouts-noted named plan) ∙ ap file_layouts (sym (noted-is plan p named n is).1) in
+    subst (λ (q : Result PlanData Failure). ComesTo (reviewed q files) r) (sym is)
+    (go (are_clean (file_layouts p) files) r refl (subst (λ (ls : List Layout). IsVerdict (are_clean ls files) r) layouts verdict))
   where
-    enough : (length files == files_wanted plan) ≡ true
-    enough = eq-eqb _ _ counted
+    ready : Result PlanData Failure
+    ready = Ok p
 
-    clean : (b : Bool) → are_clean (file_layouts plan) files ≡ b → b ≡ true → review_of plan files ≡ Ok tt
-    clean b e right = rw (enough, e ∙ right) refl
+    clean : (b : Bool) → are_clean (file_layouts p) files ≡ b → b ≡ true → reviewed ready files ≡ Ok tt
+    clean b e right = rw (e ∙ right) refl
 
-    problems : (b : Bool) → are_clean (file_layouts plan) files ≡ b → b ≡ false → review_of plan files ≡ Err Problems
-    problems b e wrong = rw (enough, e ∙ wrong) refl
+    problems : (b : Bool) → are_clean (file_layouts p) files ≡ b → b ≡ false → reviewed ready files ≡ Err Problems
+    problems b e wrong = rw (e ∙ wrong) refl
 
-    go : (b : Bool) (s : Result X Failure) → are_clean (file_layouts plan) files ≡ b → IsVerdict b s → ComesTo (review_of plan files) s
+    go : (b : Bool) (s : Result X Failure) → are_clean (file_layouts p) files ≡ b → IsVerdict b s → ComesTo (reviewed ready files) s
     go b (Ok x) e right = rw (clean b e right) refl
     go b (Err f) e why = elim why [
       | inl found ↦ inl (problems b e found.1 ∙ ap Err (sym found.0))

@@ -1,121 +1,159 @@
 -- What a run of named files comes to, case by case, and what its clauses come to.
 use Rattle.std.proofs.Common.{◌≡◌, ◌≢◌, ◌∙◌, ◌≤◌, ◌==◌, ℕ, Bool, true, false, List, [], length, Option, Some, None, Result, Ok, Err, OnOk, refl, ap, sym, subst, inl, inr, eqb-true, eq-eqb}
-use Rattle.std.specs.Prelude.{◌⊎◌, IfSome, IsErrAnd, IsSome, MatchResult}
+use Rattle.std.specs.Prelude.{◌⊎◌, IfErr, IfSome, MatchResult}
+use Rattle.std.specs.Result.{result_map_both}
 use Rattle.std.specs.Io.KnownBytes.{Appends}
 use Rattle.std.proofs.lemmas.Bool.{le-leb}
-use Rattle.std.proofs.lemmas.List.{length-map}
 use Rattle.fq_column.specs.Frame.{Frame}
-use Rattle.fq_notation.specs.declared.notations.Notation.{Notation}
+use Rattle.fq_notation.specs.Notation.{Named}
+use Rattle.fq_plan.specs.Noted.{noted, notation_refusal}
+use Rattle.fq_plan.specs.declared.noted.NotationFault.{NotationFault}
 use Rattle.fq_csv.specs.Printed.{printed_in}
 use Rattle.fq_language.specs.Plan.{PlanData, files_wanted}
-use Rattle.fq_run.specs.Run.{Tell}
 use Rattle.fq_run.specs.declared.faults.Fault.TheVariants.{Inputs, Memory}
 use Rattle.fq_shell.specs.Arguments.{Names}
-use Rattle.fq_messages.specs.Ending.{IsOutside, code_of, number_of, status_of}
+use Rattle.fq_messages.specs.Ending.{IsOutside, code_of, number_of, status_of, unnoted}
 use Rattle.fq_messages.specs.declared.status.Status.TheVariants.{BadDevice, NoMemory}
 use Rattle.fq_messages.specs.declared.failures.Failure.{Failure}
 use Rattle.fq_messages.specs.declared.failures.Failure.TheVariants.{Run}
 use Rattle.fq_program.specs.Program.{AreSettings, checked_plan, frame_of}
-use Rattle.fq_program.specs.Named.{EndsAt, IsPlaced, Leaves, early_failure, names_refusal, outcome_of}
+use Rattle.fq_program.specs.Named.{AnswersEarly, EndsAt, FailsAs, IsPlaced, Leaves, check_of, early_failure, names_refusal, notations_of, noted_plan, outcome_of, planned, refusal_of, reviewed, text_over, written}
+
+-- ---- the plan
+
+planned-named : (names : Names) (text : List ℕ) (f : Failure) → names_refusal names ≡ Some f → planned names text ≡ Err f
+unfolding planned
+planned-named names text f named = rw (named, planned) refl
+
+planned-refused : (names : Names) (text : List ℕ) (f : Failure) → names_refusal names ≡ None → checked_plan text ≡ Err f → planned names text ≡ Err f
+unfolding planned
+planned-refused names text f apart refused = rw (apart, refused, planned) refl
+
+planned-checked : (names : Names) (text : List ℕ) (plan : PlanData) → names_refusal names ≡ None → checked_plan text ≡ Ok plan →
+    planned names text ≡ noted_plan plan (notations_of names) (length names.files)
+unfolding planned
+planned-checked names text plan apart checked = rw (apart, checked, planned) refl
+
+-- by the number of its files, and by its notations
+pub wrong-number : (plan : PlanData) (named : List Named) (n : ℕ) → n ≢ files_wanted plan → noted_plan plan named n ≡ Err (Run (Inputs (files_wanted plan) n))
+unfolding noted_plan
+wrong-number plan named n differs = go (n == files_wanted plan) refl
+  where
+    go : (b : Bool) → (n == files_wanted plan) ≡ b → noted_plan plan named n ≡ Err (Run (Inputs (files_wanted plan) n))
+    go true e = absurd (differs (eqb-true _ _ e))
+    go false e = rw (e, noted_plan) refl
+
+pub wrong-notations : (plan : PlanData) (named : List Named) (n : ℕ) (fault : NotationFault) → n ≡ files_wanted plan → notation_refusal plan named ≡ Some fault →
+    noted_plan plan named n ≡ Err (unnoted fault)
+unfolding noted_plan
+wrong-notations plan named n fault same refused = rw (eq-eqb _ _ same, refused, noted_plan) refl
+
+pub right-notations : (plan : PlanData) (named : List Named) (n : ℕ) → n ≡ files_wanted plan → notation_refusal plan named ≡ None → noted_plan plan named n ≡ Ok (noted named plan)
+unfolding noted_plan
+right-notations plan named n same fine = rw (eq-eqb _ _ same, fine, noted_plan) refl
+
+pub noted-is : (plan p : PlanData) (named : List Named) (n : ℕ) → noted_plan plan named n ≡ Ok p → (n ≡ files_wanted plan) × (p ≡ noted named plan)
+unfolding noted_plan
+noted-is plan p named n e = count (n == files_wanted plan) refl
+  where
+    told : (r : Option NotationFault) → notation_refusal plan named ≡ r → n ≡ files_wanted plan → (n ≡ files_wanted plan) × (p ≡ noted named plan)
+    told None fine same = let one : Result PlanData Failure = Ok (noted named plan) in let is : one ≡ Ok p = sym (right-notations plan named n same fine) ∙ e in (same, cc)
+    told (Some fault) refused same = let bad : Err (unnoted fault) ≡ Ok p = sym (wrong-notations plan named n fault same refused) ∙ e in absurd (cc)
+
+    count : (b : Bool) → (n == files_wanted plan) ≡ b → (n ≡ files_wanted plan) × (p ≡ noted named plan)
+    count true same = told (notation_refusal plan named) refl (eqb-true _ _ same)
+    count false differs = let bad : Err (Run (Inputs (files_wanted plan) n)) ≡ Ok p = sym (wrong-number plan named n (λ same. let off = eq-eqb _ _ same in absurd (cc))) ∙ e in absurd (cc)
 
 -- ---- the outcome
 
 pub outcome-named : (names : Names) (text : List ℕ) (files : List (List ℕ)) (f : Failure) → names_refusal names ≡ Some f → outcome_of names text files ≡ Err f
 unfolding outcome_of
-outcome-named names text files f named = rw (named, outcome_of) refl
+outcome-named names text files f named = ap (λ plan. written plan files) (planned-named names text f named)
 
 pub outcome-refused : (names : Names) (text : List ℕ) (files : List (List ℕ)) (f : Failure) → names_refusal names ≡ None → checked_plan text ≡ Err f →
     outcome_of names text files ≡ Err f
 unfolding outcome_of
-outcome-refused names text files f apart refused = rw (apart, refused, outcome_of) refl
+outcome-refused names text files f apart refused = ap (λ plan. written plan files) (planned-refused names text f apart refused)
 
 pub outcome-checked : (names : Names) (text : List ℕ) (files : List (List ℕ)) (plan : PlanData) → names_refusal names ≡ None → checked_plan text ≡ Ok plan →
-    outcome_of names text files ≡ frame_of plan files
+    outcome_of names text files ≡ written (noted_plan plan (notations_of names) (length names.files)) files
 unfolding outcome_of
-outcome-checked names text files plan apart checked = rw (apart, checked, outcome_of) refl
+outcome-checked names text files plan apart checked = ap (λ plan. written plan files) (planned-checked names text plan apart checked)
+
+-- ---- a check
+
+pub check-named : (names : Names) (text : List ℕ) (files : List (List ℕ)) (f : Failure) → names_refusal names ≡ Some f → check_of names text files ≡ Err f
+unfolding check_of
+check-named names text files f named = ap (λ plan. reviewed plan files) (planned-named names text f named)
+
+pub check-refused : (names : Names) (text : List ℕ) (files : List (List ℕ)) (f : Failure) → names_refusal names ≡ None → checked_plan text ≡ Err f →
+    check_of names text files ≡ Err f
+unfolding check_of
+check-refused names text files f apart refused = ap (λ plan. reviewed plan files) (planned-refused names text f apart refused)
+
+pub check-checked : (names : Names) (text : List ℕ) (files : List (List ℕ)) (plan : PlanData) → names_refusal names ≡ None → checked_plan text ≡ Ok plan →
+    check_of names text files ≡ reviewed (noted_plan plan (notations_of names) (length names.files)) files
+unfolding check_of
+check-checked names text files plan apart checked = ap (λ plan. reviewed plan files) (planned-checked names text plan apart checked)
 
 -- ---- a refusal before a data file is opened
 
-abbrev pub AnswersEarly : {X : Type 0} → Result X Failure → Option Failure → Type 0
-AnswersEarly result early = IfSome early (λ refusal. IsErrAnd result (λ f. (f ≡ refusal) ⊎ IsOutside f))
-
-early-is-named : (names : Names) (text : List ℕ) (f : Failure) → names_refusal names ≡ Some f → early_failure names text ≡ Some f
-unfolding early_failure
-early-is-named names text f named = rw (named, early_failure) refl
-
-early-is-refused : (names : Names) (text : List ℕ) (f : Failure) → names_refusal names ≡ None → checked_plan text ≡ Err f → early_failure names text ≡ Some f
-unfolding early_failure
-early-is-refused names text f apart refused = rw (apart, refused, early_failure) refl
-
-early-is-wrong : (names : Names) (text : List ℕ) (plan : PlanData) → names_refusal names ≡ None → checked_plan text ≡ Ok plan →
-    (length names.files == files_wanted plan) ≡ false → early_failure names text ≡ Some (Run (Inputs (files_wanted plan) (length names.files)))
-unfolding early_failure
-early-is-wrong names text plan apart checked wrong = rw (apart, checked, wrong, early_failure) refl
-
-early-is-none : (names : Names) (text : List ℕ) (plan : PlanData) → names_refusal names ≡ None → checked_plan text ≡ Ok plan →
-    (length names.files == files_wanted plan) ≡ true → early_failure names text ≡ None
-unfolding early_failure
-early-is-none names text plan apart checked right = rw (apart, checked, right, early_failure) refl
-
-pub early-named : (X : Type 0) (names : Names) (text : List ℕ) (f : Failure) → names_refusal names ≡ Some f → (let r : Result X Failure = Err f in AnswersEarly r (early_failure names text))
-early-named X names text f named =
-    let r : Result X Failure = Err f in
-    subst (AnswersEarly r) (sym (early-is-named names text f named)) (inl refl)
-
-outside-early : (X : Type 0) (f : Failure) (early : Option Failure) → IsOutside f → (let r : Result X Failure = Err f in AnswersEarly r early)
+pub outside-early : (X : Type 0) (f : Failure) (early : Option Failure) → IsOutside f → (let r : Result X Failure = Err f in AnswersEarly early r)
 outside-early X f None outside = tt
 outside-early X f (Some refusal) outside = inr outside
 
-pub early-refused : (X : Type 0) (names : Names) (text : List ℕ) (f : Failure) → names_refusal names ≡ None → (checked_plan text ≡ Err f) ⊎ IsOutside f →
-    (let r : Result X Failure = Err f in AnswersEarly r (early_failure names text))
-early-refused X names text f apart why = elim why [
-  | inl refused ↦
+pub early-named : (X : Type 0) (names : Names) (text : List ℕ) (f : Failure) → (names_refusal names ≡ Some f) ⊎ IsOutside f → (let r : Result X Failure = Err f in AnswersEarly (early_failure names text) r)
+unfolding early_failure
+early-named X names text f why = elim why [
+  | inl named ↦
       let r : Result X Failure = Err f in
-      subst (AnswersEarly r) (sym (early-is-refused names text f apart refused)) (inl refl)
+      subst (λ plan. AnswersEarly (refusal_of plan) r) (sym (planned-named names text f named)) (inl refl)
   | inr outside ↦ outside-early X f (early_failure names text) outside
 ]
 
-pub early-checked : {X : Type 0} (names : Names) (text : List ℕ) (plan : PlanData) (r : Result X Failure) → names_refusal names ≡ None → checked_plan text ≡ Ok plan →
-    (length names.files ≢ files_wanted plan → r ≡ Err (Run (Inputs (files_wanted plan) (length names.files)))) → AnswersEarly r (early_failure names text)
-early-checked {X} names text plan r apart checked counted = go (length names.files == files_wanted plan) refl
-  where
-    go : (b : Bool) → (length names.files == files_wanted plan) ≡ b → AnswersEarly r (early_failure names text)
-    go true e = subst (AnswersEarly r) (sym (early-is-none names text plan apart checked e)) tt
-    go false e =
-        let differs : length names.files ≢ files_wanted plan = λ same. let bad = eq-eqb _ _ same in absurd (cc) in
-        let answered : AnswersEarly r (Some (Run (Inputs (files_wanted plan) (length names.files)))) = rw (counted differs) (inl refl) in
-        subst (AnswersEarly r) (sym (early-is-wrong names text plan apart checked e)) answered
+pub early-refused : (X : Type 0) (names : Names) (text : List ℕ) (f : Failure) → names_refusal names ≡ None → (checked_plan text ≡ Err f) ⊎ IsOutside f →
+    (let r : Result X Failure = Err f in AnswersEarly (early_failure names text) r)
+unfolding early_failure
+early-refused X names text f apart why = elim why [
+  | inl refused ↦
+      let r : Result X Failure = Err f in
+      subst (λ plan. AnswersEarly (refusal_of plan) r) (sym (planned-refused names text f apart refused)) (inl refl)
+  | inr outside ↦ outside-early X f (early_failure names text) outside
+]
+
+pub early-checked : (names : Names) (text : List ℕ) (plan : PlanData) → names_refusal names ≡ None → checked_plan text ≡ Ok plan →
+    early_failure names text ≡ refusal_of (noted_plan plan (notations_of names) (length names.files))
+unfolding early_failure
+early-checked names text plan apart checked = ap refusal_of (planned-checked names text plan apart checked)
 
 -- ---- a run of a checked plan
-
--- too few files, or too many
-pub frame-refused : (bytes_of : List ℕ → Option (List ℕ)) (plan : PlanData) (names files : List (List ℕ)) → Tell bytes_of names files → length names ≢ files_wanted plan →
-    frame_of plan files ≡ Err (Run (Inputs (files_wanted plan) (length names)))
-frame-refused bytes_of plan names files tell differs = go (length files == files_wanted plan) refl
-  where
-    many : length names ≡ length files
-    many = sym (length-map names bytes_of) ∙ ap length tell ∙ length-map files Some
-
-    go : (b : Bool) → (length files == files_wanted plan) ≡ b → frame_of plan files ≡ Err (Run (Inputs (files_wanted plan) (length names)))
-    go true e = absurd (differs (many ∙ eqb-true _ _ e))
-    go false e = rw (e, many) refl
 
 -- settings in their ranges
 pub settings-in-range : (batch_size workers : ℕ) → 1 ≤ batch_size → batch_size ≤ 65536 → 1 ≤ workers → workers ≤ 16 → AreSettings batch_size workers
 settings-in-range batch_size workers a b c d = rw (le-leb 1 batch_size a, le-leb batch_size 65536 b, le-leb 1 workers c, le-leb workers 16 d) refl
 
--- the frame was appended to the output
-pub left-here : {X : Type 0} (outcome : Result Frame Failure) (notations : List Notation) (file before after : Option (List ℕ)) (known known_after : List ℕ → Option (List ℕ)) (r : Result X Failure) →
-    file ≡ None → OnOk r ((frame : Frame) × (outcome ≡ Ok frame) × Appends before after (printed_in notations frame)) → Leaves outcome notations file before after known known_after r
-left-here outcome notations file before after known known_after (Ok x) none h = (h.0, h.1, record { here = λ _. h.2; there = λ name some. absurd (cc) })
-left-here outcome notations file before after known known_after (Err f) none h = tt
+-- the text of the frame
+pub text-is : {X : Type 0} (p : PlanData) (files : List (List ℕ)) (P : List ℕ → Type 0) (r : Result X Failure) →
+    OnOk r ((frame : Frame) × (frame_of p files ≡ Ok frame) × P (printed_in p.notations frame)) → OnOk r ((text : List ℕ) × (text_over p files ≡ Ok text) × P text)
+text-is p files P (Ok x) h = (printed_in p.notations h.0, ap (result_map_both (printed_in p.notations) (λ failure. failure)) h.1, h.2)
+text-is p files P (Err f) h = tt
+
+pub text-fails : {X : Type 0} (p : PlanData) (files : List (List ℕ)) (r : Result X Failure) → IfErr r (λ f. (frame_of p files ≡ Err f) ⊎ IsOutside f) → FailsAs (text_over p files) r
+text-fails p files (Ok x) h = tt
+text-fails p files (Err f) h = elim h [ inl same ↦ inl (ap (result_map_both (printed_in p.notations) (λ failure. failure)) same) | inr outside ↦ inr outside ]
+
+-- it was appended to the output
+pub left-here : {X : Type 0} (outcome : Result (List ℕ) Failure) (file before after : Option (List ℕ)) (known known_after : List ℕ → Option (List ℕ)) (r : Result X Failure) →
+    file ≡ None → OnOk r ((text : List ℕ) × (outcome ≡ Ok text) × Appends before after text) → Leaves outcome file before after known known_after r
+left-here outcome file before after known known_after (Ok x) none h = (h.0, h.1, record { here = λ _. h.2; there = λ name some. absurd (cc) })
+left-here outcome file before after known known_after (Err f) none h = tt
 
 -- or is in the place of a file
-pub left-there : {X : Type 0} (outcome : Result Frame Failure) (notations : List Notation) (file before after : Option (List ℕ)) (known known_after : List ℕ → Option (List ℕ)) (name : List ℕ) (empty : Type 0) (r : Result X Failure) →
+pub left-there : {X : Type 0} (outcome : Result (List ℕ) Failure) (file before after : Option (List ℕ)) (known known_after : List ℕ → Option (List ℕ)) (name : List ℕ) (empty : Type 0) (r : Result X Failure) →
     file ≡ Some name → ((bytes : List ℕ) → known name ≡ Some bytes → empty) →
-    OnOk r ((frame : Frame) × (outcome ≡ Ok frame) × (empty → IsPlaced known known_after name (printed_in notations frame))) → Leaves outcome notations file before after known known_after r
-left-there outcome notations file before after known known_after name empty (Err f) some told h = tt
-left-there outcome notations file before after known known_after name empty (Ok x) some told h = (
+    OnOk r ((text : List ℕ) × (outcome ≡ Ok text) × (empty → IsPlaced known known_after name text)) → Leaves outcome file before after known known_after r
+left-there outcome file before after known known_after name empty (Err f) some told h = tt
+left-there outcome file before after known known_after name empty (Ok x) some told h = (
   h.0,
   h.1,
   record {
@@ -147,7 +185,7 @@ pub any-early : (early : Option Failure) (status : ℕ) → ((code : ℕ) → En
 any-early None status ends = tt
 any-early (Some refusal) status ends = ends (number_of (status_of refusal))
 
-pub early-ends : {X : Type 0} (early : Option Failure) (r : Result X Failure) (status : ℕ) → status ≡ code_of r → AnswersEarly r early →
+pub early-ends : {X : Type 0} (early : Option Failure) (r : Result X Failure) (status : ℕ) → status ≡ code_of r → AnswersEarly early r →
     IfSome early (λ refusal. EndsAt (number_of (status_of refusal)) status)
 early-ends None r status is h = tt
 early-ends (Some refusal) (Ok x) status is h = absurd h

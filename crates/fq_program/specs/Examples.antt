@@ -8,12 +8,13 @@ use Rattle.fq_language.specs.Judged.{refused_at}
 use Rattle.fq_language.specs.declared.faults.PlanFault.TheVariants.{Json, Shape}
 use Rattle.fq_language.specs.declared.faults.Place.TheVariants.{Step}
 use Rattle.fq_run.specs.declared.faults.Fault.TheVariants.{Inputs, Header, BadCell}
+use Rattle.fq_plan.specs.declared.noted.NotationFault.TheVariants.{NoColumn, Twice}
 use Rattle.fq_messages.specs.Ending.{code_of}
 use Rattle.fq_shell.specs.Arguments.{names_of}
 use Rattle.fq_program.specs.Named.{early_failure, outcome_of}
 use Rattle.fq_program.specs.Program.{program}
 use Rattle.fq_messages.specs.declared.failures.Failure.{Failure}
-use Rattle.fq_messages.specs.declared.failures.Failure.TheVariants.{InputTwice, PlanReplaced, Plan, Check, Run}
+use Rattle.fq_messages.specs.declared.failures.Failure.TheVariants.{Decimals, InputTwice, Notation, PlanReplaced, Plan, Check, Run}
 
 -- the output of an input, or its failure
 abbrev pub output : List ℕ → Result (List ℕ) Failure
@@ -50,10 +51,24 @@ Statuses = (code_of (output (line (codes "1") over_ten ++ codes "id,v\n")) ≡ 0
 -- frame that would replace the plan
 abbrev pub NamedFiles : Type 0
 NamedFiles =
-    (result_map_both printed (λ failure. failure) (outcome_of (names_of (codes "--plan=p" ∷ codes "1" ∷ codes "0" ∷ [])) (line (codes "2") over_ten)
-    (codes "id,v\n1,30\n" ∷ codes "id,v\n0,20\n" ∷ [])) ≡ Ok (codes "id,v\n1,30\n0,20\n"))
+    (outcome_of (names_of (codes "--plan=p" ∷ codes "1" ∷ codes "0" ∷ [])) (line (codes "2") over_ten)
+    (codes "id,v\n1,30\n" ∷ codes "id,v\n0,20\n" ∷ []) ≡ Ok (codes "id,v\n1,30\n0,20\n"))
     × (early_failure (names_of (codes "--plan=p" ∷ codes "1" ∷ codes "0" ∷ [])) (line (codes "2") over_ten) ≡ None)
     × (early_failure (names_of (codes "--plan=p" ∷ codes "1" ∷ [])) (codes "{") ≡ Some (Plan Json))
     × (early_failure (names_of (codes "--plan=p" ∷ codes "1" ∷ [])) (line (codes "2") over_ten) ≡ Some (Run (Inputs 2 1)))
     × (early_failure (names_of (codes "--plan=-" ∷ codes "-" ∷ [])) (line (codes "1") over_ten) ≡ Some InputTwice)
     × (early_failure (names_of (codes "--plan=p" ∷ codes "-op" ∷ codes "1" ∷ [])) (codes "{") ≡ Some PlanReplaced)
+
+-- an amount that is read and printed with its point, and a day as a date; a third place is no cell; a name of no column of ints, and one that
+-- stands twice; a wrong entry
+abbrev pub NamedNotations : Type 0
+NamedNotations =
+    (outcome_of (names_of (codes "--plan=p" ∷ codes "--decimal=v=2" ∷ codes "--date=id" ∷ codes "1" ∷ [])) (line (codes "1") over_ten)
+    (codes "id,v\n2024-03-05,1.5\n20240306,9\n" ∷ []) ≡ Err (Run (BadCell 0 2 0)))
+    × (outcome_of (names_of (codes "--plan=p" ∷ codes "--decimal=v=2" ∷ codes "--date=id" ∷ codes "1" ∷ [])) (line (codes "1") over_ten)
+    (codes "id,v\n2024-03-05,1.5\n2024-03-06,.05\n" ∷ []) ≡ Ok (codes "id,v\n2024-03-05,1.50\n"))
+    × (outcome_of (names_of (codes "--plan=p" ∷ codes "--decimal=v=2" ∷ codes "1" ∷ [])) (line (codes "1") over_ten) (codes "id,v\n1,1.234\n" ∷ []) ≡ Err (Run (BadCell 0 1 1)))
+    × (early_failure (names_of (codes "--plan=p" ∷ codes "--decimal=w=2" ∷ codes "1" ∷ [])) (line (codes "1") over_ten) ≡ Some (Notation (NoColumn 0)))
+    × (early_failure (names_of (codes "--plan=p" ∷ codes "--decimal=v=2" ∷ codes "--date=v" ∷ codes "1" ∷ [])) (line (codes "1") over_ten) ≡ Some (Notation (Twice 1)))
+    × (early_failure (names_of (codes "--plan=p" ∷ codes "--decimal=w=2" ∷ codes "1" ∷ [])) (line (codes "2") over_ten) ≡ Some (Run (Inputs 2 1)))
+    × (early_failure (names_of (codes "--plan=p" ∷ codes "--decimal=v" ∷ codes "1" ∷ [])) (codes "{") ≡ Some Decimals)

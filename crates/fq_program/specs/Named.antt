@@ -1,16 +1,17 @@
 -- A run and a check of the files that arguments name: what they come to, by the text of the plan and the bytes of the files in their order.
-use Rattle.std.specs.Prelude.{◌≡◌, ◌⊎◌, ◌==◌, not, ℕ, true, false, List, length, Option, Some, None, Result, Ok, Err, OnOk, IfErr, IsOk, MatchResult, if◌then◌else◌}
+use Rattle.std.specs.Prelude.{◌≡◌, ◌⊎◌, ◌==◌, ℕ, true, false, List, [], length, is_none, unwrap_or, Option, Some, None, Result, Ok, Err, OnOk, IfErr, IfSome, IsErrAnd, IsOk, MatchResult, if◌then◌else◌}
+use Rattle.std.specs.Result.{result_map_both}
 use Rattle.std.specs.Io.KnownBytes.{Appends}
-use Rattle.fq_column.specs.Frame.{Frame}
-use Rattle.fq_notation.specs.declared.notations.Notation.{Notation}
+use Rattle.fq_notation.specs.Notation.{Named}
 use Rattle.fq_csv.specs.Printed.{printed_in}
 use Rattle.fq_language.specs.Plan.{PlanData, file_layouts, files_wanted}
+use Rattle.fq_plan.specs.Noted.{noted, notation_refusal}
 use Rattle.fq_review.specs.Checked.{are_clean}
 use Rattle.fq_run.specs.declared.faults.Fault.TheVariants.{Inputs}
 use Rattle.fq_shell.specs.Arguments.{Names, is_check, is_run, names_of, names_to_check, plan_text, reads_input_twice, replaces_plan}
-use Rattle.fq_messages.specs.Ending.{bad_device, no_memory, IsOutside}
+use Rattle.fq_messages.specs.Ending.{bad_device, no_memory, unnoted, IsOutside}
 use Rattle.fq_messages.specs.declared.failures.Failure.{Failure}
-use Rattle.fq_messages.specs.declared.failures.Failure.TheVariants.{InputTwice, PlanReplaced, Problems, Run}
+use Rattle.fq_messages.specs.declared.failures.Failure.TheVariants.{Decimals, InputTwice, PlanReplaced, Problems, Run}
 use Rattle.fq_program.specs.Program.{checked_plan, frame_of}
 
 -- these are the arguments of a run, and this is the text of the plan that they name
@@ -18,30 +19,49 @@ pub record IsRun (bytes_of : List ℕ → Option (List ℕ)) (arguments : List (
   pub taken : is_run arguments ≡ true
   pub plan : plan_text bytes_of (names_of arguments) ≡ Some text
 
--- why names are refused, whatever the files are: the frame would replace the plan, or standard input is named twice
+-- why names are refused, whatever the files are: the frame would replace the plan, standard input is named twice, or an entry of --decimal is
+-- wrong
 unfoldable pub names_refusal : Names → Option Failure
 names_refusal names =
     if replaces_plan names then Some PlanReplaced
     else if reads_input_twice names then Some InputTwice
+    else if is_none names.notations then Some Decimals
     else None
 
--- why a run ends before a data file is opened: its names are refused, the text is no plan, the check refuses it, or the number of files is
--- not the plan's
-unfoldable pub early_failure : Names → List ℕ → Option Failure
-early_failure names text = elim (names_refusal names) [
-  | Some failure ↦ Some failure
-  | None ↦ elim (checked_plan text) [
-    | Err failure ↦ Some failure
-    | Ok plan ↦ if length names.files == files_wanted plan then None else Some (Run (Inputs (files_wanted plan) (length names.files)))
-  ]
+-- the notations that names give to columns
+abbrev pub notations_of : Names → List Named
+notations_of names = unwrap_or names.notations []
+
+-- a plan in notations over so many files, or why it is refused
+unfoldable pub noted_plan : PlanData → List Named → ℕ → Result PlanData Failure
+noted_plan plan named files =
+    if files == files_wanted plan then elim (notation_refusal plan named) [ Some fault ↦ Err (unnoted fault) | None ↦ Ok (noted named plan) ]
+    else Err (Run (Inputs (files_wanted plan) files))
+
+-- the plan of a text with the notations that are named, or why it is refused before a data file is opened: the names are, the text is no plan,
+-- the check refuses it, the number of files is not the plan's, or the notations are not of its columns
+unfoldable pub planned : Names → List ℕ → Result PlanData Failure
+planned names text = elim (names_refusal names) [
+  | Some failure ↦ Err failure
+  | None ↦ elim (checked_plan text) [ Err failure ↦ Err failure | Ok plan ↦ noted_plan plan (notations_of names) (length names.files) ]
 ]
 
--- the frame that a run comes to, or why it comes to none
-unfoldable pub outcome_of : Names → List ℕ → List (List ℕ) → Result Frame Failure
-outcome_of names text files = elim (names_refusal names) [
-  | Some failure ↦ Err failure
-  | None ↦ elim (checked_plan text) [ Err failure ↦ Err failure | Ok plan ↦ frame_of plan files ]
-]
+-- why a run ends before a data file is opened
+abbrev pub refusal_of : Result PlanData Failure → Option Failure
+refusal_of plan = elim plan [ Err failure ↦ Some failure | Ok p ↦ None ]
+
+unfoldable pub early_failure : Names → List ℕ → Option Failure
+early_failure names text = refusal_of (planned names text)
+
+-- the text of the frame that a plan comes to, or why it comes to none
+abbrev pub text_over : PlanData → List (List ℕ) → Result (List ℕ) Failure
+text_over p files = result_map_both (printed_in p.notations) (λ failure. failure) (frame_of p files)
+
+abbrev pub written : Result PlanData Failure → List (List ℕ) → Result (List ℕ) Failure
+written plan files = elim plan [ Err failure ↦ Err failure | Ok p ↦ text_over p files ]
+
+unfoldable pub outcome_of : Names → List ℕ → List (List ℕ) → Result (List ℕ) Failure
+outcome_of names text files = written (planned names text) files
 
 -- these are the arguments of a check, and not of a run, and this is the text of the plan that they name
 pub record IsCheck (bytes_of : List ℕ → Option (List ℕ)) (arguments : List (List ℕ)) (text : List ℕ) : Type 0 where
@@ -49,17 +69,12 @@ pub record IsCheck (bytes_of : List ℕ → Option (List ℕ)) (arguments : List
   pub taken : is_check arguments ≡ true
   pub plan : plan_text bytes_of (names_to_check arguments) ≡ Some text
 
--- a check of a plan's files: the wrong number of files, or whether anything is wrong in one of them, each read by its own source
-abbrev pub review_of : PlanData → List (List ℕ) → Result (Unit {0}) Failure
-review_of plan files =
-    if not (length files == files_wanted plan) then Err (Run (Inputs (files_wanted plan) (length files)))
-    else (if are_clean (file_layouts plan) files then Ok tt else Err Problems)
+-- a check of a plan's files: whether anything is wrong in one of them, each read by its own source
+abbrev pub reviewed : Result PlanData Failure → List (List ℕ) → Result (Unit {0}) Failure
+reviewed plan files = elim plan [ Err failure ↦ Err failure | Ok p ↦ if are_clean (file_layouts p) files then Ok tt else Err Problems ]
 
--- a check of named files
 unfoldable pub check_of : Names → List ℕ → List (List ℕ) → Result (Unit {0}) Failure
-check_of names text files =
-    if reads_input_twice names then Err InputTwice
-    else elim (checked_plan text) [ Err failure ↦ Err failure | Ok plan ↦ review_of plan files ]
+check_of names text files = reviewed (planned names text) files
 
 -- ---- what a run answers, and a check
 
@@ -80,11 +95,15 @@ pub record IsLeft (file : Option (List ℕ)) (before after : Option (List ℕ)) 
   pub here : file ≡ None → Appends before after text
   pub there : (name : List ℕ) → file ≡ Some name → IsPlaced known known_after name text
 
--- at a good end the outcome is a frame, which is left, with ints in these notations
-abbrev pub Leaves : {X : Type 0} → Result Frame Failure → List Notation → Option (List ℕ) → Option (List ℕ) → Option (List ℕ)
+-- at a good end the outcome is a text, which is left
+abbrev pub Leaves : {X : Type 0} → Result (List ℕ) Failure → Option (List ℕ) → Option (List ℕ) → Option (List ℕ)
     → (List ℕ → Option (List ℕ)) → (List ℕ → Option (List ℕ)) → Result X Failure → Type 0
-Leaves outcome notations file before after known known_after result = OnOk result ((frame : Frame) × (outcome ≡ Ok frame) × IsLeft file before after known known_after (printed_in notations frame))
+Leaves outcome file before after known known_after result = OnOk result ((text : List ℕ) × (outcome ≡ Ok text) × IsLeft file before after known known_after text)
 
 -- a failure is that of the outcome, or of a device or an allocation
-abbrev pub FailsAs : {X : Type 0} → Result Frame Failure → Result X Failure → Type 0
+abbrev pub FailsAs : {X : Type 0} → Result (List ℕ) Failure → Result X Failure → Type 0
 FailsAs outcome result = IfErr result (λ failure. (outcome ≡ Err failure) ⊎ IsOutside failure)
+
+-- a refusal, if there is one, is what is answered, unless a device or an allocation failed
+abbrev pub AnswersEarly : {X : Type 0} → Option Failure → Result X Failure → Type 0
+AnswersEarly refusal result = IfSome refusal (λ failure. IsErrAnd result (λ f. (f ≡ failure) ⊎ IsOutside f))

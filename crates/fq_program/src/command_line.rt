@@ -1,22 +1,21 @@
 //! The program with arguments.
 ghost use Rattle.std.specs.Prelude.{◌≡◌, ◌≢◌, ◌⊎◌, ◌<◌, ◌^◌, ℕ, List, [], Some, None, IsSome, IfSome, IfErr, IfOk, IsErrAnd, MatchResult, OnOk, length, map, string_bytes, true};
 ghost use Rattle.std.specs.Io.KnownBytes.{Appends, Keeps};
-ghost use Rattle.fq_column.specs.Frame.{Frame};
-ghost use Rattle.fq_csv.specs.Printed.{printed, printed_in};
 ghost use Rattle.fq_language.specs.Plan.{files_wanted};
 ghost use Rattle.fq_run.specs.declared.faults.Fault.TheVariants as fault;
 ghost use Rattle.fq_run.specs.Run.{Tell};
 ghost use Rattle.fq_shell.specs.Arguments.{is_run, names_of, names_to_check, named_by, plan_text};
 ghost use Rattle.fq_messages.specs.Ending.{done, bad_device, code_of, number_of, status_of, IsOutside};
 ghost use Rattle.fq_messages.specs.declared.failures.Failure.TheVariants as failure;
-ghost use Rattle.fq_program.specs.Program.{checked_plan as checked_plan_of, frame_of};
-ghost use Rattle.fq_program.specs.Named.{check_of, early_failure, names_refusal, outcome_of, review_of, ComesTo, EndsAt, FailsAs, IsCheck, IsPlaced, IsRun, Leaves};
+ghost use Rattle.fq_program.specs.Program.{checked_plan as checked_plan_of};
+ghost use Rattle.fq_program.specs.Named.{check_of, early_failure, names_refusal, notations_of, noted_plan as noted_plan_of, outcome_of, refusal_of, reviewed, text_over, written, AnswersEarly, ComesTo, EndsAt, FailsAs, IsCheck, IsPlaced, IsRun, Leaves};
 
 use crate::program::{checked_plan, run_over};
 use clap::error::ErrorKind;
 use fq_messages::{
     Failure, Learned, Status, check_files, draft_of, open, read_whole, report, write_details,
 };
+use fq_notation::NamedNotations;
 use fq_plan::{Checked, Fault, read_plan};
 use fq_shell::{Noted, Opener, Options, write_refusal};
 use std::alloc::Global;
@@ -26,8 +25,8 @@ use std::thread::Threads;
 
 /// Does what the arguments ask for, and answers the exit status. The program's own name is not among these.
 ///
-/// `--plan PLAN [--batch N] [--workers N] [--output OUT] [--progress] FILE...` runs a plan over files and writes the frame to `out`, or in
-/// the place of a file, which stays as it was if there is no frame. `--plan PLAN --explain [FILE...]` writes there what the plan's steps
+/// `--plan PLAN [--batch N] [--workers N] [--decimal LIST].. [--date LIST].. [--output OUT] [--progress] FILE...` runs a plan over files and
+/// writes the frame to `out`, or in the place of a file, which stays as it was if there is no frame. `--plan PLAN --explain [FILE...]` writes there what the plan's steps
 /// leave, and opens no file of data; `--help` and `--version` write a text. At any status but 0 `err` says why, in one line (of
 /// arguments that are refused, as `clap` has it), and with `--details` in lines after it, and nothing is written to `out`, except that at 5,
 /// if the write itself failed, an unknown part may be. A failed write to `err` changes no status. The arguments are judged first, then the plan file, the plan, and the number of
@@ -49,12 +48,12 @@ pub fn with_words<T: Threads + Wait + Sync, O: Opener, W: Write, E: Write>(
         Tell (O.bytes_of files.old) (names_of arguments).files inputs → EndsAt (code_of (outcome_of (names_of arguments) text inputs)) result }
     ensures output { let arguments = map string_bytes words.items in (text : List ℕ) (inputs : List (List ℕ)) → IsRun (O.bytes_of files.old) arguments text →
         Tell (O.bytes_of files.old) (names_of arguments).files inputs → (names_of arguments).output ≡ None → result ≡ done →
-        (frame : Frame) × (outcome_of (names_of arguments) text inputs ≡ Ok frame) × Appends (W.contents out.old.writer) (W.contents out.new.writer) (printed frame) }
+        (written : List ℕ) × (outcome_of (names_of arguments) text inputs ≡ Ok written) × Appends (W.contents out.old.writer) (W.contents out.new.writer) written }
     ensures elsewhere { let arguments = map string_bytes words.items in is_run arguments ≡ true → IsSome (names_of arguments).output →
         Keeps (W.contents out.old.writer) (W.contents out.new.writer) }
     ensures placed { let arguments = map string_bytes words.items in (text : List ℕ) (inputs : List (List ℕ)) (name : List ℕ) → IsRun (O.bytes_of files.old) arguments text →
         Tell (O.bytes_of files.old) (names_of arguments).files inputs → (names_of arguments).output ≡ Some name → result ≡ done →
-        (frame : Frame) × (outcome_of (names_of arguments) text inputs ≡ Ok frame) × IsPlaced (O.bytes_of files.old) (O.bytes_of files.new) name (printed frame) }
+        (written : List ℕ) × (outcome_of (names_of arguments) text inputs ≡ Ok written) × IsPlaced (O.bytes_of files.old) (O.bytes_of files.new) name written }
     ensures unwritten { result ≢ done → result ≢ bad_device → Keeps (W.contents out.old.writer) (W.contents out.new.writer) }
     ensures untouched { result ≢ done → O.bytes_of files.new ≡ O.bytes_of files.old }
     ensures quiet { let arguments = map string_bytes words.items in is_run arguments ≡ true → result ≡ done → Keeps (E.contents err.old) (E.contents err.new) }
@@ -85,11 +84,11 @@ fn answer_run<T: Threads + Wait + Sync, O: Opener, W: Write, E: Write>(
         Tell (O.bytes_of files.old) (named_by options.now).files inputs → EndsAt (code_of (outcome_of (named_by options.now) text inputs)) result }
     ensures output { (text : List ℕ) (inputs : List (List ℕ)) → plan_text (O.bytes_of files.old) (named_by options.now) ≡ Some text →
         Tell (O.bytes_of files.old) (named_by options.now).files inputs → (named_by options.now).output ≡ None → result ≡ done →
-        (frame : Frame) × (outcome_of (named_by options.now) text inputs ≡ Ok frame) × Appends (W.contents out.old.writer) (W.contents out.new.writer) (printed frame) }
+        (written : List ℕ) × (outcome_of (named_by options.now) text inputs ≡ Ok written) × Appends (W.contents out.old.writer) (W.contents out.new.writer) written }
     ensures elsewhere { IsSome (named_by options.now).output → Keeps (W.contents out.old.writer) (W.contents out.new.writer) }
     ensures placed { (text : List ℕ) (inputs : List (List ℕ)) (name : List ℕ) → plan_text (O.bytes_of files.old) (named_by options.now) ≡ Some text →
         Tell (O.bytes_of files.old) (named_by options.now).files inputs → (named_by options.now).output ≡ Some name → result ≡ done →
-        (frame : Frame) × (outcome_of (named_by options.now) text inputs ≡ Ok frame) × IsPlaced (O.bytes_of files.old) (O.bytes_of files.new) name (printed frame) }
+        (written : List ℕ) × (outcome_of (named_by options.now) text inputs ≡ Ok written) × IsPlaced (O.bytes_of files.old) (O.bytes_of files.new) name written }
     ensures unwritten { result ≢ done → result ≢ bad_device → Keeps (W.contents out.old.writer) (W.contents out.new.writer) }
     ensures untouched { result ≢ done → O.bytes_of files.new ≡ O.bytes_of files.old }
     ensures quiet { result ≡ done → Keeps (E.contents err.old) (E.contents err.new) }
@@ -235,14 +234,14 @@ fn run_options<T: Threads + Wait + Sync, O: Opener, W: Write, E: Write>(
     ensures untouched { IfErr result (λ _. O.bytes_of files.new ≡ O.bytes_of files.old) }
 {
     if options.check() {
-        return check_named(alloc, options, files, err, learned);
+        check_named(alloc, options, files, err, learned)
+    } else if options.draft() {
+        draft_plan(alloc, options, files, out, err)
+    } else if options.explain() {
+        explain_plan(alloc, options, files, out, learned)
+    } else {
+        run_named(rt, alloc, options, files, out, learned)
     }
-    judge_names(options, files)?;
-    if options.draft() {
-        return draft_plan(alloc, options, files, out, err);
-    }
-    let plan = read_plan_file(alloc, options, files, learned)?;
-    explain_or_run(rt, alloc, &plan, options, files, out, learned)
 }
 
 // Checks the data files by the plan of the plan file, and writes on `err` what is wrong in them.
@@ -257,31 +256,52 @@ fn check_named<O: Opener, E: Write>(
     ensures checked { (text : List ℕ) (inputs : List (List ℕ)) → plan_text (O.bytes_of files.old) (named_by options.now) ≡ Some text →
         Tell (O.bytes_of files.old) (named_by options.now).files inputs → ComesTo (check_of (named_by options.now) text inputs) result }
 {
-    if options.reads_input_twice() {
-        return Err(Failure::InputTwice);
-    }
+    let named = judge_names(alloc, options, files)?;
     match read_plan_file(alloc, options, files, learned) {
-        Ok(plan) => check_counted(alloc, &plan, options, files, err, learned.plan.as_slice()),
+        Ok(plan) => check_noted(
+            alloc,
+            plan,
+            &named,
+            options,
+            files,
+            err,
+            learned.plan.as_slice(),
+        ),
         Err(failure) => Err(failure),
     }
 }
 
-// Checks the data files by a plan of this text.
-fn check_counted<O: Opener, E: Write>(
+// Checks the data files by a plan of this text, in notations.
+fn check_noted<O: Opener, E: Write>(
     alloc: Global,
-    plan: &Checked,
+    plan: Checked,
+    named: &NamedNotations,
     options: &Options<'_>,
     files: &mut O,
     err: &mut E,
     text: &[u8],
 ) -> Result<(), Failure>
     ensures same { O.bytes_of files.new ≡ O.bytes_of files.old }
-    ensures checked { (inputs : List (List ℕ)) → Tell (O.bytes_of files.old) (named_by options.now).files inputs → checked_plan_of text.now ≡ Ok plan.now →
-        ComesTo (review_of plan.now inputs) result }
+    ensures checked { (inputs : List (List ℕ)) → Tell (O.bytes_of files.old) (named_by options.now).files inputs → checked_plan_of text.now ≡ Ok plan →
+        ComesTo (reviewed (noted_plan_of plan named.now (length (named_by options.now).files)) inputs) result }
 {
-    count_files(plan, options.files())?;
+    noted_plan(alloc, plan, named, options.files())?;
     let plan = read_plan(alloc, text)?;
-    check_files(alloc, &plan, options, files, err)
+    check_files(alloc, &plan, named, options, files, err)
+}
+
+// The plan in notations, over files of these names. A number of files that is not the plan's is refused first.
+fn noted_plan(
+    alloc: Global,
+    plan: Checked,
+    named: &NamedNotations,
+    names: &[&str],
+) -> Result<Checked, Failure>
+    ensures few { OnOk result (length names.now < 2 ^ 16) }
+    ensures noted { MatchResult result (λ p. noted_plan_of plan named.now (length names.now) ≡ Ok p) (λ f. (noted_plan_of plan named.now (length names.now) ≡ Err f) ⊎ IsOutside f) }
+{
+    count_files(&plan, names)?;
+    Ok(plan.with_notations(alloc, named)?)
 }
 
 // The plan of the plan file, whose text is learned.
@@ -335,6 +355,7 @@ fn draft_plan<O: Opener, W: Write, E: Write>(
     ensures same { O.bytes_of files.new ≡ O.bytes_of files.old }
     ensures unwritten { IfErr result (λ f. f ≢ failure.Run fault.Write → Keeps (W.contents out.old) (W.contents out.new)) }
 {
+    judge_names(alloc, options, files)?;
     let names = options.files();
     let draft = draft_of(alloc, options, files, err)?;
     draft.write_notes(names, err);
@@ -343,47 +364,45 @@ fn draft_plan<O: Opener, W: Write, E: Write>(
     write!(out, "{text}").map_err(|_| Failure::Run(Fault::Write))
 }
 
-// Writes what the steps of the plan leave, or its frame over the data files.
-fn explain_or_run<T: Threads + Wait + Sync, O: Opener, W: Write>(
-    rt: &T,
+// Writes what the steps of the plan of the plan file leave. If there are names of files, their number has to be the plan's.
+fn explain_plan<O: Opener, W: Write>(
     alloc: Global,
-    plan: &Checked,
     options: &Options<'_>,
     files: &mut O,
     out: &mut W,
     learned: &mut Learned,
 ) -> Result<(), Failure>
+    ensures same { O.bytes_of files.new ≡ O.bytes_of files.old }
     ensures unwritten { IfErr result (λ f. f ≢ failure.Run fault.Write → Keeps (W.contents out.old) (W.contents out.new)) }
-    ensures untouched { IfErr result (λ _. O.bytes_of files.new ≡ O.bytes_of files.old) }
 {
-    if options.explain() {
-        write_explanation(alloc, plan, options.files(), out)
-    } else {
-        run_shown(rt, alloc, plan, options, files, out, learned)
+    let named = judge_names(alloc, options, files)?;
+    let plan = read_plan_file(alloc, options, files, learned)?;
+    let names = options.files();
+    if !names.is_empty() {
+        count_files(&plan, names)?;
     }
+    let plan = plan.with_notations(alloc, &named)?;
+    write_explanation(alloc, &plan, out)
 }
 
-// Writes what the steps of the plan leave. If there are names of files, their number has to be the plan's.
-fn write_explanation<W: Write>(
-    alloc: Global,
-    plan: &Checked,
-    names: &[&str],
-    out: &mut W,
-) -> Result<(), Failure>
+// Writes what the steps of a plan leave.
+fn write_explanation<W: Write>(alloc: Global, plan: &Checked, out: &mut W) -> Result<(), Failure>
     ensures unwritten { IfErr result (λ f. f ≢ failure.Run fault.Write → Keeps (W.contents out.old) (W.contents out.new)) }
 {
-    if !names.is_empty() {
-        count_files(plan, names)?;
-    }
     let explanation = plan.explain(alloc)?;
     write!(out, "{explanation}").map_err(|_| Failure::Run(Fault::Write))
 }
 
-// Refuses names by which the frame would replace the plan, or standard input would be read twice.
-fn judge_names<O: Opener>(options: &Options<'_>, files: &mut O) -> Result<(), Failure>
+// The notations that the arguments give to columns. Refuses names by which the frame would replace the plan, or standard input would be read
+// twice, and then an entry of `--decimal` that is wrong.
+fn judge_names<O: Opener>(
+    alloc: Global,
+    options: &Options<'_>,
+    files: &mut O,
+) -> Result<NamedNotations, Failure>
     ensures same { O.bytes_of files.new ≡ O.bytes_of files.old }
     ensures told { (text : List ℕ) → plan_text (O.bytes_of files.old) (named_by options.now) ≡ Some text →
-        MatchResult result (λ _. names_refusal (named_by options.now) ≡ None) (λ f. names_refusal (named_by options.now) ≡ Some f) }
+        MatchResult result (λ named. (names_refusal (named_by options.now) ≡ None) × (named ≡ notations_of (named_by options.now))) (λ f. (names_refusal (named_by options.now) ≡ Some f) ⊎ IsOutside f) }
 {
     if options.replaces_plan(files) {
         return Err(Failure::PlanReplaced);
@@ -391,7 +410,11 @@ fn judge_names<O: Opener>(options: &Options<'_>, files: &mut O) -> Result<(), Fa
     if options.reads_input_twice() {
         return Err(Failure::InputTwice);
     }
-    Ok(())
+    match options.notations(alloc) {
+        Ok(Some(named)) => Ok(named),
+        Ok(None) => Err(Failure::Decimals),
+        Err(_) => Err(Failure::MEMORY),
+    }
 }
 
 // Writes the frame of the plan of the plan file over the data files.
@@ -404,10 +427,10 @@ fn run_named<T: Threads + Wait + Sync, O: Opener, W: Write>(
     learned: &mut Learned,
 ) -> Result<(), Failure>
     ensures early { (text : List ℕ) → plan_text (O.bytes_of files.old) (named_by options.now) ≡ Some text →
-        IfSome (early_failure (named_by options.now) text) (λ refusal. IsErrAnd result (λ f. (f ≡ refusal) ⊎ IsOutside f)) }
+        AnswersEarly (early_failure (named_by options.now) text) result }
     ensures printed { (text : List ℕ) (inputs : List (List ℕ)) → plan_text (O.bytes_of files.old) (named_by options.now) ≡ Some text →
         Tell (O.bytes_of files.old) (named_by options.now).files inputs →
-        Leaves (outcome_of (named_by options.now) text inputs) [] (named_by options.now).output (W.contents out.old) (W.contents out.new)
+        Leaves (outcome_of (named_by options.now) text inputs) (named_by options.now).output (W.contents out.old) (W.contents out.new)
         (O.bytes_of files.old) (O.bytes_of files.new) result }
     ensures failed { (text : List ℕ) (inputs : List (List ℕ)) → plan_text (O.bytes_of files.old) (named_by options.now) ≡ Some text →
         Tell (O.bytes_of files.old) (named_by options.now).files inputs → FailsAs (outcome_of (named_by options.now) text inputs) result }
@@ -415,9 +438,9 @@ fn run_named<T: Threads + Wait + Sync, O: Opener, W: Write>(
     ensures unwritten { IfErr result (λ f. f ≢ failure.Run fault.Write → Keeps (W.contents out.old) (W.contents out.new)) }
     ensures untouched { IfErr result (λ _. O.bytes_of files.new ≡ O.bytes_of files.old) }
 {
-    judge_names(options, files)?;
+    let named = judge_names(alloc, options, files)?;
     match read_plan_file(alloc, options, files, learned) {
-        Ok(plan) => run_shown(rt, alloc, &plan, options, files, out, learned),
+        Ok(plan) => run_shown(rt, alloc, plan, &named, options, files, out, learned),
         Err(failure) => Err(failure),
     }
 }
@@ -426,29 +449,29 @@ fn run_named<T: Threads + Wait + Sync, O: Opener, W: Write>(
 fn run_shown<T: Threads + Wait + Sync, O: Opener, W: Write>(
     rt: &T,
     alloc: Global,
-    plan: &Checked,
+    plan: Checked,
+    named: &NamedNotations,
     options: &Options<'_>,
     files: &mut O,
     out: &mut W,
     learned: &mut Learned,
 ) -> Result<(), Failure>
-    ensures early { length (named_by options.now).files ≢ files_wanted plan.now →
-        result ≡ Err (failure.Run (fault.Inputs (files_wanted plan.now) (length (named_by options.now).files))) }
+    ensures early { AnswersEarly (refusal_of (noted_plan_of plan named.now (length (named_by options.now).files))) result }
     ensures printed { (inputs : List (List ℕ)) → Tell (O.bytes_of files.old) (named_by options.now).files inputs →
-        Leaves (frame_of plan.now inputs) plan.now.notations (named_by options.now).output (W.contents out.old) (W.contents out.new)
+        Leaves (written (noted_plan_of plan named.now (length (named_by options.now).files)) inputs) (named_by options.now).output (W.contents out.old) (W.contents out.new)
         (O.bytes_of files.old) (O.bytes_of files.new) result }
-    ensures failed { (inputs : List (List ℕ)) → Tell (O.bytes_of files.old) (named_by options.now).files inputs → FailsAs (frame_of plan.now inputs) result }
+    ensures failed { (inputs : List (List ℕ)) → Tell (O.bytes_of files.old) (named_by options.now).files inputs → FailsAs (written (noted_plan_of plan named.now (length (named_by options.now).files)) inputs) result }
     ensures elsewhere { IsSome (named_by options.now).output → Keeps (W.contents out.old) (W.contents out.new) }
     ensures unwritten { IfErr result (λ f. f ≢ failure.Run fault.Write → Keeps (W.contents out.old) (W.contents out.new)) }
     ensures untouched { IfErr result (λ _. O.bytes_of files.new ≡ O.bytes_of files.old) }
 {
     if options.progress() {
         files.show_progress();
-        let answer = run_plan(rt, alloc, plan, options, files, out, learned);
+        let answer = run_plan(rt, alloc, plan, named, options, files, out, learned);
         files.clear_progress();
         answer
     } else {
-        run_plan(rt, alloc, plan, options, files, out, learned)
+        run_plan(rt, alloc, plan, named, options, files, out, learned)
     }
 }
 
@@ -456,26 +479,26 @@ fn run_shown<T: Threads + Wait + Sync, O: Opener, W: Write>(
 fn run_plan<T: Threads + Wait + Sync, O: Opener, W: Write>(
     rt: &T,
     alloc: Global,
-    plan: &Checked,
+    plan: Checked,
+    named: &NamedNotations,
     options: &Options<'_>,
     files: &mut O,
     out: &mut W,
     learned: &mut Learned,
 ) -> Result<(), Failure>
-    ensures early { length (named_by options.now).files ≢ files_wanted plan.now →
-        result ≡ Err (failure.Run (fault.Inputs (files_wanted plan.now) (length (named_by options.now).files))) }
+    ensures early { AnswersEarly (refusal_of (noted_plan_of plan named.now (length (named_by options.now).files))) result }
     ensures printed { (inputs : List (List ℕ)) → Tell (O.bytes_of files.old) (named_by options.now).files inputs →
-        Leaves (frame_of plan.now inputs) plan.now.notations (named_by options.now).output (W.contents out.old) (W.contents out.new)
+        Leaves (written (noted_plan_of plan named.now (length (named_by options.now).files)) inputs) (named_by options.now).output (W.contents out.old) (W.contents out.new)
         (O.bytes_of files.old) (O.bytes_of files.new) result }
-    ensures failed { (inputs : List (List ℕ)) → Tell (O.bytes_of files.old) (named_by options.now).files inputs → FailsAs (frame_of plan.now inputs) result }
+    ensures failed { (inputs : List (List ℕ)) → Tell (O.bytes_of files.old) (named_by options.now).files inputs → FailsAs (written (noted_plan_of plan named.now (length (named_by options.now).files)) inputs) result }
     ensures elsewhere { IsSome (named_by options.now).output → Keeps (W.contents out.old) (W.contents out.new) }
     ensures unwritten { IfErr result (λ f. f ≢ failure.Run fault.Write → Keeps (W.contents out.old) (W.contents out.new)) }
     ensures untouched { IfErr result (λ _. O.bytes_of files.new ≡ O.bytes_of files.old) }
 {
     let names = options.files();
-    count_files(plan, names)?;
+    let plan = noted_plan(alloc, plan, named, names)?;
     let inputs = open_all(alloc, files, names)?;
-    write_frame(rt, alloc, plan, options, inputs, files, out, learned)
+    write_frame(rt, alloc, &plan, options, inputs, files, out, learned)
 }
 
 // Writes the frame of the plan over inputs to `out`, or in the place of a file.
@@ -490,9 +513,9 @@ fn write_frame<T: Threads + Wait + Sync, R: Read + Drop + Send, O: Opener, W: Wr
     learned: &mut Learned,
 ) -> Result<(), Failure>
     ensures printed { (texts : List (List ℕ)) → Tell R.remaining inputs.items texts →
-        Leaves (frame_of plan.now texts) plan.now.notations (named_by options.now).output (W.contents out.old) (W.contents out.new)
+        Leaves (text_over plan.now texts) (named_by options.now).output (W.contents out.old) (W.contents out.new)
         (O.bytes_of files.old) (O.bytes_of files.new) result }
-    ensures failed { (texts : List (List ℕ)) → Tell R.remaining inputs.items texts → FailsAs (frame_of plan.now texts) result }
+    ensures failed { (texts : List (List ℕ)) → Tell R.remaining inputs.items texts → FailsAs (text_over plan.now texts) result }
     ensures elsewhere { IsSome (named_by options.now).output → Keeps (W.contents out.old) (W.contents out.new) }
     ensures unwritten { IfErr result (λ f. f ≢ failure.Run fault.Write → Keeps (W.contents out.old) (W.contents out.new)) }
     ensures untouched { IfErr result (λ _. O.bytes_of files.new ≡ O.bytes_of files.old) }
@@ -534,9 +557,9 @@ fn run_to_file<T: Threads + Wait + Sync, R: Read + Drop + Send, O: Opener>(
     files: &mut O,
     learned: &mut Learned,
 ) -> Result<(), Failure>
-    ensures placed { (texts : List (List ℕ)) → Tell R.remaining inputs.items texts → OnOk result ((frame : Frame) × (frame_of plan.now texts ≡ Ok frame) ×
-        (O.Output.contents output ≡ Some [] → IsPlaced (O.bytes_of files.old) (O.bytes_of files.new) name.now (printed_in plan.now.notations frame))) }
-    ensures failed { (texts : List (List ℕ)) → Tell R.remaining inputs.items texts → FailsAs (frame_of plan.now texts) result }
+    ensures placed { (texts : List (List ℕ)) → Tell R.remaining inputs.items texts → OnOk result ((text : List ℕ) × (text_over plan.now texts ≡ Ok text) ×
+        (O.Output.contents output ≡ Some [] → IsPlaced (O.bytes_of files.old) (O.bytes_of files.new) name.now text)) }
+    ensures failed { (texts : List (List ℕ)) → Tell R.remaining inputs.items texts → FailsAs (text_over plan.now texts) result }
     ensures untouched { IfErr result (λ _. O.bytes_of files.new ≡ O.bytes_of files.old) }
 {
     let mut output = Noted::new(output);

@@ -221,21 +221,21 @@ module _ (layout : Layout) where
 
 -- ---- files
 
-names-are : (columns : List (String Global × Kind)) (nulls : List (List ℕ)) → names_of (layout_of columns nulls).schema ≡ names_in columns
-names-are [] nulls = refl
-names-are (c ∷ columns) nulls = ap (λ ns. string_bytes c.0 ∷ ns) (names-are columns nulls)
+names-are : (columns : List (String Global × Kind)) (nulls : List (List ℕ)) (notations : List Notation) → names_of (layout_of columns nulls notations).schema ≡ names_in columns
+names-are [] nulls notations = refl
+names-are (c ∷ columns) nulls notations = ap (λ ns. string_bytes c.0 ∷ ns) (names-are columns nulls notations)
 
 -- a file with a header is clean if that has the names of the columns, and what follows it is rows
-module _ (file : ℕ) (columns : List (String Global × Kind)) (nulls : List (List ℕ)) where
+module _ (file : ℕ) (columns : List (String Global × Kind)) (nulls : List (List ℕ)) (notations : List Notation) where
   abbrev layout : Layout
-  layout = layout_of columns nulls
+  layout = layout_of columns nulls notations
 
   header-fine : (r : Record) (rs : List Record) (b : Bool) → pointwise same_name (names_of layout.schema) r ≡ b →
       is_none (rows_under_header file layout MAX_ROWS (r ∷ rs)).fault ≡ (pointwise same_name (names_in columns) r && are_rows layout rs)
   header-fine r rs true s = rw s (rows-fine layout file MAX_ROWS 0 rs (omega arith)
       ∙ ap (λ n. list_all (is_row layout) rs && nat_le n MAX_ROWS) (let e : 0 + length rs ≡ length rs = omega arith in e)
-      ∙ sym (ap (λ b. b && are_rows layout rs) (ap (λ ns. pointwise same_name ns r) (sym (names-are columns nulls)) ∙ s)))
-  header-fine r rs false s = rw s (sym (ap (λ b. b && are_rows layout rs) (ap (λ ns. pointwise same_name ns r) (sym (names-are columns nulls)) ∙ s)))
+      ∙ sym (ap (λ b. b && are_rows layout rs) (ap (λ ns. pointwise same_name ns r) (sym (names-are columns nulls notations)) ∙ s)))
+  header-fine r rs false s = rw s (sym (ap (λ b. b && are_rows layout rs) (ap (λ ns. pointwise same_name ns r) (sym (names-are columns nulls notations)) ∙ s)))
 
   pub clean-is : (bytes : List ℕ) (r : Record) (rs : List Record) → records default_config (strip_bom bytes) ≡ r ∷ rs →
       is_clean file layout bytes ≡ ((pointwise same_name (names_in columns) r && are_rows layout rs) && is_flawless (marks_of bytes))

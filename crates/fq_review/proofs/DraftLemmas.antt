@@ -1,6 +1,6 @@
 -- What a draft says: the sources of files, and the fields that their columns have counted.
-use Rattle.std.proofs.Common.{◌≡◌, ◌∙◌, ◌+◌, ◌++◌, ◌<◌, ◌≤◌, ◌≢◌, ℕ, zero, suc, Bool, true, false, List, [], ◌∷◌, Err, Ok, Option, Result, Some, None, ap, append_assoc, arith, below_more, drop, get_or, inl, inr, length, length-append, min, refl, reverse, set, slice_get, string_bytes, subst, sym}
-use Rattle.std.specs.Prelude.{◌==◌, ◌&&◌, ◌⊎◌, IfOk, MatchOption, String, is_some}
+use Rattle.std.proofs.Common.{◌≡◌, ◌∙◌, ◌+◌, ◌++◌, ◌<◌, ◌≤◌, ◌≢◌, ℕ, zero, suc, Bool, true, false, List, [], ◌∷◌, Err, Ok, Result, Some, ap, append_assoc, arith, below_more, drop, get_or, inl, inr, length, length-append, min, refl, reverse, set, slice_get, string_bytes, subst, sym}
+use Rattle.std.specs.Prelude.{◌==◌, ◌&&◌, ◌⊎◌, IfOk, String}
 use Rattle.std.specs.Cmp.Lexicographic.{bytes_decides, pointwise}
 use Rattle.std.specs.Global.{Global}
 use Rattle.std.specs.List.{flat_map, list_all}

@@ -17,9 +17,9 @@ use Rattle.fq_places.specs.declared.marks.Mark.{Mark}
 abbrev pub names_in : {X : Type 0} → List (String Global × X) → List Name
 names_in columns = map (λ c. string_bytes c.0) columns
 
--- how a file with these columns is read, where these texts are null
-abbrev pub layout_of : List (String Global × Kind) → List (List ℕ) → Layout
-layout_of columns nulls = record { schema = map (λ c. (string_bytes c.0, c.1)) columns; nulls = nulls; notations = []; projection = [] }
+-- how a file with these columns is read, where these texts are null and ints are in these notations
+abbrev pub layout_of : List (String Global × Kind) → List (List ℕ) → List Notation → Layout
+layout_of columns nulls notations = record { schema = map (λ c. (string_bytes c.0, c.1)) columns; nulls = nulls; notations = notations; projection = [] }
 
 -- whether a record is a row: it has as many fields as there are columns, each a cell of its column
 abbrev pub is_row : Layout → Record → Bool

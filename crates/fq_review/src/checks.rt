@@ -17,7 +17,7 @@ use crate::tallies::Tally;
 use csv::ByteRecord;
 use fq_column::{Kind, Memory};
 use fq_csv::{MAX_ROWS, NullValues, is_cell};
-use fq_notation::Notation;
+use fq_notation::Notations;
 use fq_places::{LinedRecords, Mark, Quoted, Unread};
 use std::alloc::Global;
 use std::io::{Read, Write};
@@ -25,11 +25,12 @@ use std::io::{Read, Write};
 /// How many texts of a column a summary names.
 const NAMED_TEXTS: usize = 3;
 
-/// What a file is to be: the columns that its header names, and the texts that are null in each of them.
+/// What a file is to be: the columns that its header names, the texts that are null in each of them, and how their ints are written.
 #[derive(Clone, Copy)]
 pub struct Expected<'a> {
     pub columns: &'a [(String, Kind)],
     pub nulls: &'a NullValues,
+    pub notations: &'a Notations,
 }
 
 /// A check of files. Each problem is a line, `FILE:LINE: ..`, up to a limit; all are counted.
@@ -105,7 +106,7 @@ impl Check {
         err: &mut E,
     ) -> Result<(), Unread>
         ensures judged { OnOk result ((bytes : List ℕ) → A.remaining records ≡ Some bytes → B.remaining marks ≡ Some bytes →
-            (self.new.problems == 0) ≡ ((self.old.problems == 0) && is_clean number (layout_of expected.entry.columns.now expected.entry.nulls.now) bytes)) }
+            (self.new.problems == 0) ≡ ((self.old.problems == 0) && is_clean number (layout_of expected.entry.columns.now expected.entry.nulls.now expected.entry.notations.now) bytes)) }
     {
         let file = File {
             number,
@@ -137,7 +138,7 @@ impl Check {
         requires sound { IsSound records.old.marks }
         ensures judged { OnOk result ((bytes : List ℕ) → HasLeft A.remaining records.old.records (records_of default_config (strip_bom bytes)) →
             HasMarks B.remaining records.old.marks (marks_of bytes) → (self.new.problems == 0)
-            ≡ ((self.old.problems == 0) && is_clean file.entry.number (layout_of file.entry.expected.columns.now file.entry.expected.nulls.now) bytes)) }
+            ≡ ((self.old.problems == 0) && is_clean file.entry.number (layout_of file.entry.expected.columns.now file.entry.expected.nulls.now file.entry.expected.notations.now) bytes)) }
     {
         let Some(line) = self.next_line(file, records, err)? else {
             self.tell(file, 1, Problem::NoHeader, err);
@@ -160,7 +161,7 @@ impl Check {
         requires plain { IsPlain records.old.records }
         requires sound { IsSound records.old.marks }
         ensures judged { OnOk result ((rs : List Record) (marks : List MarkValue) → HasLeft A.remaining records.old.records rs → HasMarks B.remaining records.old.marks marks →
-            (self.new.problems == 0) ≡ ((self.old.problems == 0) && (are_rows (layout_of file.entry.expected.columns.now file.entry.expected.nulls.now) rs && is_flawless marks))) }
+            (self.new.problems == 0) ≡ ((self.old.problems == 0) && (are_rows (layout_of file.entry.expected.columns.now file.entry.expected.nulls.now file.entry.expected.notations.now) rs && is_flawless marks))) }
     {
         for _ in 0..MAX_ROWS {
             let Some(line) = self.next_line(file, records, err)? else {
@@ -238,7 +239,7 @@ impl Check {
         err: &mut E,
     ) -> Result<(), Memory>
         ensures { OnOk result ((self.new.problems == 0) ≡ ((self.old.problems == 0)
-            && is_row (layout_of file.entry.expected.columns.now file.entry.expected.nulls.now) (fields_of row.now))) }
+            && is_row (layout_of file.entry.expected.columns.now file.entry.expected.nulls.now file.entry.expected.notations.now) (fields_of row.now))) }
     {
         self.judge_fields(file, line, row, err)?;
         if let Some(numbers) = self.numbers.last_mut() {
@@ -248,17 +249,21 @@ impl Check {
     }
 
     // Judges the fields of a row of a file.
-    fn judge_fields<E: Write>(
+    fn judge_fields<'a, E: Write>(
         &mut self,
-        file: File<'_>,
+        file: File<'a>,
         line: u64,
-        row: &ByteRecord,
+        row: &'a ByteRecord,
         err: &mut E,
     ) -> Result<(), Memory>
         ensures { OnOk result ((self.new.problems == 0) ≡ ((self.old.problems == 0)
-            && is_row (layout_of file.entry.expected.columns.now file.entry.expected.nulls.now) (fields_of row.now))) }
+            && is_row (layout_of file.entry.expected.columns.now file.entry.expected.nulls.now file.entry.expected.notations.now) (fields_of row.now))) }
     {
-        let Expected { columns, nulls } = file.expected;
+        let Expected {
+            columns,
+            nulls,
+            notations,
+        } = file.expected;
         if row.len() != columns.len() {
             let width = Width {
                 fields: row.len(),
@@ -272,12 +277,8 @@ impl Check {
                 unreachable!()
             };
             let (column, kind) = (columns[place].0.as_str(), columns[place].1);
-            if !is_cell(field, kind, Notation::Plain, nulls) {
-                let bad = BadField {
-                    column,
-                    kind,
-                    field,
-                };
+            if !is_cell(field, kind, notations.of(place), nulls) {
+                let bad = BadField::of(column, kind, notations.of(place), field);
                 self.tell(file, line, Problem::Field(bad), err);
                 self.count(file, line, column, field)?;
             }

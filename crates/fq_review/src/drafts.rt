@@ -16,10 +16,11 @@ use crate::guesses::Guess;
 use crate::headers::has_names;
 use crate::notes::{CONVERSION, FileNote, Note, notes_of};
 use crate::null_options::NullOption;
-use crate::problems::wanted;
+use crate::problems::Wanted;
 use csv::ByteRecord;
 use fq_column::{Kind, MAX_COLUMNS, Memory, has_double};
 use fq_csv::{NullValues, kind_word};
+use fq_notation::Notation;
 use fq_places::{Flaw, LinedRecords, Mark, Quoted, Unread};
 use serde_json::to_string;
 use std::alloc::{AllocError, AllocFailed, Global};
@@ -363,7 +364,12 @@ impl Draft {
         };
         match kind {
             Kind::Text => write!(err, "; {option} makes these null").ok(),
-            _ => write!(err, "; {option} makes it {}", wanted(kind)).ok(),
+            _ => write!(
+                err,
+                "; {option} makes it {}",
+                Wanted::of(kind, Notation::Plain)
+            )
+            .ok(),
         }
     }
 }

@@ -20,4 +20,4 @@ pub use checks::{Check, Expected};
 pub use drafts::{Draft, DraftFault};
 pub use headers::Header;
 pub use laws::drafted_cells;
-pub use problems::{BadField, Width, wanted};
+pub use problems::{BadField, Wanted, Width};

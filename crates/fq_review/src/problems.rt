@@ -2,6 +2,7 @@
 use crate::headers::Header;
 use fq_column::Kind;
 use fq_csv::MAX_ROWS;
+use fq_notation::Notation;
 use fq_places::{Flaw, Quoted};
 use std::fmt;
 use std::fmt::{Display, Formatter, Write};
@@ -25,23 +26,64 @@ impl Display for Width {
 #[derive(Clone, Copy)]
 pub struct BadField<'a> {
     pub column: &'a str,
-    pub kind: Kind,
+    pub wanted: Wanted,
     pub field: &'a [u8],
+}
+
+impl<'a> BadField<'a> {
+    /// A field of a column of this name and kind, whose ints are in this notation.
+    pub fn of(column: &'a str, kind: Kind, notation: Notation, field: &'a [u8]) -> BadField<'a> {
+        BadField {
+            column,
+            wanted: Wanted::of(kind, notation),
+            field,
+        }
+    }
 }
 
 impl Display for BadField<'_> {
     fn fmt<W: Write>(&self, f: &mut Formatter<W>) -> fmt::Result {
         let (column, field) = (Quoted(self.column.as_bytes()), Quoted(self.field));
-        write!(f, "column {column}: {field} is not {}", wanted(self.kind))
+        write!(f, "column {column}: {field} is not {}", self.wanted)
     }
 }
 
-/// What a field has to be, by the kind of its column.
-pub fn wanted(kind: Kind) -> &'static str {
-    match kind {
-        Kind::Whole => "an int",
-        Kind::Text => "valid UTF-8",
-        Kind::Truth => "a bool",
+/// What a field has to be.
+#[derive(Clone, Copy)]
+pub enum Wanted {
+    Int,
+    /// A number with so many places at most behind its point.
+    Decimal(u8),
+    Date,
+    Text,
+    Truth,
+}
+
+impl Wanted {
+    /// A field of a column of this kind, whose ints are in this notation.
+    pub fn of(kind: Kind, notation: Notation) -> Wanted {
+        match kind {
+            Kind::Text => Wanted::Text,
+            Kind::Truth => Wanted::Truth,
+            Kind::Whole => match notation {
+                Notation::Plain => Wanted::Int,
+                Notation::Decimal(scale) => Wanted::Decimal(scale.places() as u8),
+                Notation::Date => Wanted::Date,
+            },
+        }
+    }
+}
+
+impl Display for Wanted {
+    fn fmt<W: Write>(&self, f: &mut Formatter<W>) -> fmt::Result {
+        match self {
+            Wanted::Int => f.write_str("an int"),
+            Wanted::Decimal(1) => f.write_str("a decimal of at most 1 place"),
+            Wanted::Decimal(places) => write!(f, "a decimal of at most {places} places"),
+            Wanted::Date => f.write_str("a date, YYYY-MM-DD"),
+            Wanted::Text => f.write_str("valid UTF-8"),
+            Wanted::Truth => f.write_str("a bool"),
+        }
     }
 }
 

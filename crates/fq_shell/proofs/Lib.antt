@@ -1,3 +1,5 @@
 pub mod OnLiterals
 pub mod RuleLemmas
 pub mod RunCommand
+pub mod EntryLemmas
+pub mod ListLemmas

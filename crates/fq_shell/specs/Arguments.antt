@@ -1,5 +1,6 @@
--- The arguments of a run, `--plan PLAN [--batch N] [--workers N] [--output OUT] [--details] [--progress] FILE..`, and of a check of files,
--- `--plan PLAN --check [--limit N] [--details] FILE..`, as the crate clap reads them (https://docs.rs/clap), and the files that they name.
+-- The arguments of a run, `--plan PLAN [--batch N] [--workers N] [--decimal LIST].. [--date LIST].. [--output OUT] [--details] [--progress]
+-- FILE..`, and of a check of files, `--plan PLAN --check [--limit N] [--decimal LIST].. [--date LIST].. [--details] FILE..`, as the crate clap
+-- reads them (https://docs.rs/clap), and the files and notations that they name.
 use Rattle.std.specs.Prelude.{true, false, ℕ, ◌+◌, Bool, ◌||◌, List, [], ◌∷◌, codes, count_by, nat_lt, pos, Option, Some, None, option_and_then, unwrap_or, if◌then◌else◌}
 use Rattle.std.specs.Option.{option_map_or}
 use Rattle.std.specs.Str.{bytes_eq}
@@ -9,6 +10,8 @@ use Rattle.clap.specs.Simple.{new_shape}
 use Rattle.clap.specs.Words.{App, Row, Rule, Text, all_of, fault_of, first_of, found_of, matches_of, new_rule, rows_of}
 use Rattle.clap.specs.declared.builder.action.ArgAction.TheVariants.{Set, SetTrue, Append}
 use Rattle.clap.specs.declared.builder.value_parser.ValueParser.TheVariants.{Signed, Unsigned}
+use Rattle.fq_notation.specs.Notation.{Named}
+use Rattle.fq_shell.specs.Notations.{notations_in}
 use Rattle.fq_shell.specs.declared.options.Options.{Options}
 
 -- ---- what a run takes, and what a check
@@ -33,6 +36,10 @@ flag_rule name = record (new_rule name) { long = Some name; action = Some SetTru
 abbrev pub output_rule : Rule
 output_rule = record (option_rule (codes "output")) { short = Some 111 }
 
+-- --NAME LIST, once or more
+abbrev pub lists_rule : Text → Rule
+lists_rule name = record (new_rule name) { long = Some name; value_names = 1; action = Some Append }
+
 -- FILE.., in one place or more
 abbrev pub file_rule : Rule
 file_rule = record (new_rule (codes "file")) { value_names = 1; action = Some Append; range = Some (record { start_inclusive = 1; end_inclusive = usize_max }) }
@@ -43,8 +50,8 @@ required rule = record rule { required = true }
 unfoldable pub run_app : App
 run_app = record {
   top = record (new_shape (codes "frameq")) {
-    rules = required (option_rule (codes "plan")) ∷ number_rule (codes "batch") 65536 (codes "1024") ∷ number_rule (codes "workers") 16 (codes "2") ∷ output_rule
-        ∷ flag_rule (codes "details") ∷ flag_rule (codes "progress") ∷ required file_rule ∷ [];
+    rules = required (option_rule (codes "plan")) ∷ number_rule (codes "batch") 65536 (codes "1024") ∷ number_rule (codes "workers") 16 (codes "2") ∷ lists_rule (codes "decimal")
+        ∷ lists_rule (codes "date") ∷ output_rule ∷ flag_rule (codes "details") ∷ flag_rule (codes "progress") ∷ required file_rule ∷ [];
     no_binary_name = true;
     disable_help_flag = true;
   };
@@ -54,7 +61,8 @@ run_app = record {
 unfoldable pub check_app : App
 check_app = record {
   top = record (new_shape (codes "frameq")) {
-    rules = required (option_rule (codes "plan")) ∷ required (flag_rule (codes "check")) ∷ limit_rule ∷ flag_rule (codes "details") ∷ required file_rule ∷ [];
+    rules = required (option_rule (codes "plan")) ∷ required (flag_rule (codes "check")) ∷ limit_rule ∷ lists_rule (codes "decimal") ∷ lists_rule (codes "date")
+        ∷ flag_rule (codes "details") ∷ required file_rule ∷ [];
     no_binary_name = true;
     disable_help_flag = true;
   };
@@ -78,6 +86,8 @@ pub record Names : Type 0 where
   pub files : List Text
   -- the one that takes the frame, if standard output does not
   pub output : Option Text
+  -- the notations of columns by name, unless an entry of --decimal is wrong
+  pub notations : Option (List Named)
 
 -- `-` is standard input, or standard output
 abbrev pub is_standard : Text → Bool
@@ -93,6 +103,7 @@ names_in rows = record {
   plan = first_of (codes "plan") rows;
   files = unwrap_or (all_of (codes "file") rows) [];
   output = option_and_then (λ name. if is_standard_output name then None else Some name) (first_of (codes "output") rows);
+  notations = notations_in (unwrap_or (all_of (codes "decimal") rows) []) (unwrap_or (all_of (codes "date") rows) []);
 }
 
 -- what the arguments of a run name

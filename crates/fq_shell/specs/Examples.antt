@@ -1,11 +1,12 @@
 -- Worked examples: the arguments of runs and of checks, and the files that they name.
 use Rattle.std.specs.Prelude.{◌≡◌, true, false, List, [], ◌∷◌, codes, Option, Some, None}
 use Rattle.clap.specs.Words.{Text}
+use Rattle.fq_notation.specs.declared.notations.Notation.TheVariants.{Decimal, Date}
 use Rattle.fq_shell.specs.Arguments.{is_check, is_run, names_of, names_to_check, reads_input_twice}
 
 -- these are the arguments of a run, which name this plan, these files and this output
 abbrev pub NamesThese : List Text → Text → List Text → Option Text → Type 0
-NamesThese arguments plan files output = (is_run arguments ≡ true) × (names_of arguments ≡ record { plan = Some plan; files = files; output = output })
+NamesThese arguments plan files output = (is_run arguments ≡ true) × (names_of arguments ≡ record { plan = Some plan; files = files; output = output; notations = Some [] })
 
 -- the files in the order in which they stand, wherever options stand between them
 abbrev pub Orders : Type 0
@@ -37,6 +38,16 @@ Others = (is_run (codes "a" ∷ []) ≡ false)
     × (is_run (codes "--plan=p" ∷ codes "--check" ∷ codes "a" ∷ []) ≡ false)
     × (is_run (codes "--help" ∷ []) ≡ false)
 
+-- the notations of `--decimal`, and then those of `--date`, wherever they stand; one wrong entry, and there are none
+abbrev pub Notes : Type 0
+Notes = ((names_of (codes "--plan=p" ∷ codes "--date=day,due" ∷ codes "--decimal" ∷ codes "amount=2,tax=18" ∷ codes "a" ∷ [])).notations
+    ≡ Some ((codes "amount", Decimal 2) ∷ (codes "tax", Decimal 18) ∷ (codes "day", Date) ∷ (codes "due", Date) ∷ []))
+    × ((names_of (codes "--plan=p" ∷ codes "--decimal=a=1" ∷ codes "--decimal=b=2" ∷ codes "a" ∷ [])).notations ≡ Some ((codes "a", Decimal 1) ∷ (codes "b", Decimal 2) ∷ []))
+    × ((names_to_check (codes "--plan=p" ∷ codes "--check" ∷ codes "--decimal=a=1" ∷ codes "a" ∷ [])).notations ≡ Some ((codes "a", Decimal 1) ∷ []))
+    × ((names_of (codes "--plan=p" ∷ codes "--decimal=amount" ∷ codes "a" ∷ [])).notations ≡ None)
+    × ((names_of (codes "--plan=p" ∷ codes "--decimal=a=1,amount=19" ∷ codes "a" ∷ [])).notations ≡ None)
+    × ((names_of (codes "--plan=p" ∷ codes "--decimal=a=0" ∷ codes "a" ∷ [])).notations ≡ None)
+
 -- standard input under two names
 abbrev pub Twice : Type 0
 Twice = (reads_input_twice (names_of (codes "--plan=-" ∷ codes "a" ∷ codes "-" ∷ [])) ≡ true)
@@ -46,7 +57,7 @@ Twice = (reads_input_twice (names_of (codes "--plan=-" ∷ codes "a" ∷ codes "
 -- a check names a plan and files, as a run does; what runs is no check, and a check needs both
 abbrev pub Checks : Type 0
 Checks = (is_check (codes "--plan=p" ∷ codes "--check" ∷ codes "1" ∷ codes "0" ∷ []) ≡ true)
-    × (names_to_check (codes "--plan=p" ∷ codes "--check" ∷ codes "1" ∷ codes "0" ∷ []) ≡ record { plan = Some (codes "p"); files = codes "1" ∷ codes "0" ∷ []; output = None })
+    × (names_to_check (codes "--plan=p" ∷ codes "--check" ∷ codes "1" ∷ codes "0" ∷ []) ≡ record { plan = Some (codes "p"); files = codes "1" ∷ codes "0" ∷ []; output = None; notations = Some [] })
     × (is_check (codes "a" ∷ codes "--limit" ∷ codes "0" ∷ codes "--check" ∷ codes "--details" ∷ codes "--plan" ∷ codes "p" ∷ []) ≡ true)
     × (is_check (codes "--plan=p" ∷ codes "a" ∷ []) ≡ false)
     × (is_check (codes "--plan=p" ∷ codes "--check" ∷ []) ≡ false)

@@ -1,2 +1,3 @@
+pub mod Notations
 pub mod Arguments
 pub mod Examples

@@ -6,6 +6,7 @@
 
 mod descriptors;
 mod files;
+mod notations;
 mod options;
 mod outputs;
 mod progress;

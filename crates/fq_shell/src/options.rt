@@ -1,14 +1,16 @@
 //! The arguments of the command line.
-ghost use Rattle.std.specs.Prelude.{◌≡◌, ◌≤◌, ℕ, List, None, Some, true, false, codes, map, option_map, string_bytes, count_by, IfOk, IfErr};
+ghost use Rattle.std.specs.Prelude.{◌≡◌, ◌≤◌, ℕ, List, [], None, unwrap_or, Some, true, false, codes, map, option_map, string_bytes, count_by, IfOk, IfErr};
 ghost use Rattle.std.specs.Option.{option_map_or};
-ghost use Rattle.clap.specs.Words.{app_of, kind_of, rule_of};
-ghost use Rattle.fq_shell.specs.Arguments.{option_rule, number_rule, limit_rule, flag_rule, output_rule, file_rule, run_app, check_app, is_run, is_check, is_standard, is_standard_output, names_of, names_to_check, named_by, plan_text, reads_input_twice, replaces_plan};
+ghost use Rattle.clap.specs.Words.{all_of, app_of, found_of, kind_of, rows_of, rule_of};
+ghost use Rattle.fq_shell.specs.Arguments.{option_rule, number_rule, limit_rule, lists_rule, flag_rule, output_rule, file_rule, run_app, check_app, is_run, is_check, is_standard, is_standard_output, names_of, names_to_check, named_by, plan_text, reads_input_twice, replaces_plan};
 
 use crate::files::{Opener, STANDARD_INPUT, STANDARD_OUTPUT};
+use crate::notations::notations_in;
 use clap::error::ErrorKind;
 use clap::{Arg, ArgAction, ArgMatches, Command, Error, value_parser};
 use fq_csv::MAX_BATCH_SIZE;
 use fq_lanes::MAX_WORKERS;
+use fq_notation::NamedNotations;
 use std::alloc::{AllocError, Global};
 
 /// The rows of a batch, if no argument says otherwise.
@@ -63,7 +65,7 @@ impl<'a> Options<'a> {
     pub fn files(&self) -> &[&'a str]
         ensures { map (λ name. name.now) result.now ≡ (named_by self.now).files }
     {
-        self.0.get_strs("file").unwrap_or_default()
+        self.lists("file")
     }
 
     /// The rows of a batch.
@@ -83,6 +85,28 @@ impl<'a> Options<'a> {
     {
         let workers = self.0.get_one("workers").unwrap_or(WORKERS);
         workers.clamp(1, MAX_WORKERS)
+    }
+
+    /// The notations of columns by their names: those of `--decimal` in their order, and then those of `--date`. None if an entry of
+    /// `--decimal` is no `NAME=SCALE` with a scale from 1 to 18. Fails if an allocation does.
+    pub fn notations(&self, alloc: Global) -> Result<Option<NamedNotations>, AllocError>
+        ensures { IfOk result (λ named. named ≡ (named_by self.now).notations) }
+    {
+        notations_in(alloc, self.decimals(), self.lists("date"))
+    }
+
+    /// The lists of `--decimal`.
+    pub fn decimals(&self) -> &[&'a str]
+        ensures { map (λ list. list.now) result.now ≡ unwrap_or (all_of (codes "decimal") (rows_of (found_of self.now.0))) [] }
+    {
+        self.lists("decimal")
+    }
+
+    // The values of an argument that may have some, in order.
+    fn lists(&self, name: &str) -> &[&'a str]
+        ensures { map (λ list. list.now) result.now ≡ unwrap_or (all_of name.now (rows_of (found_of self.now.0))) [] }
+    {
+        self.0.get_strs(name).unwrap_or_default()
     }
 
     /// The name of the file that takes the frame, if standard output does not.
@@ -209,6 +233,8 @@ fn run_command<'a>(alloc: Global) -> Result<Command<'a>, AllocError>
     let command = command.arg(plan(alloc).required(true))?;
     let command = command.arg(batch(alloc))?;
     let command = command.arg(workers(alloc))?;
+    let command = command.arg(decimal(alloc))?;
+    let command = command.arg(date(alloc))?;
     let command = command.arg(output(alloc))?;
     let command = command.arg(details(alloc))?;
     let command = command.arg(progress(alloc))?;
@@ -225,6 +251,8 @@ fn check_command<'a>(alloc: Global) -> Result<Command<'a>, AllocError>
     let command = command.arg(plan(alloc).required(true))?;
     let command = command.arg(check(alloc).required(true))?;
     let command = command.arg(limit(alloc))?;
+    let command = command.arg(decimal(alloc))?;
+    let command = command.arg(date(alloc))?;
     let command = command.arg(details(alloc))?;
     command.arg(file(alloc).required(true))
 }
@@ -247,6 +275,7 @@ fn with_run<'a>(alloc: Global, command: Command<'a>) -> Result<Command<'a>, Allo
     let command = command.arg(plan(alloc).required_unless_present("draft")?)?;
     let command = command.arg(batch(alloc).overrides_with("batch")?)?;
     let command = command.arg(workers(alloc).overrides_with("workers")?)?;
+    let command = command.arg(decimal(alloc))?.arg(date(alloc))?;
     let output = output(alloc).overrides_with("output")?;
     command.arg(output.conflicts_with("explain")?)
 }
@@ -304,6 +333,30 @@ fn workers<'a>(alloc: Global) -> Arg<'a>
         .value_parser(value_parser!(u16).range(1..=i64::from(MAX_WORKERS)))
         .default_value("2")
         .help("Threads that work on batches, from 1 to 16")
+}
+
+fn decimal<'a>(alloc: Global) -> Arg<'a>
+    ensures rule { rule_of result ≡ lists_rule (codes "decimal") }
+    ensures local { result.global ≡ false }
+{
+    Arg::new(alloc, "decimal")
+        .long("decimal")
+        .value_name("NAME=SCALE")
+        .action(ArgAction::Append)
+        .help(
+            "Int columns that are written with a decimal point, such as amount=2, with commas between them",
+        )
+}
+
+fn date<'a>(alloc: Global) -> Arg<'a>
+    ensures rule { rule_of result ≡ lists_rule (codes "date") }
+    ensures local { result.global ≡ false }
+{
+    Arg::new(alloc, "date")
+        .long("date")
+        .value_name("NAME")
+        .action(ArgAction::Append)
+        .help("Int columns that are written as dates, YYYY-MM-DD, with commas between them")
 }
 
 fn output<'a>(alloc: Global) -> Arg<'a>

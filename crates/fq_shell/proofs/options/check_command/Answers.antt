@@ -22,5 +22,7 @@ returns c =
     let one = c.in_ok-command.ensures.shape (search rules) ∙ ap₂ with_rule bare_is plan_is in
     let two = c.in_ok-command-2.ensures.shape (search rules) ∙ ap₂ with_rule one check_is in
     let three = c.in_ok-command-3.ensures.shape c.limit.ensures.local ∙ ap₂ with_rule two c.limit.ensures.rule in
-    let four = c.in_ok-command-4.ensures.shape c.details.ensures.local ∙ ap₂ with_rule three c.details.ensures.rule in
-    IfOk-weaker c.arg-5.result _ _ (λ command added. added.shape (search rules) ∙ ap₂ with_rule four file_is) c.arg-5.ensures
+    let four = c.in_ok-command-4.ensures.shape c.decimal.ensures.local ∙ ap₂ with_rule three c.decimal.ensures.rule in
+    let five = c.in_ok-command-5.ensures.shape c.date.ensures.local ∙ ap₂ with_rule four c.date.ensures.rule in
+    let six = c.in_ok-command-6.ensures.shape c.details.ensures.local ∙ ap₂ with_rule five c.details.ensures.rule in
+    IfOk-weaker c.arg-7.result _ _ (λ command added. added.shape (search rules) ∙ ap₂ with_rule six file_is) c.arg-7.ensures

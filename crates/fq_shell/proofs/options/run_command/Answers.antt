@@ -21,7 +21,9 @@ returns c =
     let one = c.in_ok-command.ensures.shape (search rules) ∙ ap₂ with_rule bare_is plan_is in
     let two = c.in_ok-command-2.ensures.shape c.batch.ensures.local ∙ ap₂ with_rule one c.batch.ensures.rule in
     let three = c.in_ok-command-3.ensures.shape c.workers.ensures.local ∙ ap₂ with_rule two c.workers.ensures.rule in
-    let four = c.in_ok-command-4.ensures.shape c.output.ensures.local ∙ ap₂ with_rule three c.output.ensures.rule in
-    let five = c.in_ok-command-5.ensures.shape c.details.ensures.local ∙ ap₂ with_rule four c.details.ensures.rule in
-    let six = c.in_ok-command-6.ensures.shape c.progress.ensures.local ∙ ap₂ with_rule five c.progress.ensures.rule in
-    IfOk-weaker c.arg-7.result _ _ (λ command added. added.shape (search rules) ∙ ap₂ with_rule six file_is) c.arg-7.ensures
+    let four = c.in_ok-command-4.ensures.shape c.decimal.ensures.local ∙ ap₂ with_rule three c.decimal.ensures.rule in
+    let five = c.in_ok-command-5.ensures.shape c.date.ensures.local ∙ ap₂ with_rule four c.date.ensures.rule in
+    let six = c.in_ok-command-6.ensures.shape c.output.ensures.local ∙ ap₂ with_rule five c.output.ensures.rule in
+    let seven = c.in_ok-command-7.ensures.shape c.details.ensures.local ∙ ap₂ with_rule six c.details.ensures.rule in
+    let eight = c.in_ok-command-8.ensures.shape c.progress.ensures.local ∙ ap₂ with_rule seven c.progress.ensures.rule in
+    IfOk-weaker c.arg-9.result _ _ (λ command added. added.shape (search rules) ∙ ap₂ with_rule eight file_is) c.arg-9.ensures

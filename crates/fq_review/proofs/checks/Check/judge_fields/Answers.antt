@@ -1,7 +1,7 @@
 use Rattle.std.proofs.Common.{◌≡◌, ◌<◌, ◌∙◌, ap, arith, false, length, string_bytes, sym, take, true}
 use Rattle.std.proofs.Math.Seq.{take_all}
 use Rattle.std.proofs.lemmas.Bool.Decides.{nat_tests}
-use Rattle.std.specs.Prelude.{◌==◌, ◌&&◌, is_some, zip}
+use Rattle.std.specs.Prelude.{◌==◌, ◌&&◌, is_some, slice_index_or, zip}
 use Rattle.std.specs.List.{list_all}
 use Rattle.std.specs.Option.{option_map}
 use Rattle.std.proofs.lemmas.List.{length-map}
@@ -28,19 +28,21 @@ unreachable-requires g c =
 pub loop-place-preserved : goal.loop-place-preserved
 loop-place-preserved g c =
     let columns = c.args.file.expected.columns.now in
-    let layout = layout_of columns c.args.file.expected.nulls.now in
+    let layout = layout_of columns c.args.file.expected.nulls.now c.args.file.expected.notations.now in
     let fs = fields_of c.args.row.now in
     let i = c.loop-place.place in
     let column = c.index-columns-place-in-loop-place.result in
     let field = c.in-Some.field.now in
+    let notation = slice_index_or layout.notations i Plain in
     let old = c.args.self.now.problems == 0 in
     let before = list_all (is_of_column layout) (zip (take i (forms layout)) (take i fs)) in
     let named = slice_get-map (λ d. (string_bytes d.0, d.1)) columns i ∙ ap (option_map (λ d. (string_bytes d.0, d.1))) (slice_get-at columns i column (omega (arith, c.loop-place-test.true)) c.index-columns-place-in-loop-place.is) in
     let at = noted-at layout.notations (kinds_of layout.schema) i column.1 (slice_get-map (λ (f : Field). f.1) layout.schema i ∙ ap (option_map (λ (f : Field). f.1)) named) in
-    let more = cells-more layout (forms layout) fs i (column.1, Plain) field at (sym (c.in-Some.ensures.value ∙ field-there fs i)) in
-    let cell = is_some (cell_under layout.nulls column.1 Plain field) in
+    let more = cells-more layout (forms layout) fs i (column.1, notation) field at (sym (c.in-Some.ensures.value ∙ field-there fs i)) in
+    let cell = is_some (cell_under layout.nulls column.1 notation field) in
     let all = ap (λ b. old && b) more in
-    let judged = ap (λ d. is_some (cell_under layout.nulls d.1 Plain field)) c.index-columns-place-in-loop-place.is ∙ sym c.is_cell.ensures in
+    let judged = ap (λ d. is_some (cell_under layout.nulls d.1 notation field)) c.index-columns-place-in-loop-place.is
+    ∙ ap (λ n. is_some (cell_under layout.nulls (slice_index_or columns i column).1 n field)) (sym c.of.ensures) ∙ sym c.is_cell.ensures in
     elim c.if-not-is_cell.branch [
       | then-not-is_cell+in_ok-count w ↦
           let bad : cell ≡ false = judged ∙ w.if-not-is_cell.true in
@@ -55,7 +57,7 @@ loop-place-preserved g c =
 pub returns : goal.returns
 returns g c =
     let columns = c.args.file.expected.columns.now in
-    let layout = layout_of columns c.args.file.expected.nulls.now in
+    let layout = layout_of columns c.args.file.expected.nulls.now c.args.file.expected.notations.now in
     let fs = fields_of c.args.row.now in
     let i = c.loop-place.place in
     let old = c.args.self.now.problems == 0 in

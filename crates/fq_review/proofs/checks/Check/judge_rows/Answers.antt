@@ -19,7 +19,7 @@ returns-in_default g c = record {
       let kept = c.loop.invariant.judged rs marks some left in
       let next = c.in_ok-line.ensures.reads kept.0 kept.1 kept.2 kept.3 in
       let end = rw c.in_default.is at next.3 in
-      let layout = layout_of c.args.file.expected.columns.now c.args.file.expected.nulls.now in
+      let layout = layout_of c.args.file.expected.columns.now c.args.file.expected.nulls.now c.args.file.expected.notations.now in
       rows-end layout rs kept.0 marks kept.1 next.0 (c.args.self.now.problems == 0) (c.loop.self.problems == 0) (c.next_line.new.self.problems == 0)
       end.0 end.1 next.2 kept.5 (omega (arith, kept.4, ap length end.0, c.loop-test.true));
 }
@@ -32,7 +32,7 @@ loop-preserved g c = record {
       let kept = c.loop.invariant.judged rs marks some left in
       let next = c.in_ok-line.ensures.reads kept.0 kept.1 kept.2 kept.3 in
       let here = rw c.in-Some.is at next.3 in
-      let layout = layout_of c.args.file.expected.columns.now c.args.file.expected.nulls.now in
+      let layout = layout_of c.args.file.expected.columns.now c.args.file.expected.nulls.now c.args.file.expected.notations.now in
       let old = c.loop.self.problems == 0 in
       let row = is_row layout (fields_of c.next_line.new.records.row) in
       let rest = list_all (is_row layout) here.0 in (
@@ -53,7 +53,7 @@ returns-in-Some-2 g c = record {
       let kept = c.loop.invariant.judged rs marks some left in
       let next = c.in_ok-line-2.ensures.reads kept.0 kept.1 kept.2 kept.3 in
       let here = rw c.in-Some-2.is at next.3 in
-      let layout = layout_of c.args.file.expected.columns.now c.args.file.expected.nulls.now in
+      let layout = layout_of c.args.file.expected.columns.now c.args.file.expected.nulls.now c.args.file.expected.notations.now in
       c.tell.ensures ∙ sym (rows-past layout rs marks (c.args.self.now.problems == 0) (omega (arith, kept.4, ap length here.1, c.loop-test.false)));
 }
 
@@ -63,7 +63,7 @@ returns-in_default-2 g c = record {
       let kept = c.loop.invariant.judged rs marks some left in
       let next = c.in_ok-line-2.ensures.reads kept.0 kept.1 kept.2 kept.3 in
       let end = rw c.in_default-2.is at next.3 in
-      let layout = layout_of c.args.file.expected.columns.now c.args.file.expected.nulls.now in
+      let layout = layout_of c.args.file.expected.columns.now c.args.file.expected.nulls.now c.args.file.expected.notations.now in
       rows-end layout rs kept.0 marks kept.1 next.0 (c.args.self.now.problems == 0) (c.loop.self.problems == 0) (c.next_line-2.new.self.problems == 0)
       end.0 end.1 next.2 kept.5 (omega (arith, kept.4, ap length end.0, c.loop.auto.counter-end));
 }

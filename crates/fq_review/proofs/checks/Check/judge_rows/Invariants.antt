@@ -14,6 +14,6 @@ invariant-loop g l = record {
   sound : IsSound l.records.marks;
   judged : (rs : List Record) (marks : List Mark) → HasLeft g.A.Read.remaining l.fn.records.records rs → HasMarks g.B.Read.remaining l.fn.records.marks marks →
       (more : List Record) × (rest : List Mark) × HasLeft g.A.Read.remaining l.records.records more × HasMarks g.B.Read.remaining l.records.marks rest × (length rs ≡ l.counter + length more)
-      × (((l.fn.self.problems == 0) && (list_all (is_row (layout_of l.fn.file.expected.columns.now l.fn.file.expected.nulls.now)) rs && is_flawless marks))
-      ≡ ((l.self.problems == 0) && (list_all (is_row (layout_of l.fn.file.expected.columns.now l.fn.file.expected.nulls.now)) more && is_flawless rest)));
+      × (((l.fn.self.problems == 0) && (list_all (is_row (layout_of l.fn.file.expected.columns.now l.fn.file.expected.nulls.now l.fn.file.expected.notations.now)) rs && is_flawless marks))
+      ≡ ((l.self.problems == 0) && (list_all (is_row (layout_of l.fn.file.expected.columns.now l.fn.file.expected.nulls.now l.fn.file.expected.notations.now)) more && is_flawless rest)));
 }
