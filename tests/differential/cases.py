@@ -4,13 +4,14 @@ import random
 from collections import namedtuple
 
 import oracle
-from oracle import GREATEST, KINDS, LEAST
+from oracle import DATE, GREATEST, KINDS, LEAST, MOST_PLACES
 
 # The most sources and files of a plan.
 MOST_SOURCES, MOST_FILES = 8, 16
 
-# The bytes of a plan and of its files, in the order of the sources, and the rows of a batch and the workers of one of its runs.
-Case = namedtuple("Case", "plan files batch workers")
+# The bytes of a plan and of its files, in the order of the sources, the rows of a batch and the workers of one of its runs, and the lists
+# of --decimal and --date in their order, pairs of the option and its value.
+Case = namedtuple("Case", "plan files batch workers notations", defaults=[()])
 
 NAMES = ["a", "b", "c", "d", "e", "k", "a_right", "é", "x,y", ""]
 UNKNOWN = "nowhere"
@@ -320,6 +321,78 @@ def wrong_plan_text(draw, value):
     return with_double_version(draw, value)
 
 
+# ---- notations
+
+UNKNOWN_NOTATIONS = [f"{UNKNOWN}=2", "a =2", "A=2"]
+WRONG_NOTATIONS = ["a", "a=", "a=0", f"a={MOST_PLACES + 1}", "a=-2", "a=2.0", "a= 2", "a=2=", "x,y=2", "a=99999999999999999999", "a=2,"]
+
+
+def frames_of(value):
+    """The columns of each source of a plan, and those of its result where no step is refused."""
+    try:
+        sources, columns_along = oracle.check(oracle.plan_of(value))
+    except (oracle.Ending, oracle.WrongShape):
+        return [dict(one["columns"]) for one in value["sources"]]
+    return [*sources, columns_along[-1]]
+
+
+def entry_of_decimal(draw, name, scale):
+    return f"{name}={draw.choice(['%d'] * 8 + ['+%d', '%02d']) % scale}"
+
+
+def cut(draw, entries):
+    """Lists of the entries, in order."""
+    at = draw.randint(0, len(entries)) if draw.often(30) else 0
+    return [",".join(part) for part in (entries[:at], entries[at:]) if part]
+
+
+def lists_of(draw, notations):
+    """The lists that give notations to names; seldom there is something wrong with one."""
+    entries = {
+        "--decimal": [entry_of_decimal(draw, name, notation) for name, notation in notations.items() if notation != DATE],
+        "--date": [name for name, notation in notations.items() if notation == DATE],
+    }
+    if draw.often(4):
+        entries["--decimal"].insert(draw.randint(0, len(entries["--decimal"])), draw.choice(UNKNOWN_NOTATIONS))
+    if draw.often(4):
+        entries["--date"].append(draw.choice([UNKNOWN, *NAMES, *notations, *notations]))
+    if draw.often(2):
+        entries["--decimal"].append(draw.choice(WRONG_NOTATIONS))
+    lists = [(option, value) for option in entries for value in cut(draw, entries[option])]
+    return draw.sample(lists, len(lists))
+
+
+def notations_of(draw, value):
+    """Notations of int columns of a plan, of its sources or of its result, in any order. A name with a comma cannot have one."""
+    names = {name for columns in frames_of(value) for name, kind in columns.items() if kind == "int" and "," not in name}
+    drawn = {}
+    for name in draw.sample(sorted(names), len(names)):
+        if draw.often(85):
+            drawn[name] = DATE if draw.often(45) else draw.choice([1, 2, 2, 2, 3, 9, MOST_PLACES - 1, MOST_PLACES])
+    return drawn
+
+
+# Stand in the place of numbers in steps, so that days are compared and cut.
+NUMBERS_OF_DAYS = [100, 10_000, 20240229, 20240301, 19000228, 101, 10101, 99991231]
+
+
+def with_days(draw, value):
+    """Puts numbers of days in the place of some of an expression's."""
+    if isinstance(value, dict):
+        return {name: part if name in ("source", "window", "min_samples") else with_days(draw, part) for name, part in value.items()}
+    if isinstance(value, list):
+        return [with_days(draw, part) for part in value]
+    is_number = isinstance(value, int) and not isinstance(value, bool)
+    return draw.choice(NUMBERS_OF_DAYS) if is_number and draw.often(25) else value
+
+
+def with_null_days(draw, sources):
+    """Adds a text that is a day or a decimal to some lists of texts that are null."""
+    for one in sources:
+        if 0 < len(one.get("null_values", [])) < 16 and draw.often(40):
+            one["null_values"].append(draw.choice(["2024-02-29", "9999-12-31", "0.00", "0.50", "1.5", "."]))
+
+
 # ---- files
 
 # How often rows have numbers near the limits of 64 bits, fields that are long, some of them longer than a read, and something wrong
@@ -329,13 +402,62 @@ Care = namedtuple("Care", "edges long wrong")
 WRONG_FIELDS = ["1.5", "no", " 1", "1 ", "+-1", "+", "-", "9223372036854775808", "-9223372036854775809", "1e3", "٣", "truE "]
 
 
-def field(draw, kind, care, nulls):
+AMOUNTS = [0, 1, -1, 5, 50, 99, -100, 1250, -350, 20240229, 1_000_000_007]
+WRONG_DECIMALS = [".", "-", "+.", "-.", "--1", "+-1", "1..5", "1.2.3", "1,5", "1e3", "1.5e0", " 1.5", "1.5 ", "1_0.5", "0x1", "NaN",
+                  "inf", "٣.5"]
+
+DAYS = ["2024-02-29", "2024-03-01", "2024-03-31", "2023-12-31", "2000-02-29", "1900-02-28", "0001-01-01", "9999-12-31"]
+WRONG_DAYS = ["2023-02-29", "1900-02-29", "2024-04-31", "2024-01-32", "2024-01-00", "2024-00-10", "2024-13-01", "0000-01-01",
+              "2024-1-05", "2024-01-5", "20240105", "2024/01/05", "2024-01/05", "2024\u201301\u201305", " 2024-01-05", "2024-01-05 ",
+              "+2024-01-05", "-2024-01-05", "12024-01-05", "024-01-05", "2024-01-05T00:00", "2024-W01-1", "2024-001", "05-01-2024",
+              "2024-01", "٢٠٢٤-01-05"]
+
+
+def with_point(number, scale):
+    """The digits before and behind the point of a number without its sign."""
+    digits = f"{abs(number):0{scale + 1}}"
+    return digits[:-scale], digits[-scale:]
+
+
+def decimal_field(draw, scale, care):
+    """A decimal, with more or fewer zeros than it needs, and with no digit where it needs none."""
+    number = draw.choice(EDGES if draw.often(care.edges) else AMOUNTS)
+    whole, places = with_point(number, scale)
+    change = draw.randrange(8)
+    if change < 2:
+        places = places.rstrip("0")
+    elif change == 2:
+        places += "0" * (5000 if draw.often(care.long) else draw.choice([1, 2, 30]))
+    elif change == 3:
+        whole = whole.lstrip("0")
+    elif change == 4:
+        whole = "00" + whole
+    sign = "-" if number < 0 else draw.choice(["", "", "", "+", "-" if number == 0 else ""])
+    return f"{sign}{whole}{'.' if places or draw.often(50) else ''}{places}".encode()
+
+
+def wrong_decimal(draw, scale):
+    """A text that is no decimal of this scale, or seldom one: past 64 bits, or with a digit too many."""
+    whole, places = with_point(draw.choice([2**63, 2**63 + 1, 10**19, 2**64]), scale)
+    zeros = "0" * draw.randint(0, 2)
+    return draw.choice([f"{draw.choice(['', '-'])}{whole}.{places}", f"1.{'0' * scale}{zeros}1", *WRONG_DECIMALS]).encode()
+
+
+def wrong_field(draw, kind, notation):
+    if kind == "int" and notation is not None and draw.often(85):
+        return draw.choice(WRONG_DAYS).encode() if notation == DATE else wrong_decimal(draw, notation)
+    return draw.choice(WRONG_FIELDS).encode() if draw.often(90) else b"\xff"
+
+
+def field(draw, kind, notation, care, nulls):
     if nulls and draw.often(15):
         return draw.choice(nulls).encode()
     if draw.often(care.wrong):
-        return draw.choice(WRONG_FIELDS).encode() if draw.often(90) else b"\xff"
+        return wrong_field(draw, kind, notation)
     if draw.often(18):
         return b""
+    if kind == "int" and notation is not None:
+        return draw.choice(DAYS).encode() if notation == DATE else decimal_field(draw, notation, care)
     if kind == "int":
         number = draw.choice(EDGES if draw.often(care.edges) else SMALL)
         return draw.choice(["%d", "%d", "%d", "%+d", "%05000d" if draw.often(care.long) else "%03d"]).encode() % number
@@ -370,19 +492,19 @@ def header(draw, columns, care):
     return line(draw, names, care)
 
 
-def row(draw, columns, care, nulls):
-    fields = [field(draw, kind, care, nulls) for _, kind in columns]
+def row(draw, columns, notations, care, nulls):
+    fields = [field(draw, kind, notations.get(name), care, nulls) for name, kind in columns]
     if draw.often(care.wrong / 2):
         fields = draw.choice([[*fields, b"1"], fields[1:] or [b"", b""]])
     return line(draw, fields, care)
 
 
-def csv_file(draw, columns, most_rows, care, nulls):
+def csv_file(draw, columns, notations, most_rows, care, nulls):
     if draw.often(care.wrong / 2):
         return draw.choice([b"", b"\n\n", b"\xef\xbb\xbf"])
     lines = [b""] * draw.often(3) + [header(draw, columns, care)]
     for _ in range(draw.randint(0, most_rows)):
-        lines.append(row(draw, columns, care, nulls))
+        lines.append(row(draw, columns, notations, care, nulls))
         if draw.often(3):
             lines.append(b"")
     ends = draw.choice([[b"\n"], [b"\n"], [b"\r\n"], [b"\r"], [b"\n", b"\r\n", b"\r"]])
@@ -398,16 +520,16 @@ def csv_file(draw, columns, most_rows, care, nulls):
     return mark + b"".join(one + draw.choice(ends) for one in lines) + last
 
 
-def files_of(draw, value, rows):
-    """Files for all sources. Seldom the main source is large, with more rows than a batch has by default, unless the most rows are
-    given."""
+def files_of(draw, value, rows, notations=None):
+    """Files for all sources, whose int columns have these notations. Seldom the main source is large, with more rows than a batch has by
+    default, unless the most rows are given."""
     care = Care(edges=draw.choice([0, 0, 2, 25]), long=draw.choice([0] * 29 + [8]), wrong=draw.choice([0, 0, 0, 0.5, 4]))
     files = []
     for place, one in enumerate(value["sources"]):
         is_main = place == len(value["sources"]) - 1
         most_rows = (rows or (1500 if draw.often(1) else 12)) if is_main else 12
         columns, nulls = one["columns"] or [["a", "int"]], one.get("null_values", [])
-        files += [csv_file(draw, columns, most_rows, care, nulls) for _ in range(one["files"])]
+        files += [csv_file(draw, columns, notations or {}, most_rows, care, nulls) for _ in range(one["files"])]
     if draw.often(2):
         files = draw.choice([files + [b"a\n"], files[1:] or [b"a\n", b"a\n"]])
     return files
@@ -415,12 +537,18 @@ def files_of(draw, value, rows):
 
 # ---- cases
 
-def case(seed, number, versions=(1, 2), rows=None):
-    """Case `number` of a seed, with a plan of one of these versions, and at most so many rows in each file of the last source."""
-    draw = Draw(f"{seed}, {number}")
-    value = plan(draw, versions)
-    files = files_of(draw, value, rows)
+def case(seed, number, versions=(1, 2), rows=None, noted=0):
+    """Case `number` of a seed, with a plan of one of these versions, and at most so many rows in each file of the last source. So many
+    cases in a hundred have notations; the others are those of the seed without any."""
+    draw, apart = Draw(f"{seed}, {number}"), Draw(f"{seed}, {number}, notations")
+    value, notations, lists = plan(draw, versions), {}, []
+    if apart.often(noted):
+        value["steps"] = with_days(apart, value["steps"])
+        with_null_days(apart, value["sources"])
+        notations = notations_of(apart, value)
+        lists = lists_of(apart, notations)
+    files = files_of(draw, value, rows, notations)
     text = wrong_plan_text(draw, value) if draw.often(10) else text_of(draw, value)
     batch = draw.choice([1, 2, 3, 7, 64, 1000, 65536])
     workers = 16 if len(files) == MOST_FILES else draw.randint(1, 16)
-    return Case(text, files, batch, workers)
+    return Case(text, files, batch, workers, lists)

@@ -1,16 +1,17 @@
 #!/usr/bin/env python3
 """Compares frameq with a second implementation of its definitions, on random plans and files.
 
-    tests/differential/compare.py [--cases N] [--seed S] [--version V] [--rows N] [--program PATH]
+    tests/differential/compare.py [--cases N] [--seed S] [--version V] [--rows N] [--notations N] [--program PATH]
 
-Each case runs at five settings, one of them random, and, if it has one file, also without arguments. If it has 16 files, the
-random setting has 16 workers. Output, exit status and the line on standard error are compared byte by byte. At the first
+Each case runs at five settings, one of them random, and, if it has one file and no notations, also without arguments. If it has 16
+files, the random setting has 16 workers. Output, exit status and the line on standard error are compared byte by byte. At the first
 difference the case is kept in a folder, whose path is printed, and the status is 1. At the end a table says how many cases
 ended in which way.
 """
 import argparse
 import os
 import re
+import shlex
 import subprocess
 import sys
 import tempfile
@@ -55,11 +56,12 @@ def write_case(folder, case):
 
 
 def runs_of(case):
-    """The runs of a case: at each setting, and without arguments if there is one file."""
-    expected = oracle.answer(case.plan, case.files)
+    """The runs of a case: at each setting, and without arguments if there is one file and no notation."""
+    expected = oracle.answer(case.plan, case.files, case.notations)
     drawn = ["--batch", str(case.batch), "--workers", str(case.workers)]
-    runs = [Run([*setting, "--plan", "plan.json", *file_names(case)], b"", expected) for setting in [*SETTINGS, drawn]]
-    if len(case.files) == 1:
+    words = ["--plan", "plan.json", *(word for pair in case.notations for word in pair), *file_names(case)]
+    runs = [Run([*setting, *words], b"", expected) for setting in [*SETTINGS, drawn]]
+    if len(case.files) == 1 and not case.notations:
         standard_input = case.plan + b"\n" + case.files[0]
         runs.append(Run([], standard_input, oracle.answer_without_words(standard_input)))
     return runs
@@ -79,7 +81,7 @@ def keep(case, run, actual):
     """The path of a new folder with the case, the run's arguments and input, and both answers."""
     folder = tempfile.mkdtemp(prefix="frameq-difference-")
     write_case(folder, case)
-    write(os.path.join(folder, "words"), " ".join(["frameq", *run.words]).encode() + b"\n")
+    write(os.path.join(folder, "words"), shlex.join(["frameq", *run.words]).encode() + b"\n")
     write(os.path.join(folder, "standard_input"), run.standard_input)
     for name, answer in (("expected", run.expected), ("actual", actual)):
         write(os.path.join(folder, f"{name}.status"), b"%d\n" % answer.status)
@@ -90,7 +92,7 @@ def keep(case, run, actual):
 
 def ending_of(answer):
     """The sort of an answer: its status, and its line without the numbers in it."""
-    line = re.sub(rb"[0-9]+", b"N", answer.error).decode(errors="replace").strip()
+    line = re.sub(rb"[0-9]+|'[^']*'", b"N", answer.error.partition(b"\n")[0]).decode(errors="replace")
     return answer.status, line.removeprefix("frameq: ") or "a frame"
 
 
@@ -111,6 +113,7 @@ def arguments():
     parser.add_argument("--seed", type=int, default=1, help="another seed, other cases [1]")
     parser.add_argument("--version", type=int, choices=[1, 2], help="the version of all plans [each with even odds]")
     parser.add_argument("--rows", type=int, help="the most rows of each file of the last source [12, seldom 1500]")
+    parser.add_argument("--notations", type=int, default=40, metavar="N", help="how many cases in a hundred have notations [40]")
     parser.add_argument("--program", help="the frameq to compare [the one that tools/build builds]")
     return parser.parse_args()
 
@@ -123,7 +126,7 @@ def main():
     with tempfile.TemporaryDirectory() as folder:
         for number in range(given.cases):
             try:
-                answers = compare(program, folder, cases.case(given.seed, number, versions, given.rows))
+                answers = compare(program, folder, cases.case(given.seed, number, versions, given.rows, given.notations))
             except Difference as difference:
                 sys.exit(f"seed {given.seed}, case {number}: the answers differ; the case is in {difference}")
             endings[ending_of(answers[0])] += 1

@@ -6,6 +6,8 @@ the names of its columns to its cells, in the order of the columns. A cell is No
 or a bool; in one column they are of one kind. Running out of memory and failures of devices are left out.
 """
 import csv
+import datetime
+import decimal
 import io
 import json
 import math
@@ -451,6 +453,83 @@ def check(plan):
     return sources, columns_along
 
 
+# ---- notations: how the ints of a name are written in CSV (docs/GUIDE.md, Amounts and dates)
+
+# A notation is the scale of a decimal, or DATE. Notations are a dict from names to them.
+
+DATE = "date"
+MOST_PLACES = 18
+DECIMAL_FORM = f"it takes NAME=SCALE, with a scale from 1 to {MOST_PLACES}"
+
+# No number is rounded in it.
+EXACT = decimal.Context(
+    prec=decimal.MAX_PREC, Emin=decimal.MIN_EMIN, Emax=decimal.MAX_EMAX, traps=[decimal.Inexact, decimal.InvalidOperation],
+)
+
+
+class RefusedValue(Exception):
+    """A value that an option does not take; its text says so."""
+
+
+def decimal_entry(entry):
+    """The name and the scale of an entry of --decimal; the last `=` stands between them."""
+    name, _, digits = entry.rpartition("=")
+    scale = re.fullmatch("[+-]?0*([0-9]{1,2})", digits) if "=" in entry else None
+    if not scale or digits.startswith("-") or not 1 <= int(scale[1]) <= MOST_PLACES:
+        raise RefusedValue(f"invalid value '{entry}' for '--decimal <NAME=SCALE>': {DECIMAL_FORM}")
+    return name, int(scale[1])
+
+
+def entries_of(arguments):
+    """The entries of lists, pairs of an option and its value: those of --decimal come first, and then those of --date."""
+    decimals = [decimal_entry(entry) for option, value in arguments if option == "--decimal" for entry in value.split(",")]
+    return decimals + [(name, DATE) for option, value in arguments if option == "--date" for name in value.split(",")]
+
+
+def notations_of(entries, frames):
+    """The notations that entries give to the int columns of these frames: those of each source, and that of the result."""
+    notations = {}
+    for name, notation in entries:
+        if name in notations:
+            raise Ending(2, "--decimal, --date: a name stands twice")
+        if not any(columns.get(name) == "int" for columns in frames):
+            raise Ending(2, "--decimal, --date: no such int column")
+        notations[name] = notation
+    return notations
+
+
+def int_of_decimal(scale, field):
+    """The number that a field is, times 10 to the scale; ValueError if it is none, or if that is no whole number."""
+    if not set(field) <= set(b"+-.0123456789"):
+        raise ValueError(field)
+    try:
+        number = EXACT.scaleb(decimal.Decimal(field.decode()), scale)
+    except decimal.InvalidOperation:
+        raise ValueError(field) from None
+    if not LEAST <= number <= GREATEST or number != number.to_integral_value():
+        raise ValueError(field)
+    return int(number)
+
+
+def int_of_date(field):
+    """The int of a day, YYYYMMDD; ValueError if the field is no day."""
+    if not re.fullmatch(rb"[0-9]{4}-[0-9]{2}-[0-9]{2}", field):
+        raise ValueError(field)
+    day = datetime.date.fromisoformat(field.decode())
+    return day.year * 10_000 + day.month * 100 + day.day
+
+
+def text_of_int(notation, number):
+    if notation is None:
+        return str(number)
+    if notation != DATE:
+        return f"{decimal.Decimal(number).scaleb(-notation, EXACT):f}"
+    try:
+        return datetime.datetime.strptime(f"{number:08}", "%Y%m%d").date().isoformat()
+    except ValueError:
+        return str(number)
+
+
 # ---- streams: rows, and the line of the fault after them, or None
 
 Stream = namedtuple("Stream", "rows fault")
@@ -494,7 +573,7 @@ def records_of(data):
     return [[field.encode("latin-1") for field in record] for record in csv.reader(lines) if record]
 
 
-def cell_of(kind, field):
+def cell_of(kind, notation, field):
     """The cell that a field is; ValueError if it is none."""
     if not field:
         return None
@@ -505,6 +584,10 @@ def cell_of(kind, field):
         if field.lower() in (b"true", b"false"):
             return field.lower() == b"true"
         raise ValueError(field)
+    if notation == DATE:
+        return int_of_date(field)
+    if notation is not None:
+        return int_of_decimal(notation, field)
     # (without the zeros before its digits, of which Python's int takes some thousands at most)
     number = re.fullmatch(rb"([+-]?)0*([0-9]{1,19})", field)
     if not number or not fits(int(number[1] + number[2])):
@@ -512,7 +595,7 @@ def cell_of(kind, field):
     return int(number[1] + number[2])
 
 
-def row_of(file, number, columns, nulls, record):
+def row_of(file, number, columns, notations, nulls, record):
     """The row that a record is: its width is judged first, then its fields from the left. Those among `nulls` are null."""
     if number > MOST_ROWS_OF_A_FILE:
         raise Fault(f"file {file}: too many rows")
@@ -521,27 +604,27 @@ def row_of(file, number, columns, nulls, record):
     row = {}
     for place, ((name, kind), field) in enumerate(zip(columns.items(), record)):
         try:
-            row[name] = None if field in nulls else cell_of(kind, field)
+            row[name] = None if field in nulls else cell_of(kind, notations.get(name), field)
         except ValueError:
             raise Fault(f"file {file}, row {number}, column {place}: bad cell") from None
     return row
 
 
-def stream_of_file(file, columns, nulls, data):
+def stream_of_file(file, columns, notations, nulls, data):
     """The stream of a file with this number: the first record is the header, each later one a row."""
     records = records_of(data)
     if not records or records[0] != [name.encode() for name in columns]:
         return Stream([], f"file {file}: header differs")
     numbered = Stream(list(enumerate(records[1:], 1)), None)
-    return one_by_one(numbered, lambda pair: [row_of(file, pair[0], columns, nulls, pair[1])])
+    return one_by_one(numbered, lambda pair: [row_of(file, pair[0], columns, notations, nulls, pair[1])])
 
 
-def streams_of_sources(plan, sources, files):
+def streams_of_sources(plan, sources, files, notations=None):
     """The stream of each source: those of its files, joined. Files are numbered over all sources."""
     streams, first = [], 0
     for source, columns in zip(plan.sources, sources):
         numbers = range(first, first + source.files)
-        streams.append(joined([stream_of_file(number, columns, source.nulls, files[number]) for number in numbers]))
+        streams.append(joined([stream_of_file(number, columns, notations or {}, source.nulls, files[number]) for number in numbers]))
         first += source.files
     return streams
 
@@ -763,10 +846,10 @@ def apply_step(n, step, columns, joins, stream):
     return apply_rolling_sum(n, step, stream)
 
 
-def meaning(plan, sources, columns_along, files):
+def meaning(plan, sources, columns_along, files, notations=None):
     """The rows that a checked plan means over its files. The first fault of the sources before the last takes precedence,
     even if no step uses that source, over that in which the steps' stream ends."""
-    *join_streams, stream = streams_of_sources(plan, sources, files)
+    *join_streams, stream = streams_of_sources(plan, sources, files, notations)
     fault = joined(join_streams).fault
     if fault is not None:
         raise Ending(4, fault)
@@ -780,12 +863,12 @@ def meaning(plan, sources, columns_along, files):
 
 # ---- printing (fq_csv/specs/Printed)
 
-def text_of_cell(cell):
+def text_of_cell(cell, notation=None):
     if cell is None:
         return b""
     if isinstance(cell, bool):
         return b"true" if cell else b"false"
-    return cell if isinstance(cell, bytes) else b"%d" % cell
+    return cell if isinstance(cell, bytes) else text_of_int(notation, cell).encode()
 
 
 def text_of_field(field):
@@ -799,26 +882,31 @@ def text_of_record(fields):
     return b",".join(map(text_of_field, fields)) + (b'""\n' if fields == [b""] else b"\n")
 
 
-def printed(columns, rows):
+def printed(columns, rows, notations=None):
     header = text_of_record([name.encode() for name in columns])
-    return header + b"".join(text_of_record([text_of_cell(row[name]) for name in columns]) for row in rows)
+    each = [(name, (notations or {}).get(name)) for name in columns]
+    return header + b"".join(text_of_record([text_of_cell(row[name], notation) for name, notation in each]) for row in rows)
 
 
 # ---- the program
 
-def output_of(plan_text, files):
-    """The frame's text. The plan is judged first, then its check, the number of files, and the run."""
+def output_of(plan_text, files, entries):
+    """The frame's text. The plan is judged first, then its check, the number of files, the names with notations, and the run."""
     plan = read_plan(plan_text)
     sources, columns_along = check(plan)
     if len(files) != files_wanted(plan):
         raise Ending(2, f"inputs: wanted {files_wanted(plan)}, got {len(files)}")
-    return printed(columns_along[-1], meaning(plan, sources, columns_along, files))
+    notations = notations_of(entries, [*sources, columns_along[-1]])
+    return printed(columns_along[-1], meaning(plan, sources, columns_along, files, notations), notations)
 
 
-def answer(plan_text, files):
-    """What the program answers to the bytes of a plan file and of data files, in the order of its arguments."""
+def answer(plan_text, files, arguments=()):
+    """What the program answers to the bytes of a plan file and of data files, in the order of its arguments; other arguments are lists of
+    --decimal and --date, pairs of the option and its value."""
     try:
-        return Answer(0, output_of(plan_text, files), b"")
+        return Answer(0, output_of(plan_text, files, entries_of(arguments)), b"")
+    except RefusedValue as refusal:
+        return Answer(2, b"", f"error: {refusal}\n\nFor more information, try '--help'.\n".encode())
     except Ending as ending:
         return Answer(ending.status, b"", f"frameq: {ending.line}\n".encode())
 
