@@ -2,14 +2,14 @@
 _frameq() {
     local word=${COMP_WORDS[COMP_CWORD]} before=${COMP_WORDS[COMP_CWORD - 1]} options=
     case $before in
-        --batch | --workers | --limit | --null-values)
+        --batch | --workers | --decimal | --date | --limit | --null-values)
             COMPREPLY=()
             return
             ;;
         --plan | --output | -o) ;;
         *)
             if [[ $word == -* ]]; then
-                options='--plan --batch --workers --output --explain --check --limit --draft --null-values --details --progress --help --version -o -h -V'
+                options='--plan --batch --workers --decimal --date --output --explain --check --limit --draft --null-values --details --progress --help --version -o -h -V'
             fi
             ;;
     esac

@@ -2,6 +2,8 @@
 complete -c frameq -l plan -r -F -d 'The plan: a file with one JSON object, or - for standard input'
 complete -c frameq -l batch -x -d 'Rows that are read and worked on at a time, from 1 to 65536'
 complete -c frameq -l workers -x -d 'Threads that work on batches, from 1 to 16'
+complete -c frameq -l decimal -x -d 'Int columns that are written with a decimal point, such as amount=2, with commas between them'
+complete -c frameq -l date -x -d 'Int columns that are written as dates, YYYY-MM-DD, with commas between them'
 complete -c frameq -s o -l output -r -F -d 'The file that takes the frame once all of it is there, or - for standard output'
 complete -c frameq -l explain -d 'Print what each step of the plan leaves and where it runs; no data is read'
 complete -c frameq -l check -d 'Say what is wrong in the files by the columns of the plan; no step is run'
