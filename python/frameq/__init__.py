@@ -49,7 +49,7 @@ from ._faults import (
     WrongKindError,
 )
 from ._frames import GroupBy, LazyFrame, scan_csv
-from ._kinds import Boolean, Int64, Kind, String, Utf8
+from ._kinds import Boolean, Date, Decimal, Int64, Kind, String, Utf8
 from ._program import run_plan
 from ._results import DataFrame
 

@@ -1,9 +1,9 @@
 """Where a plan is cut: into steps that each file of its main source goes through by itself, and steps on the rows of all of them."""
 import functools
 import itertools
-from typing import AbstractSet, Any, Dict, Iterator, List, NamedTuple, Optional, Sequence, Set
+from typing import AbstractSet, Any, Container, Dict, Iterator, List, NamedTuple, Optional, Sequence, Set
 
-from ._kinds import Kind, Schema
+from ._kinds import Date, Kind, Schema
 
 # What a second grouping computes of the values that an aggregate has in the groups of parts. How many different values there are does not
 # follow from how many each part has, so `n_unique` is not here.
@@ -29,12 +29,25 @@ def first_of_many_rows(steps: Sequence[dict]) -> int:
     return next((number for number, step in enumerate(steps) if "group_by" in step or "rolling_sum" in step), len(steps))
 
 
-def cuts(steps: Sequence[dict], schemas: Sequence[Schema], at: int) -> Iterator[Cut]:
+def cuts(steps: Sequence[dict], schemas: Sequence[Schema], at: int, dates: AbstractSet[str]) -> Iterator[Cut]:
     """The ways to cut a plan before one of its steps, that which leaves the fewest rows first.
 
     `schemas` are the columns before each step, and after the last. The rows of a part are printed and read again, and a text that is empty
-    and not null is read as null. So there is no way where such a text may be among them.
+    and not null is read as null; an int that is no day is not read again if its column has a name that is among `dates`, by which it is
+    written. So there is no way where such a text or such an int may be among them.
     """
+    for cut in _cuts_of_texts(steps, schemas, at, dates):
+        if not names_of_other_dates(cut.columns, dates):
+            yield cut
+
+
+def names_of_other_dates(columns: Schema, dates: AbstractSet[str]) -> List[str]:
+    """The int columns that are written as dates by their names, and are none."""
+    return [name for name, kind in columns.items() if name in dates and kind.value == Kind.INT.value and kind != Date]
+
+
+def _cuts_of_texts(steps: Sequence[dict], schemas: Sequence[Schema], at: int, dates: AbstractSet[str]) -> Iterator[Cut]:
+    """The ways to cut a plan in which each text is read as it was printed."""
     first, columns, then = list(steps[:at]), schemas[at], list(steps[at:])
     if not then:
         yield Cut(first, columns, then, at)
@@ -42,7 +55,7 @@ def cuts(steps: Sequence[dict], schemas: Sequence[Schema], at: int) -> Iterator[
     empties, group = _columns_of_empty_texts(first), then[0].get("group_by")
     if group is not None:
         if _can_group_parts(group, empties):
-            yield _grouped(first, columns, then, at)
+            yield _grouped(first, columns, then, at, dates)
         needed = dict.fromkeys([*group["keys"], *(column for _, _, *of in group["aggs"] for column in of)])
         first.append({"select": [[name, {"col": name}] for name in needed]})
         columns = {name: columns[name] for name in needed}
@@ -65,16 +78,16 @@ def _summed(aggs: Sequence[List[str]]) -> Set[str]:
     return {column for _, function, *of in aggs for column in of if function == "sum"}
 
 
-def _grouped(first: List[dict], columns: Schema, then: List[dict], at: int) -> Cut:
+def _grouped(first: List[dict], columns: Schema, then: List[dict], at: int, dates: AbstractSet[str]) -> Cut:
     """The cut by which each file is grouped by itself, and the groups of all files are grouped once more by the same keys."""
     keys, aggs = then[0]["group_by"]["keys"], then[0]["group_by"]["aggs"]
-    taken = {*keys, *_summed(aggs)}
+    taken = {*keys, *_summed(aggs), *dates}
     others = (name for name in map("_{}".format, itertools.count()) if name not in taken)
     after = {name: columns[name] for name in keys}
     of_parts, of_all = {}, []
     for name, function, *of in aggs:
         column = of[0] if function == "sum" else next(others)
-        after[column] = columns[of[0]] if function in _OF_THE_COLUMN else Kind.INT
+        after[column] = columns[of[0]] if function in (*_OF_THE_COLUMN, "sum") else Kind.INT
         of_parts[column] = [column, function, *of]
         of_all.append([name, _TOGETHER[function], column])
     group = {"group_by": {"keys": keys, "aggs": list(of_parts.values())}}
@@ -100,13 +113,20 @@ def _may_be_empty(expression: Any, names: AbstractSet[str]) -> bool:
     return expression == ""
 
 
-def steps_to_most_matches(join: Dict[str, Any]) -> Optional[List[dict]]:
-    """The steps on the right source of a join that leave one row, whose `most` says how many rows have the same keys at most, or no row.
+def gives_no_row_twice(join: Dict[str, Any]) -> bool:
+    """Whether a join gives each left row once at most."""
+    return join["how"] in ("semi", "anti")
+
+
+def steps_to_most_matches(join: Dict[str, Any], noted: Container[str]) -> Optional[List[dict]]:
+    """The steps on the right source of a join that leave one row, whose last column says how many rows have the same keys at most, or no
+    row. That column has none of the names that are noted, so it is printed in digits.
 
     None for a join that gives no left row twice.
     """
-    if join["how"] in ("semi", "anti"):
+    if gives_no_row_twice(join):
         return None
+    most = next(name for name in itertools.chain(["most"], map("_{}".format, itertools.count())) if name not in noted)
     keys = join["on"]
     rows = next(name for name in map("_{}".format, itertools.count()) if name not in keys)
     no_nulls: Any = functools.reduce(lambda left, right: ["and", left, right], (["is_not_null", {"col": key}] for key in keys))
@@ -114,5 +134,5 @@ def steps_to_most_matches(join: Dict[str, Any]) -> Optional[List[dict]]:
         {"filter": join.get("nulls_equal", False) or no_nulls},
         {"group_by": {"keys": keys, "aggs": [[rows, "len"]]}},
         {"select": [["all", True], ["rows", {"col": rows}]]},
-        {"group_by": {"keys": ["all"], "aggs": [["most", "max", "rows"]]}},
+        {"group_by": {"keys": ["all"], "aggs": [[most, "max", "rows"]]}},
     ]

@@ -2,10 +2,40 @@
 import re
 from typing import Callable, Dict, List, NamedTuple, Optional, Sequence, Tuple, Union
 
+from ._kinds import Decimal, Notation
+
 LEAST, GREATEST = -(2**63), 2**63 - 1
 
 # A table: its name, or the names of what it stands in, such as a schema, and its own.
 Table = Union[str, Sequence[str]]
+
+
+class Noted(NamedTuple):
+    """How an engine makes ints of decimals and of dates, and these of ints. No decimal on the way has more than 38 digits."""
+
+    quotient: str  # the operator that divides whole numbers
+    part: str  # the type of what a day is made of
+
+    @staticmethod
+    def type_of(notation: Notation) -> str:
+        """The type of a column."""
+        return f"DECIMAL(19, {notation.scale})" if isinstance(notation, Decimal) else "DATE"
+
+    @staticmethod
+    def int_of(value: str, notation: Notation) -> str:
+        """The int that a value is in a plan."""
+        if isinstance(notation, Decimal):
+            return f"CAST({value} * CAST(1{'0' * notation.scale} AS DECIMAL({notation.scale + 1}, 0)) AS BIGINT)"
+        parts = [f"EXTRACT({part} FROM {value})" for part in ("YEAR", "MONTH", "DAY")]
+        return f"CAST({parts[0]} * 10000 + {parts[1]} * 100 + {parts[2]} AS BIGINT)"
+
+    def of_int(self, number: str, notation: Notation) -> str:
+        """The value that an int of a plan is."""
+        if isinstance(notation, Decimal):
+            unit = f"CAST(0.{'1'.rjust(notation.scale, '0')} AS DECIMAL({notation.scale}, {notation.scale}))"
+            return f"CAST(CAST({number} AS DECIMAL(19, 0)) * {unit} AS {self.type_of(notation)})"
+        parts = [f"{number} {self.quotient} 10000", f"({number} {self.quotient} 100) % 100", f"{number} % 100"]
+        return f"MAKE_DATE({', '.join(f'CAST({part} AS {self.part})' for part in parts)})"
 
 
 class Dialect(NamedTuple):
@@ -28,6 +58,16 @@ class Dialect(NamedTuple):
     least_and_greatest_truth: Tuple[str, str] = ("MIN", "MAX")  # the aggregates of truth values
     hashes_same: bool = True  # whether it joins by `same` without comparing each row with each
     computes_early: bool = False  # whether it computes what has no column before there is a row, and faults then
+    noted: Optional[Noted] = None  # its decimals and dates, if it has both
+
+    def with_notations(self) -> Noted:
+        """How it has decimals and dates."""
+        if self.noted is None:
+            raise ValueError(
+                f"{self.name} has no decimals and no dates: give these columns the kind Int64 in the schema of a scan that is for {self.name} "
+                "alone, and its tables the ints, such as 1250 for 12.50 and 20240305 for the 5th of March 2024"
+            )
+        return self.noted
 
     def identifier(self, name: str) -> str:
         """A name as an identifier."""
@@ -166,17 +206,17 @@ DIALECTS = {
         name="postgres", quote='"', types={"int": "BIGINT", "text": "TEXT", "bool": "BOOLEAN"}, truths=("FALSE", "TRUE"),
         same="IS NOT DISTINCT FROM", quotient="/", by_bytes=' COLLATE "C"', kept="MATERIALIZED ", text=_postgres_text,
         whole=_postgres_whole, total=_wide_total, no_name=r"\0|\A\Z", fold=str, most_bytes=63,
-        least_and_greatest_truth=("BOOL_AND", "BOOL_OR"), hashes_same=False, computes_early=True,
+        least_and_greatest_truth=("BOOL_AND", "BOOL_OR"), hashes_same=False, computes_early=True, noted=Noted("/", "INTEGER"),
     ),
     "duckdb": Dialect(
         name="duckdb", quote='"', types={"int": "BIGINT", "text": "TEXT", "bool": "BOOLEAN"}, truths=("FALSE", "TRUE"),
         same="IS NOT DISTINCT FROM", quotient="//", by_bytes="", kept="MATERIALIZED ", text=_duckdb_text, whole=_cast_whole,
-        total=_wide_total, no_name=r"\0|\A\Z", fold=str.lower,
+        total=_wide_total, no_name=r"\0|\A\Z", fold=str.lower, noted=Noted("//", "BIGINT"),
     ),
     "spark": Dialect(
         name="spark", quote="`", types={"int": "BIGINT", "text": "STRING", "bool": "BOOLEAN"}, truths=("FALSE", "TRUE"),
         same="<=>", quotient="DIV", by_bytes="", kept="", text=_spark_text, whole=_cast_whole, total=_spark_total,
-        no_name=r"\0|\A\Z|\$\{", fold=_any_lower,
+        no_name=r"\0|\A\Z|\$\{", fold=_any_lower, noted=Noted("DIV", "INT"),
     ),
 }
 

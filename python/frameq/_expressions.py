@@ -1,13 +1,16 @@
 """Expressions, by Polars' names, and their form in a plan."""
+import datetime
+import decimal
 from typing import Any, Dict, FrozenSet, Iterable, Iterator, List, NoReturn, Optional, Tuple, Union
 
 from ._faults import ColumnNotFoundError, UnsupportedError, WrongKindError
-from ._kinds import AnyKind, Kind, Schema, kind_of_type
+from ._kinds import MOST_PLACES, AnyKind, ColumnKind, Date, Decimal, Kind, Schema
+from ._kinds import fits, int_at, int_of_day, kind_of_type, places_of, value_of_int
 
-_LEAST, _MOST = -(2**63), 2**63 - 1
 _ARITHMETIC = frozenset({"add", "sub", "mul", "floordiv", "mod"})
 FUNCTIONS = frozenset({"sum", "min", "max", "count", "first", "last", "n_unique"})
-_COMPARISONS = frozenset({"eq", "ne", "lt", "le", "gt", "ge", "eq_missing"})
+COMPARISONS = frozenset({"eq", "ne", "lt", "le", "gt", "ge", "eq_missing"})
+PARTS_OF_DATES = frozenset({"dt.year", "dt.month", "dt.day"})
 
 # What Polars has and the plan language has not, and what to do instead.
 _INSTEAD = {
@@ -21,7 +24,6 @@ _INSTEAD = {
     "shift": "there are no neighbours of a row but by rolling_sum",
     "diff": "there are no neighbours of a row but by rolling_sum",
     "str": "there are no text functions",
-    "dt": "there are no dates: keep them as texts, the year first, which compare in order",
     "list": "there are no lists",
     "is_in": 'write (col("a") == x) | (col("a") == y), or join many values from a file by how="semi"',
     "cum_sum": "a rolling_sum over at most 65,536 rows is what there is",
@@ -34,8 +36,11 @@ _INSTEAD = {
 _MOST_NESTED = 250
 TOO_DEEP = "operators stand too deep one in another: combine them by halves, as (a | b) | (c | d), or join the values from a file"
 
-# A part of an expression: ("col", name), ("cols", names), ("all",), ("lit", kind, value), ("null", kind), (operation, node, ..),
-# ("agg", function, node or None), ("roll", node, window, least).
+# The exponents that decimals have as literals.
+_MOST_EXPONENT = 1000
+
+# A part of an expression: ("col", name), ("cols", names), ("all",), ("lit", kind, value as the plan has it), ("null", kind),
+# ("decimal", value), (operation, node, ..), ("agg", function, node or None), ("roll", node, window, least).
 Node = Tuple[Any, ...]
 
 
@@ -210,6 +215,11 @@ class Expr:
             raise UnsupportedError("a rolling sum has no weights, its window is a number of rows, and the last of them is the row itself")
         return Expr(("roll", self._node, window_size, window_size if min_samples is None else min_samples), self._alias)
 
+    @property
+    def dt(self) -> "DateParts":
+        """The parts of a date, as `.dt.year()`."""
+        return DateParts(self)
+
     def _aggregate(self, function: str) -> "Expr":
         return Expr(("agg", function, self._node), self._alias)
 
@@ -246,6 +256,32 @@ class Expr:
         return self._aggregate("len")
 
 
+class DateParts:
+    """The parts of a date, each an Int64."""
+
+    __slots__ = ("_expr",)
+
+    def __init__(self, expr: Expr) -> None:
+        self._expr = expr
+
+    def __getattr__(self, name: str) -> NoReturn:
+        if name.startswith("_"):
+            raise AttributeError(name)
+        raise UnsupportedError(f"frameq has no dt.{name}(): a date has dt.year(), dt.month() and dt.day(), and dates compare")
+
+    def year(self) -> Expr:
+        """The year, 1 to 9999."""
+        return self._expr._one("dt.year")
+
+    def month(self) -> Expr:
+        """The month, 1 to 12."""
+        return self._expr._one("dt.month")
+
+    def day(self) -> Expr:
+        """The day of the month, 1 to 31."""
+        return self._expr._one("dt.day")
+
+
 def col(name: Union[str, Iterable[str]], *more: str) -> Expr:
     """The column of this name, or each of several, as in Polars: what is computed of them is computed of each."""
     names = [name, *more] if isinstance(name, str) else [*name, *more]
@@ -258,17 +294,57 @@ def all() -> Expr:
 
 
 def lit(value: Any, dtype: Optional[AnyKind] = None) -> Expr:
-    """A value that stands in each row; a null needs its kind, as `lit(None, dtype=Int64)`."""
+    """A value that stands in each row; a null needs its kind, as `lit(None, dtype=Int64)`.
+
+    A whole number, or a `decimal.Decimal`, is a decimal of the scale that it meets, or of this `dtype`.
+    """
     kind = None if dtype is None else kind_of_type(dtype)
     if value is None:
         if kind is None:
             raise UnsupportedError("a null has a kind here: write lit(None, dtype=Int64), String or Boolean")
         return Expr(("null", kind))
-    if isinstance(value, (bool, str)) or (isinstance(value, int) and _LEAST <= value <= _MOST):
-        if kind is not None and kind != _kind_of_value(value):
-            raise WrongKindError(f"{value!r} is no {kind!r}, and there are no casts")
-        return Expr(("lit", _kind_of_value(value), value))
-    raise UnsupportedError(f"{value!r} is no literal: there are whole numbers of 64 bits, texts, and True and False")
+    node = _node_of_value(value)
+    if isinstance(kind, Decimal) and (node[0] == "decimal" or node[1] == Kind.INT):
+        node = literal_at(value, kind)
+    elif kind is not None and (node[0] == "decimal" or node[1] != kind):
+        raise WrongKindError(f"{value!r} is no {kind!r}, and there are no casts")
+    return Expr(node)
+
+
+def _node_of_value(value: Any) -> Node:
+    """The literal that a value is. A decimal has the scale that it meets, so its int is not known yet."""
+    if isinstance(value, bool):
+        return ("lit", Kind.BOOL, value)
+    if isinstance(value, str):
+        return ("lit", Kind.TEXT, value)
+    if isinstance(value, int) and fits(value):
+        return ("lit", Kind.INT, value)
+    if isinstance(value, datetime.date) and not isinstance(value, datetime.datetime):
+        return ("lit", Date, int_of_day(value))
+    if isinstance(value, decimal.Decimal) and value.is_finite() and abs(value.as_tuple().exponent) <= _MOST_EXPONENT:
+        return ("decimal", value)
+    raise UnsupportedError(
+        f"{value!r} is no literal: there are whole numbers of 64 bits, decimal.Decimal, datetime.date, texts, and True and False"
+    )
+
+
+def literal_at(value: Union[int, decimal.Decimal], kind: Decimal) -> Node:
+    """The literal that a number is as a decimal of this kind."""
+    number = int_at(value, kind.scale)
+    if number is None:
+        raise WrongKindError(f"{value!r} is no {kind!r}: it has more than {kind.scale} places, or the int that it is does not fit 64 bits")
+    return ("lit", kind, number)
+
+
+def literal_by_itself(value: decimal.Decimal) -> Node:
+    """The literal that a number is beside no other: a decimal of as many places as are written, or a whole number if there are none."""
+    places = places_of(value)
+    if places:
+        return literal_at(value, Decimal(scale=places))
+    number = int_at(value, 0)
+    if number is None:
+        raise UnsupportedError(f"{value!r} is no literal: there are whole numbers of 64 bits")
+    return ("lit", Kind.INT, number)
 
 
 def length() -> Expr:
@@ -286,10 +362,6 @@ def named(value: Any) -> Expr:
     return col(value) if isinstance(value, str) else literal(value)
 
 
-def _kind_of_value(value: Union[bool, int, str]) -> Kind:
-    return Kind.BOOL if isinstance(value, bool) else Kind.INT if isinstance(value, int) else Kind.TEXT
-
-
 def _shown(node: Node) -> str:
     head = node[0]
     if head == "col":
@@ -297,14 +369,27 @@ def _shown(node: Node) -> str:
     if head == "cols":
         return "col(" + ", ".join(map(repr, node[1])) + ")"
     if head == "lit":
-        return f"lit({node[2]!r})"
+        return f"lit({_value_of_literal(node)!r})"
+    if head == "decimal":
+        return f"lit({node[1]!r})"
     if head == "null":
         return f"lit(None, dtype={node[1]!r})"
+    if head in PARTS_OF_DATES:
+        return f"{_shown(node[1])}.{head}()"
     if head == "agg":
         return "len()" if node[2] is None else f"{_shown(node[2])}.{node[1]}()"
     if head == "roll":
         return f"{_shown(node[1])}.rolling_sum({node[2]}, min_samples={node[3]})"
     return f"{head}(" + ", ".join(map(_shown, node[1:])) + ")"
+
+
+def _value_of_literal(node: Node) -> Any:
+    """The value of a literal; of a date that is none it is the int."""
+    _, kind, value = node
+    try:
+        return value if isinstance(kind, Kind) else value_of_int(value, kind)
+    except ValueError:
+        return value
 
 
 def _operands(node: Node) -> List[Node]:
@@ -344,7 +429,7 @@ def name_of(expr: Expr) -> str:
     for part in parts(expr._node):
         if part[0] == "col":
             return part[1]
-        if part[0] in ("lit", "null"):
+        if part[0] in ("lit", "null", "decimal"):
             return "literal"
         if part == ("agg", "len", None):
             return "len"
@@ -393,7 +478,7 @@ def plain_names(given: Iterable[Any], schema: Schema, what: str) -> List[str]:
     return [expr._node[1] for expr in each]
 
 
-def kind_of(node: Node, schema: Schema) -> Kind:
+def kind_of(node: Node, schema: Schema) -> ColumnKind:
     """The kind of a node over these columns. Raises where a column is not there or a part has another kind than it needs."""
     head = node[0]
     if head == "col":
@@ -405,29 +490,59 @@ def kind_of(node: Node, schema: Schema) -> Kind:
     if head == "agg":
         return _kind_of_aggregate(node, schema)
     kinds = [kind_of(part, schema) for part in node[1:] if isinstance(part, tuple)]
-    if head == "roll":
-        return _wanted(node, kinds, Kind.INT, Kind.INT)
-    if head in _ARITHMETIC or head == "neg":
-        return _wanted(node, kinds, Kind.INT, Kind.INT)
+    if head in _ARITHMETIC or head in ("neg", "roll"):
+        return _kind_of_arithmetic(node, kinds)
     if head in ("and", "or", "not"):
         return _wanted(node, kinds, Kind.BOOL, Kind.BOOL)
     if head in ("is_null", "is_not_null"):
         return Kind.BOOL
-    return _wanted(node, kinds, kinds[0], Kind.BOOL if head in _COMPARISONS else kinds[0])
+    return _wanted(node, kinds, kinds[0], Kind.BOOL if head in COMPARISONS else kinds[0])
 
 
-def _kind_of_aggregate(node: Node, schema: Schema) -> Kind:
+def _kind_of_aggregate(node: Node, schema: Schema) -> ColumnKind:
     kind = Kind.INT if node[2] is None else kind_of(node[2], schema)
-    if node[1] == "sum" and kind != Kind.INT:
-        raise WrongKindError(f"{_shown(node)}: there are sums of an Int64 alone, and this is a {kind!r}")
-    return kind if node[1] in ("min", "max", "first", "last") else Kind.INT
+    if node[1] == "sum" and kind != Kind.INT and not isinstance(kind, Decimal):
+        raise WrongKindError(f"{_shown(node)}: there are sums of an Int64 or a Decimal alone, and this is a {kind!r}")
+    return kind if node[1] in ("sum", "min", "max", "first", "last") else Kind.INT
 
 
-def _wanted(node: Node, kinds: List[Kind], wanted: Kind, result: Kind) -> Kind:
+def _kind_of_arithmetic(node: Node, kinds: List[ColumnKind]) -> ColumnKind:
+    """The kind of a sum, a product and the like: of ints an int, and of decimals and dates what has a meaning."""
+    noted = [kind for kind in kinds if not isinstance(kind, Kind)]
+    if not noted:
+        return _wanted(node, kinds, Kind.INT, Kind.INT)
+    if node[0] in ("floordiv", "mod"):
+        if kinds[1] != Kind.INT:
+            raise WrongKindError(f"{_shown(node)}: // and % are by an Int64, and not by a {kinds[1]!r}")
+        return Kind.INT
+    if Date in noted:
+        raise WrongKindError(f"{_shown(node)}: there is no arithmetic of dates but // and % by an Int64, as of the int YYYYMMDD")
+    if node[0] != "mul":
+        return _wanted(node, kinds, kinds[0], kinds[0])
+    _wanted(node, [kind for kind in kinds if isinstance(kind, Kind)], Kind.INT, Kind.INT)
+    scale = sum(kind.scale for kind in noted if isinstance(kind, Decimal))
+    if scale > MOST_PLACES:
+        raise WrongKindError(f"{_shown(node)}: a product has the places of both factors, and {scale} are more than {MOST_PLACES}")
+    return Decimal(scale=scale)
+
+
+def _wanted(node: Node, kinds: List[ColumnKind], wanted: ColumnKind, result: ColumnKind) -> ColumnKind:
     for kind in kinds:
         if kind != wanted:
-            raise WrongKindError(f"{_shown(node)}: a {kind!r} where a {wanted!r} stands; there are no casts")
+            conversion = _conversion(kind, wanted)
+            raise WrongKindError(f"{_shown(node)}: a {kind!r} where a {wanted!r} stands; there are no casts{conversion}")
     return result
+
+
+def _conversion(one: ColumnKind, other: ColumnKind) -> str:
+    """What makes two kinds the same, as the end of a sentence; nothing where nothing does."""
+    if Date in (one, other):
+        return {Kind.INT: ": a Date // 1 is an Int64", Kind.TEXT: ": a day is a datetime.date(2024, 3, 5)"}.get(one if other == Date else other, "")
+    places = {kind: kind.scale if isinstance(kind, Decimal) else 0 for kind in (one, other)}
+    if len(places) < 2 or not any(places.values()) or Kind.TEXT in places or Kind.BOOL in places:
+        return ""
+    fewer, more = sorted(places, key=lambda kind: places[kind])
+    return f": a {fewer!r} times Decimal('1.{'0' * (places[more] - places[fewer])}') is a {more!r}"
 
 
 def written(node: Node) -> Any:

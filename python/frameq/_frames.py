@@ -8,7 +8,9 @@ from ._dialects import Table
 from ._expressions import FUNCTIONS, TOO_DEEP, Expr, Node
 from ._expressions import columns_of, expanded, flat, has, kind_of, name_of, named, parts, plain_names, replaced, written
 from ._faults import DuplicateError, NoColumnError, UnsupportedError, WrongKindError
-from ._kinds import AnyKind, Kind, Schema, schema_of
+from ._kinds import AnyKind, ColumnKind, Kind, Notations, Schema, schema_of
+from ._literals import settled
+from ._notations import notations_of, words_of
 from ._results import DataFrame
 from ._sql import sql
 from ._sql_setup import sql_setup
@@ -34,7 +36,7 @@ _INSTEAD = {
     "explode": "there are no lists",
     "pivot": "there are no pivots: group, and turn the result",
     "unpivot": "there are no pivots",
-    "group_by_dynamic": "there are no dates: group by a text, such as the month",
+    "group_by_dynamic": "there are no windows by time: group by col('day') // 100, the month of a Date",
     "rolling": "there are no windows by time: rolling_sum counts rows",
     "join_asof": "a join is on equal keys",
     "join_where": "a join is on equal keys: filter after it",
@@ -57,7 +59,7 @@ class Source(NamedTuple):
     """The files of a scan, with their columns and the texts that are null in them."""
 
     files: Tuple[str, ...]
-    columns: Tuple[Tuple[str, Kind], ...]
+    columns: Tuple[Tuple[str, ColumnKind], ...]
     null_values: Tuple[str, ...]
 
     def written(self, version: int) -> dict:
@@ -143,9 +145,10 @@ class LazyFrame:
         for condition in conditions[1:]:
             all_of = all_of & condition
         _no_aggregates(all_of, "filter")
-        if kind_of(all_of._node, self._schema) != Kind.BOOL:
+        condition = settled(all_of._node, self._schema)
+        if kind_of(condition, self._schema) != Kind.BOOL:
             raise WrongKindError(f"a filter takes a Boolean: {all_of!r}")
-        frame, (node,) = self._hoisted([all_of._node], call)
+        frame, (node,) = self._hoisted([condition], call)
         return frame._after({"filter": written(node)}, call, frame._schema)._only(self._schema, call)
 
     def select(self, *exprs: Any, **named_exprs: Any) -> "LazyFrame":
@@ -186,10 +189,12 @@ class LazyFrame:
         """The names and nodes of the outputs of a step."""
         each = [expr for given in flat(exprs) for expr in expanded(named(given), self._schema)]
         each += [it.alias(name) for name, given in named_exprs.items() for it in expanded(named(given), self._schema)]
+        nodes = []
         for expr in each:
             _no_aggregates(expr, step)
-            kind_of(expr._node, self._schema)
-        outputs = [(name_of(expr), expr._node) for expr in each]
+            nodes.append(settled(expr._node, self._schema))
+            kind_of(nodes[-1], self._schema)
+        outputs = [(name_of(expr), node) for expr, node in zip(each, nodes)]
         _no_doubles([name for name, _ in outputs], step)
         return outputs
 
@@ -214,7 +219,7 @@ class LazyFrame:
         step = {"column": column, "window": window, "min_samples": least, "name": name}
         if least == window:
             del step["min_samples"]
-        return self._after({"rolling_sum": step}, call, {**self._schema, name: Kind.INT})
+        return self._after({"rolling_sum": step}, call, {**self._schema, name: self._schema[column]})
 
     def _selected(self, outputs: Sequence[Output], call: str) -> "LazyFrame":
         step = {"select": [[name, written(node)] for name, node in outputs]}
@@ -332,6 +337,10 @@ class LazyFrame:
         """The files, in the order in which the plan takes them."""
         return [file for source in (*self._rights, self._main) for file in source.files]
 
+    def notations(self) -> Notations:
+        """The int columns of the plan that are decimals or dates in CSV: in each source, and in the result, that has one of the name."""
+        return notations_of([dict(source.columns) for source in (*self._rights, self._main)], self._schema)
+
     def sql(self, dialect: str = "sqlite", tables: Optional[Sequence[Table]] = None) -> str:
         """The plan as one SQL query over a table for each source, in the dialect of "sqlite", "postgres", "duckdb" or "spark".
 
@@ -339,15 +348,15 @@ class LazyFrame:
         sales in the schema reports. Each has the columns of its source, and a column `row` that numbers its rows in the order of the
         files. The query gives the rows of the plan, in order, where no value leaves 64 bits.
         """
-        return sql(self.plan(), dialect, tables)
+        return sql(self.plan(), dialect, tables, self.notations())
 
     def sql_setup(self, dialect: str = "postgres", tables: Optional[Sequence[Table]] = None, *, program: Path = "frameq") -> str:
         """A script of psql, for PostgreSQL, that makes these tables from the plan's files: the program reads each of them, as in a run."""
-        return sql_setup(self.plan(), self.files(), dialect, tables, program)
+        return sql_setup(self.plan(), self.files(), dialect, tables, program, self.notations())
 
     def explain(self, *, program: Optional[Path] = None) -> str:
         """What the program says of the plan: the columns after each step, and where it runs."""
-        return _program.explain(self.plan(), self._calls, program)
+        return _program.explain(self.plan(), words_of(self.notations()), self._calls, program)
 
     def collect(
         self,
@@ -366,7 +375,7 @@ class LazyFrame:
         settings = _program.Settings(batch, workers, program, progress)
         if executor is not None:
             return _parts.collect(self._report(), executor, settings)
-        return _program.collect(self.plan(), self.files(), self._schema, self._calls, settings)
+        return _program.collect(self.plan(), words_of(self.notations()), self.files(), self._schema, self._calls, settings)
 
     def sink_csv(
         self,
@@ -386,10 +395,10 @@ class LazyFrame:
         if executor is not None:
             _parts.sink(self._report(), os.fspath(path), executor, settings)
         else:
-            _program.sink(self.plan(), self.files(), os.fspath(path), self._calls, settings)
+            _program.sink(self.plan(), words_of(self.notations()), self.files(), os.fspath(path), self._calls, settings)
 
     def _report(self) -> _parts.Report:
-        return _parts.Report(self.plan(), self.files(), self._calls, self._schemas)
+        return _parts.Report(self.plan(), self.files(), self._calls, self._schemas, self.notations())
 
 
 class GroupBy:
@@ -414,11 +423,9 @@ class GroupBy:
         rest = {name: kind for name, kind in schema.items() if name not in keys}  # which all() means here
         each = [expr for given in flat(aggs) for expr in expanded(named(given), rest)]
         each += [it.alias(name) for name, given in named_aggs.items() for it in expanded(named(given), rest)]
-        outputs = [(name_of(expr), expr._node) for expr in each]
-        _no_doubles([name for name, _ in (*self._keys, *outputs)], "group_by")
-        for name, node in outputs:
-            _judge_aggregate(name, node, schema)
-        return self._grouped(outputs, call)
+        named_nodes = [(name_of(expr), expr._node) for expr in each]
+        _no_doubles([name for name, _ in (*self._keys, *named_nodes)], "group_by")
+        return self._grouped([(name, _settled_aggregate(name, node, schema)) for name, node in named_nodes], call)
 
     def len(self, name: str = "len") -> LazyFrame:
         """The number of rows of each group."""
@@ -474,8 +481,8 @@ def _group_step(
     return {"group_by": {"keys": keys, "aggs": aggs}}, call, after
 
 
-def _judge_aggregate(name: str, node: Node, schema: Schema) -> None:
-    """Raises if an output of a grouping is not made of aggregates alone."""
+def _settled_aggregate(name: str, node: Node, schema: Schema) -> Node:
+    """An output of a grouping with its literals settled. Raises if it is not made of aggregates alone."""
     aggregates = [part for part in parts(node) if part[0] == "agg"]
     if not aggregates:
         raise UnsupportedError(f"the output {name!r} is no aggregate: there are no lists. Write .first(), or another")
@@ -484,7 +491,9 @@ def _judge_aggregate(name: str, node: Node, schema: Schema) -> None:
     rest = replaced(node, {part: ("null", Kind.INT) for part in aggregates})
     if columns_of(rest) or has(rest, "roll"):
         raise UnsupportedError(f"the output {name!r} has a column outside of an aggregate: there are no lists. Write .first(), or another")
+    node = settled(node, schema)
     kind_of(node, schema)
+    return node
 
 
 def _no_aggregates(expr: Expr, step: str) -> None:

@@ -1,10 +1,10 @@
 """Frames of pandas, with nullable columns."""
 import io
-from typing import Any, Callable, Sequence
+from typing import Any, Callable, Dict, Sequence
 
-from ._kinds import Column, Kind, Schema
+from ._kinds import Column, ColumnKind, Date, Kind, Schema
 
-_KINDS = {Kind.INT: "Int64", Kind.TEXT: "string", Kind.BOOL: "boolean"}
+_KINDS: Dict[ColumnKind, str] = {Kind.INT: "Int64", Kind.TEXT: "string", Kind.BOOL: "boolean"}
 
 # Whole numbers from the negative of this one to it are floats without loss.
 _MOST_EXACT = 2**53 - 1
@@ -27,7 +27,7 @@ def frame_of_text(schema: Schema, text: bytes, values_of: Callable[[str], Column
         header=0,
         names=list(schema),
         index_col=False,
-        dtype={name: _KINDS[kind] for name, kind in schema.items() if kind != Kind.INT},
+        dtype={name: _KINDS.get(kind, "string") for name, kind in schema.items() if kind != Kind.INT},
         keep_default_na=False,
         na_values=[""],
         skip_blank_lines=False,
@@ -37,13 +37,21 @@ def frame_of_text(schema: Schema, text: bytes, values_of: Callable[[str], Column
     for name, kind in schema.items():
         if kind == Kind.INT:
             frame[name] = _array_of(kind, values_of(name)) if _may_be_changed(frame[name], text) else _nullable(frame[name])
+        elif kind not in _KINDS:
+            frame[name] = _array_of(kind, values_of(name))
     return frame
 
 
-def _array_of(kind: Kind, values: Column) -> Any:
+def _array_of(kind: ColumnKind, values: Column) -> Any:
+    """The values as an array; decimals as objects, and dates in seconds, or, in pandas before 2, in nanoseconds of the years that have them."""
+    import numpy
     import pandas
 
-    return pandas.array(values, dtype=_KINDS[kind])
+    if kind in _KINDS:
+        return pandas.array(values, dtype=_KINDS[kind])
+    if kind == Date:
+        return pandas.Series(numpy.array(values, dtype="datetime64[s]")).array
+    return pandas.array(values, dtype=object)
 
 
 def _may_be_changed(column: Any, text: bytes) -> bool:

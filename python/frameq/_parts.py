@@ -12,9 +12,10 @@ import tempfile
 import warnings
 from typing import TYPE_CHECKING, Any, Dict, Iterator, List, NamedTuple, Optional, Sequence, Tuple, Union
 
-from ._cuts import Cut, cuts, first_of_many_rows, steps_to_most_matches
+from ._cuts import Cut, cuts, first_of_many_rows, gives_no_row_twice, names_of_other_dates, steps_to_most_matches
 from ._faults import FrameqError, SumRangeError, UnsupportedError, fault, renumbered
-from ._kinds import Kind, Schema
+from ._kinds import Date, Kind, Notations, Schema
+from ._notations import words_of_run
 from ._printed import end_of_names
 from ._program import Settings, find_program, printed
 from ._results import DataFrame, read_frame
@@ -36,12 +37,16 @@ _PIECE = 1 << 20
 
 
 class Report(NamedTuple):
-    """A plan, its files in order, the calls that made its steps, and its columns before each step and after the last."""
+    """A plan, its files in order, the calls that made its steps, its columns before each step and after the last, and how ints are written.
+
+    An int is written by the name of its column, wherever that is in the plan: what a run prints, the next one reads.
+    """
 
     plan: Dict[str, Any]
     files: List[str]
     calls: Sequence[str]
     schemas: Sequence[Schema]
+    notations: Notations
 
 
 def collect(report: Report, executor: "Executor", settings: Settings) -> DataFrame:
@@ -76,9 +81,11 @@ def _warn(parts: "_Parts") -> None:
 
 
 class _Run(NamedTuple):
-    """A plan that does steps of a report over files, the numbers of these files in the report, and that of the first of the steps."""
+    """A plan that does steps of a report over files, the arguments that say how ints are written, the numbers of these files in the report,
+    and that of the first of the steps."""
 
     plan: Dict[str, Any]
+    words: List[str]
     files: List[str]
     numbers: List[int]
     first_step: int = 0
@@ -100,6 +107,7 @@ class _Parts:
         self._first = sum(side["files"] for side in self._sides)
         self._files = report.files[self._first :]
         self._fits_one_run = len(report.files) <= _MOST_FILES
+        self._dates = frozenset(name for name, kind in report.notations.items() if kind == Date)
 
     def check(self) -> None:
         """Raises what a run of all files says before it reads: of the plan, and of the first file that cannot be opened."""
@@ -107,21 +115,31 @@ class _Parts:
             if file == "-" or (os.path.exists(file) and not os.path.isfile(file) and not os.path.isdir(file)):
                 raise UnsupportedError(f"each task reads files, and {file!r} can be read only once: write it to a file first")
         few = min(len(self._files), max(1, _MOST_FILES - self._first))
-        self.done(_Run(self._plan([*self._sides, {**self._main, "files": few}], self._steps), [], []), ["--explain"])
+        all_of = self._plan([*self._sides, {**self._main, "files": few}], self._steps)
+        self.done(_Run(all_of, self._words(all_of, self._report.schemas[-1]), [], []), ["--explain"])
         for number, file in enumerate(self._report.files):
             if not _can_be_opened(file):
-                self.done(_Run(self._plan([{**self._source_of(number), "files": 1}], []), [file], [number]))
+                alone = self._plan([{**self._source_of(number), "files": 1}], [])
+                self.done(_Run(alone, self._words(alone), [file], [number]))
 
     def last(self) -> Union[_Run, str]:
         """The run that is left when the parts are there; or the file that has their rows, if these are the result."""
-        for cut in cuts(self._steps, self._report.schemas, self._place()):
+        place = self._place()
+        for cut in cuts(self._steps, self._report.schemas, place, self._dates):
             if self._fits_one_run and cut.then and cut.then == self._steps:
                 break
             files = self._rows_of_parts(cut)
             if files is not None:
-                return self._run(cut.then, files, [self._first] * len(files), _source(cut.columns), cut.at) if cut.then else files[0]
+                result = self._report.schemas[-1]
+                return self._run(cut.then, result, files, [self._first] * len(files), _source(cut.columns), cut.at) if cut.then else files[0]
         if self._fits_one_run:
-            return self._run(self._steps, self._files, range(self._first, len(self._report.files)))
+            return self._run(self._steps, self._report.schemas[-1], self._files, range(self._first, len(self._report.files)))
+        renamed = names_of_other_dates(self._report.schemas[place], self._dates)
+        if renamed:
+            raise UnsupportedError(
+                f"over more than {_MOST_FILES} files no column that is no Date may have the name of one where the rows of files are put "
+                f"together: give {', '.join(map(repr, renamed))} another name, by alias"
+            )
         raise UnsupportedError(
             f"over more than {_MOST_FILES} files no text may be empty and not null where the rows of files are put together: let lit and "
             'fill_null give another text than ""'
@@ -129,7 +147,7 @@ class _Parts:
 
     def done(self, run: _Run, words: Sequence[str] = ()) -> bytes:
         """What a run here prints. Raises its fault."""
-        return self._printed(run, Told(*printed(run.plan, words, run.files, self._settings)))
+        return self._printed(run, Told(*printed(run.plan, [*words, *run.words], run.files, self._settings)))
 
     def _printed(self, run: _Run, told: Told) -> bytes:
         """What a run printed. Raises its fault."""
@@ -170,17 +188,18 @@ class _Parts:
         """How many rows all main files have at most, and a row after each of joins: first what takes the least time to know."""
         rows = _most_rows_by_size(self._files)
         rights = [self._files_of_side(join["source"]) for join in joins]
-        yield rows, [_most_rows_by_size(right) if steps_to_most_matches(join) else 1 for join, right in zip(joins, rights)]
+        yield rows, [1 if gives_no_row_twice(join) else _most_rows_by_size(right) for join, right in zip(joins, rights)]
         matches = [self._most_matches(join, right) for join, right in zip(joins, rights)]
         yield rows, matches
         yield most_rows(self._executor, [os.path.abspath(file) for file in self._files]), matches
 
     def _most_matches(self, join: dict, right: List[str]) -> float:
         """How many rows a join gives at most for one."""
-        steps = steps_to_most_matches(join)
+        steps = steps_to_most_matches(join, self._report.notations)
         if steps is None:
             return 1
-        status, text, _ = printed(self._plan([self._sides[join["source"]]], steps), [], right, self._settings)
+        plan = self._plan([self._sides[join["source"]]], steps)
+        status, text, _ = printed(plan, self._words(plan), right, self._settings)
         # (a fault of these files is told by a run that joins them)
         return max([1, *(int(line.rpartition(b",")[2]) for line in text.splitlines()[1:])]) if status == 0 else math.inf
 
@@ -190,8 +209,9 @@ class _Parts:
         """Files with the rows of all parts, in order; or none if a sum of a part is out of range, since that of all files may fit."""
         room = tempfile.mkdtemp(dir=self._room)
         rows = _Rows(room, _MOST_ROWS if cut.then else math.inf)
-        tasks = [self._task(cut.first, number) for number in range(len(self._files))]
-        with contextlib.closing(run_all(self._executor, [(task.plan, task.files) for task in tasks], self._settings, room)) as all_told:
+        tasks = [self._task(cut, number) for number in range(len(self._files))]
+        runs = [(task.plan, task.words, task.files) for task in tasks]
+        with contextlib.closing(run_all(self._executor, runs, self._settings, room)) as all_told:
             for number, (task, told) in enumerate(zip(tasks, all_told)):
                 if told.status != 0:
                     break
@@ -205,12 +225,13 @@ class _Parts:
         # (a file is not the same here, or the task ended in another way)
         raise self._fault(task, told)
 
-    def _task(self, steps: Sequence[dict], number: int) -> _Run:
-        """Steps over a main file and the sources up to the last that they join, with paths that are right in any folder."""
-        sides = self._sides[: 1 + max((step["join"]["source"] for step in steps if "join" in step), default=-1)]
+    def _task(self, cut: Cut, number: int) -> _Run:
+        """The steps on a main file, over it and the sources up to the last that they join, with paths that are right in any folder."""
+        sides = self._sides[: 1 + max((step["join"]["source"] for step in cut.first if "join" in step), default=-1)]
         numbers = [*range(sum(side["files"] for side in sides)), self._first + number]
-        plan = self._plan([*sides, {**self._main, "files": 1}], steps)
-        return _Run(plan, [os.path.abspath(self._report.files[file]) for file in numbers], numbers)
+        plan = self._plan([*sides, {**self._main, "files": 1}], cut.first)
+        words = self._words(plan, cut.columns)
+        return _Run(plan, words, [os.path.abspath(self._report.files[file]) for file in numbers], numbers)
 
     def _run_to_fault(self, cut: Cut, number: int) -> _Run:
         """The run here that tells why the part of a main file has no rows.
@@ -218,18 +239,19 @@ class _Parts:
         A grouping passes on the fault that its rows end in. Other steps may have one of their own at an earlier row.
         """
         if not cut.then or "group_by" in cut.then[0]:
-            return self._run(cut.first, self._files[number : number + 1], [self._first + number])
+            return self._run(cut.first, cut.columns, self._files[number : number + 1], [self._first + number])
         before, file = self._files[:number], self._files[number]
         if self._first + number + 1 > _MOST_FILES:
             before = self._copied(before)
-        return self._run(self._steps, [*before, file], [*range(self._first, self._first + len(before)), self._first + number])
+        numbers = [*range(self._first, self._first + len(before)), self._first + number]
+        return self._run(self._steps, self._report.schemas[-1], [*before, file], numbers)
 
     def _copied(self, files: Sequence[str]) -> List[str]:
         """Fewer files with the same fields."""
         rows = _Rows(tempfile.mkdtemp(dir=self._room), _MOST_ROWS)
         plan = self._plan([{"files": 1, "columns": [[name, Kind.TEXT.value] for name, _ in self._main["columns"]]}], [])
         for number, file in enumerate(files):
-            rows.add(self.done(_Run(plan, [file], [self._first + number])))
+            rows.add(self.done(_Run(plan, self._words(plan), [file], [self._first + number])))
         return rows.files
 
     # Plans and files.
@@ -237,14 +259,24 @@ class _Parts:
     def _plan(self, sources: Sequence[dict], steps: Sequence[dict]) -> dict:
         return {**self._report.plan, "sources": list(sources), "steps": list(steps)}
 
+    def _words(self, plan: dict, result: Optional[Schema] = None) -> List[str]:
+        """How ints are written in a run of a plan: in its sources, and in its result, if that has other columns."""
+        return words_of_run(self._report.notations, plan, result or {})
+
     def _run(
-        self, steps: Sequence[dict], files: Sequence[str], numbers: Sequence[int], source: Optional[dict] = None, first: int = 0
+        self,
+        steps: Sequence[dict],
+        result: Schema,
+        files: Sequence[str],
+        numbers: Sequence[int],
+        source: Optional[dict] = None,
+        first: int = 0,
     ) -> _Run:
-        """Steps over all sources that are joined, and files of the main source, or of another."""
+        """Steps with this result over all sources that are joined, and files of the main source, or of another."""
         if self._first + len(files) > _MOST_FILES:
             raise UnsupportedError("more rows of files are put together than one run takes: filter them before that, or group them")
         plan = self._plan([*self._sides, {**(source or self._main), "files": len(files)}], steps)
-        return _Run(plan, [*self._report.files[: self._first], *files], [*range(self._first), *numbers], first)
+        return _Run(plan, self._words(plan, result), [*self._report.files[: self._first], *files], [*range(self._first), *numbers], first)
 
     def _files_of_side(self, side: int) -> List[str]:
         """The files of a source that is joined."""

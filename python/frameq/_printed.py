@@ -1,9 +1,11 @@
 """The CSV text of a frame, as the program prints it: read into columns, and printed."""
+import datetime
+import decimal
 import re
 from itertools import islice
 from typing import Callable, Dict, Iterable, Iterator, List, Sequence
 
-from ._kinds import Column, Kind, Schema, Value
+from ._kinds import Column, ColumnKind, Date, Decimal, Kind, Schema, Value
 
 # How many bytes become cells at a time: few enough to stay in the caches meanwhile.
 _PIECE = 1 << 14
@@ -25,7 +27,7 @@ def end_of_names(text: bytes) -> int:
 
 def columns_of(text: bytes, schema: Schema) -> List[Column]:
     """The values of each column. KeyError or ValueError if a cell is not of its column's kind."""
-    readers = [_READERS[kind] for kind in schema.values()]
+    readers = [_decimals_reader(kind.scale) if isinstance(kind, Decimal) else _READERS[kind] for kind in schema.values()]
     columns: List[Column] = [[] for _ in readers]
     for piece in _pieces(text, end_of_names(text)):
         cells = _cells(piece)
@@ -36,7 +38,7 @@ def columns_of(text: bytes, schema: Schema) -> List[Column]:
 
 def text_of(schema: Schema, columns: Sequence[Column]) -> str:
     """The text of a frame."""
-    cells = [_PRINTERS[kind](values) for kind, values in zip(schema.values(), columns)]
+    cells = [_printed(kind, values) for kind, values in zip(schema.values(), columns)]
     lines = [",".join(map(_quoted, schema)), *map(",".join, zip(*cells))]
     # (an empty line is no row)
     return "\n".join([*(line or '""' for line in lines), ""])
@@ -94,7 +96,26 @@ def _read_truths(cells: List[str]) -> Iterable[Value]:
     return map(_TRUTHS.__getitem__, cells)
 
 
-_READERS: Dict[Kind, Callable[[List[str]], Iterable[Value]]] = {Kind.INT: _read_ints, Kind.TEXT: _read_texts, Kind.BOOL: _read_truths}
+def _read_dates(cells: List[str]) -> List[Value]:
+    of_text = datetime.date.fromisoformat
+    return [of_text(cell) if cell else None for cell in cells]
+
+
+def _decimals_reader(scale: int) -> Callable[[List[str]], List[Value]]:
+    """What reads decimals that are printed with so many places."""
+    point, of_text = -1 - scale, decimal.Decimal
+
+    def read(cells: List[str]) -> List[Value]:
+        if any(cell and cell[point : point + 1] != "." for cell in cells):
+            raise ValueError(f"a decimal without {scale} places")
+        return [of_text(cell) if cell else None for cell in cells]
+
+    return read
+
+
+_READERS: Dict[ColumnKind, Callable[[List[str]], Iterable[Value]]] = {
+    Kind.INT: _read_ints, Kind.TEXT: _read_texts, Kind.BOOL: _read_truths, Date: _read_dates,
+}
 
 
 # ---- printing
@@ -104,8 +125,16 @@ def _quoted(text: str) -> str:
     return '"' + text.replace('"', '""') + '"' if _NEEDS_QUOTES.search(text) else text
 
 
-_PRINTERS: Dict[Kind, Callable[[Column], Iterable[str]]] = {
+def _printed(kind: ColumnKind, values: Column) -> Iterable[str]:
+    """The cells of a column."""
+    if isinstance(kind, Decimal):
+        return ["" if value is None else f"{value:.{kind.scale}f}" for value in values]
+    return _PRINTERS[kind](values)
+
+
+_PRINTERS: Dict[ColumnKind, Callable[[Column], Iterable[str]]] = {
     Kind.INT: lambda values: ["" if value is None else str(value) for value in values],
     Kind.TEXT: lambda values: ["" if value is None else _quoted(value) for value in values],
     Kind.BOOL: lambda values: map(_OF_TRUTHS.__getitem__, values),
+    Date: lambda values: ["" if value is None else value.isoformat() for value in values],
 }

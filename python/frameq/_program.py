@@ -9,8 +9,9 @@ import tempfile
 import warnings
 from typing import IO, Iterator, List, Mapping, NamedTuple, NoReturn, Optional, Sequence, Tuple, Union
 
-from ._faults import ProgramNotFoundError, fault
-from ._kinds import AnyKind, Schema, schema_of
+from ._faults import ProgramNotFoundError, UnsupportedError, fault
+from ._kinds import AnyKind, Kind, Notation, Notations, Schema, kind_of_type, schema_of
+from ._notations import words_of
 from ._progress import open_screen, run_shown
 from ._results import DataFrame, read_frame
 
@@ -131,22 +132,26 @@ def _ran(command: List[str], out: Union[int, IO[bytes]], progress: bool) -> Tupl
     return ran.returncode, ran.stdout or b"", ran.stderr.decode("utf-8", "replace")
 
 
-def explain(plan: dict, calls: Sequence[str], program: Optional[Path]) -> str:
+# Here `words` are the arguments that say how columns are written.
+
+def explain(plan: dict, words: Sequence[str], calls: Sequence[str], program: Optional[Path]) -> str:
     """What the program says of a plan."""
-    return _run(plan, ["--explain"], [], calls, Settings(program=program), subprocess.PIPE).decode("utf-8")
+    return _run(plan, ["--explain", *words], [], calls, Settings(program=program), subprocess.PIPE).decode("utf-8")
 
 
-def collect(plan: Union[Path, dict], files: Sequence[str], schema: Optional[Schema], calls: Sequence[str], settings: Settings) -> DataFrame:
+def collect(
+    plan: Union[Path, dict], words: Sequence[str], files: Sequence[str], schema: Optional[Schema], calls: Sequence[str], settings: Settings
+) -> DataFrame:
     """The frame that a plan makes of files."""
     with tempfile.TemporaryFile() as out:
-        _run(plan, [], files, calls, settings, out)
+        _run(plan, words, files, calls, settings, out)
         out.seek(0)
         return read_frame(out.read(), schema)
 
 
-def sink(plan: dict, files: Sequence[str], path: str, calls: Sequence[str], settings: Settings) -> None:
+def sink(plan: dict, words: Sequence[str], files: Sequence[str], path: str, calls: Sequence[str], settings: Settings) -> None:
     """Has the program put what a plan makes of files in the place of a file."""
-    _run(plan, ["--output", os.path.abspath(path)], files, calls, settings, subprocess.DEVNULL)
+    _run(plan, ["--output", os.path.abspath(path), *words], files, calls, settings, subprocess.DEVNULL)
 
 
 def run_plan(
@@ -154,15 +159,33 @@ def run_plan(
     files: Sequence[Path],
     *,
     schema: Optional[Mapping[str, AnyKind]] = None,
+    notations: Optional[Mapping[str, Notation]] = None,
     batch: Optional[int] = None,
     workers: Optional[int] = None,
     program: Optional[Path] = None,
     progress: bool = False,
 ) -> DataFrame:
-    """Runs a plan that exists, a file or its JSON object, over files. Without the schema of its result each column is a text."""
+    """Runs a plan that exists, a file or its JSON object, over files. Without the schema of its result each column is a text.
+
+    `notations` says which int columns of its sources, or of its result, are a Decimal or a Date, beside those of the schema.
+    """
     names = [os.fspath(file) for file in ([files] if isinstance(files, (str, os.PathLike)) else files)]
     columns = None if schema is None else schema_of(schema)
-    frame = collect(plan, names, columns, (), Settings(batch, workers, program, progress))
+    words = words_of(_all_notations(columns or {}, notations or {}))
+    frame = collect(plan, words, names, columns, (), Settings(batch, workers, program, progress))
     if columns is not None:
         frame._values()  # (so a kind that is not the result's is refused by this call)
     return frame
+
+
+def _all_notations(schema: Schema, given: Mapping[str, Notation]) -> Notations:
+    """The notations that are given, and those of the columns of a result."""
+    notations: Notations = {}
+    for name, kind in [*given.items(), *schema.items()]:
+        kind = kind_of_type(kind)
+        if isinstance(kind, Kind):
+            if name in given and name not in schema:
+                raise UnsupportedError(f"a notation is a Decimal or a Date, and not a {kind!r}, of {name!r}")
+        elif notations.setdefault(name, kind) != kind:
+            raise UnsupportedError(f"the column {name!r} is a {notations[name]!r} and a {kind!r}, and a run writes a name in one way")
+    return notations

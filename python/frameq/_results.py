@@ -5,7 +5,7 @@ from typing import IO, Any, Dict, Iterator, List, Optional, Sequence, Tuple, Uni
 
 from ._expressions import kind_of, plain_names
 from ._faults import ArgumentsError, UnsupportedError, WrongKindError
-from ._kinds import Column, Kind, Schema, Value
+from ._kinds import Column, ColumnKind, Date, Decimal, Kind, Schema, Value
 from ._order import SortKey, each_of, order_of
 from ._pandas import frame_of_columns, frame_of_text
 from ._printed import columns_of, names_of, text_of
@@ -41,7 +41,7 @@ class DataFrame:
         if self._columns is None:
             try:
                 self._columns = columns_of(self._text or b"", self._schema)
-            except (KeyError, ValueError) as error:
+            except (KeyError, ValueError, ArithmeticError) as error:
                 raise WrongKindError(f"a cell of the result is not of the kind that the schema has: {error}") from None
         return self._columns
 
@@ -194,7 +194,10 @@ class DataFrame:
         return None
 
     def to_pandas(self) -> Any:
-        """A frame of pandas, with nullable columns. What the program printed is read by pandas' own reader."""
+        """A frame of pandas, with nullable columns. What the program printed is read by pandas' own reader.
+
+        A decimal is a `decimal.Decimal`, in a column of objects, and a date a `datetime64`.
+        """
         if not self._text or b"\0" in self._text:
             return frame_of_columns(self._schema, self._values())
         return frame_of_text(self._schema, self._text, self._column)
@@ -203,8 +206,12 @@ class DataFrame:
         """A frame of Polars."""
         import polars
 
-        kinds = {Kind.INT: polars.Int64, Kind.TEXT: polars.String, Kind.BOOL: polars.Boolean}
-        return polars.DataFrame(self.to_dict(), schema={name: kinds[kind] for name, kind in self._schema.items()})
+        kinds = {Kind.INT: polars.Int64, Kind.TEXT: polars.String, Kind.BOOL: polars.Boolean, Date: polars.Date}
+
+        def of_polars(kind: ColumnKind) -> Any:
+            return polars.Decimal(38, kind.scale) if isinstance(kind, Decimal) else kinds[kind]
+
+        return polars.DataFrame(self.to_dict(), schema={name: of_polars(kind) for name, kind in self._schema.items()})
 
     # How it is shown.
 

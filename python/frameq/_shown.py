@@ -1,15 +1,17 @@
 """How frames are shown: as a text, in a notebook, and column by column."""
+import datetime
+import decimal
 from html import escape
-from typing import Iterable, List, Sequence, Tuple
+from typing import Dict, Iterable, List, Sequence, Tuple
 
-from ._kinds import Column, Kind, Schema, Value
+from ._kinds import Column, ColumnKind, Date, Decimal, Kind, Schema, Value
 
 Rows = Sequence[Tuple[Value, ...]]
 
 # How many rows are shown, and how many characters of a cell.
 SHOWN_ROWS, _SHOWN_WIDTH = 10, 24
 
-_SHORT = {Kind.INT: "<i64>", Kind.TEXT: "<str>", Kind.BOOL: "<bool>"}
+_SHORT: Dict[ColumnKind, str] = {Kind.INT: "<i64>", Kind.TEXT: "<str>", Kind.BOOL: "<bool>", Date: "<date>"}
 
 
 def as_text(schema: Schema, height: int, rows: Rows) -> str:
@@ -36,9 +38,9 @@ def as_html(schema: Schema, height: int, rows: Rows) -> str:
 def as_glimpse(schema: Schema, height: int, firsts: Iterable[Column], name_length: int) -> str:
     """A frame of this height, with a line for each column and its first values."""
     names = [name if len(name) <= name_length else name[: name_length - 1] + "…" for name in schema]
-    kinds = [_SHORT[kind] for kind in schema.values()]
+    kinds = [f"<decimal[*,{kind.scale}]>" if isinstance(kind, Decimal) else _SHORT[kind] for kind in schema.values()]
     of_names, of_kinds = max(map(len, names), default=0), max(map(len, kinds), default=0)
-    values = [", ".join("null" if value is None else repr(value) for value in first) for first in firsts]
+    values = [", ".join(map(_glimpsed, first)) for first in firsts]
     lines = [f"$ {name.ljust(of_names)} {kind.rjust(of_kinds)} {it}" for name, kind, it in zip(names, kinds, values)]
     return "\n".join([f"Rows: {height}", f"Columns: {len(schema)}", *lines, ""])
 
@@ -52,14 +54,27 @@ def _rest(height: int, rows: Rows) -> List[str]:
     return [] if len(rows) == height else [f".. {height - len(rows)} rows more"]
 
 
+def _glimpsed(value: Value) -> str:
+    return _plain(value) if isinstance(value, (decimal.Decimal, datetime.date)) else "null" if value is None else repr(value)
+
+
+def _plain(value: Value) -> str:
+    """A value as a text; of a decimal all digits."""
+    return f"{value:f}" if isinstance(value, decimal.Decimal) else str(value)
+
+
 def _cell(value: Value) -> str:
-    text = "null" if value is None else str(value).lower() if isinstance(value, bool) else str(value)
+    text = "null" if value is None else str(value).lower() if isinstance(value, bool) else _plain(value)
     text = "".join(it if it.isprintable() else repr(it)[1:-1] for it in text)
     return text if len(text) <= _SHOWN_WIDTH else text[: _SHOWN_WIDTH - 2] + ".."
 
 
-def _placed(text: str, width: int, kind: Kind) -> str:
-    return text.rjust(width) if kind == Kind.INT else text.ljust(width)
+def _is_number(kind: ColumnKind) -> bool:
+    return kind == Kind.INT or isinstance(kind, Decimal)
+
+
+def _placed(text: str, width: int, kind: ColumnKind) -> str:
+    return text.rjust(width) if _is_number(kind) else text.ljust(width)
 
 
 def _cell_of_html(value: Value) -> str:
@@ -67,7 +82,7 @@ def _cell_of_html(value: Value) -> str:
     return "<em>null</em>" if value is None else escape(_cell(value))
 
 
-def _line(tag: str, cells: Iterable[str], kinds: Iterable[Kind]) -> str:
+def _line(tag: str, cells: Iterable[str], kinds: Iterable[ColumnKind]) -> str:
     """A line of a table in HTML, with the numbers on the right."""
-    sides = ("right" if kind == Kind.INT else "left" for kind in kinds)
+    sides = ("right" if _is_number(kind) else "left" for kind in kinds)
     return "<tr>" + "".join(f'<{tag} style="text-align: {side}">{cell}</{tag}>' for cell, side in zip(cells, sides)) + "</tr>"

@@ -2,6 +2,7 @@
 from typing import Any, Dict, List, NamedTuple, Optional, Sequence, Set, Tuple
 
 from ._dialects import GREATEST, LEAST, Dialect, Table, dialect_named, names_of_table
+from ._kinds import Notations
 
 # How deep operators stand one in another in a piece of SQL. SQLite's parser has little room, so deeper ones become columns.
 _MOST_NESTED = 8
@@ -20,7 +21,9 @@ _MAY_OVERFLOW = ("neg", *_ARITHMETIC, *_DIVISIONS)
 _ANY_VALUES = {"int": 0, "text": "", "bool": False}
 
 
-def sql(plan: Dict[str, Any], dialect: str = "sqlite", tables: Optional[Sequence[Table]] = None) -> str:
+def sql(
+    plan: Dict[str, Any], dialect: str = "sqlite", tables: Optional[Sequence[Table]] = None, notations: Optional[Notations] = None
+) -> str:
     """The query whose rows, in order, are those that frameq gives for a plan.
 
     `plan` is a plan that frameq accepts, of version 1 or 2, as `json.load` reads it. `dialect` is "sqlite", "postgres", "duckdb" or
@@ -31,6 +34,9 @@ def sql(plan: Dict[str, Any], dialect: str = "sqlite", tables: Optional[Sequence
     STRING), bool as BOOLEAN (in SQLite 0 and 1), with NULL wherever frameq reads null. One more column numbers the rows of a source 1, 2
     and so on, in the order of its files and of the rows in them. It is named `row`; while a column of any source has that name, in
     whatever letter case, an underscore is added at its end. The name is the same in all tables of a plan.
+
+    `notations` has the kinds of int columns, of sources and of the result, that are decimals or dates. They are DECIMAL(19, scale) and DATE
+    in the tables and in the query's rows, and the ints of the plan within the query. SQLite has neither.
 
     The query says what frameq says only where no value leaves 64 bits. Where one does, frameq ends with a fault, and the query
     gives an error or wrong rows, as the engine has it. SQLite goes on with floats. PostgreSQL gives an error, unless no row of the answer
@@ -44,7 +50,7 @@ def sql(plan: Dict[str, Any], dialect: str = "sqlite", tables: Optional[Sequence
     ValueError says that a dialect is not one of these, that a plan is not one that frameq accepts, or that the dialect has no way
     to say something in it. A plan is not checked in all ways: frameq does that.
     """
-    writer = _Writer(dialect_named(dialect), *sources_of(plan, tables))
+    writer = _Writer(dialect_named(dialect), *sources_of(plan, tables), notations or {})
     frame = writer.start()
     for number, step in enumerate(plan["steps"]):
         frame = writer.step(frame, f"step{number}", step)
@@ -169,16 +175,20 @@ def _is_constant(expression: Any) -> bool:
 class _Writer:
     """Writes the subqueries of one plan. In each, `frame` is the frame before, and `other` the right side of a join."""
 
-    def __init__(self, dialect: Dialect, sources: Sequence[Dict[str, Any]], tables: Sequence[Table]) -> None:
+    def __init__(self, dialect: Dialect, sources: Sequence[Dict[str, Any]], tables: Sequence[Table], notations: Notations) -> None:
         self.dialect = dialect
         self.sources = sources
+        self.notations = notations
         self.tables = [dialect.table(table) for table in tables]
         self.taken = {dialect.fold(names_of_table(table)[-1]) for table in tables}
         self.row_name = row_column(sources)
         self.row = dialect.identifier(self.row_name)
+        self.of_tables: List[Tuple[str, str]] = []
         self.subqueries: List[Tuple[str, str]] = []
-        for source in sources:
+        for number, source in enumerate(sources):
             self.require_table(source)
+            if any(kind == "int" and name in notations for name, kind in source["columns"]):
+                self.tables[number] = self.in_ints(f"table{number}", self.tables[number], source)
 
     def require_table(self, source: Dict[str, Any]) -> None:
         """Requires that a table can have the columns of a source: that the engine tells their names apart."""
@@ -194,7 +204,36 @@ class _Writer:
                     " alone: rename one of them in the source and in its files"
                 )
 
+    # -- decimals and dates
+
+    def in_ints(self, name: str, table: str, source: Dict[str, Any]) -> str:
+        """A subquery that has the columns of a table, its decimals and dates as the ints of the plan."""
+        items = [f"frame.{self.row} AS {self.row}"]
+        for column, kind in source["columns"]:
+            identifier = self.dialect.identifier(column)
+            value = f"frame.{identifier}"
+            if kind == "int" and column in self.notations:
+                value = self.dialect.with_notations().int_of(value, self.notations[column])
+            items.append(f"{value} AS {identifier}")
+        identifier = self.name_of_subquery(name)
+        self.of_tables.append((identifier, f"{_selected(items, '  ')}\n  FROM {table} AS frame"))
+        return identifier
+
+    def of_result(self, column: _Column) -> str:
+        """A column of the last frame, as the query gives it."""
+        value = f"frame.{column.identifier}"
+        if column.kind == "int" and column.name in self.notations:
+            return self.dialect.with_notations().of_int(value, self.notations[column.name])
+        return value
+
     # -- subqueries
+
+    def name_of_subquery(self, name: str) -> str:
+        """An identifier that no table and no subquery has yet."""
+        while self.dialect.fold(name) in self.taken:
+            name += "_"
+        self.taken.add(self.dialect.fold(name))
+        return self.dialect.identifier(name)
 
     def identifier(self, name: str, taken: Set[str]) -> str:
         """An identifier for a name: the name itself, or else one like it, that is not taken. Then it is."""
@@ -225,10 +264,7 @@ class _Writer:
             taken = {self.dialect.fold(column.identifier) for columns in said for column in columns}
         order_after = self.named(order, said[0], taken, items)
         columns = self.named(outputs, said[1], taken, items)
-        while self.dialect.fold(name) in self.taken:
-            name += "_"
-        self.taken.add(self.dialect.fold(name))
-        identifier = self.dialect.identifier(name)
+        identifier = self.name_of_subquery(name)
         self.subqueries.append((identifier, f"{_selected(items, '  ')}\n  FROM {frame.identifier} AS frame{rest}"))
         return _Frame(identifier, columns, order_after, is_table=False)
 
@@ -243,10 +279,11 @@ class _Writer:
 
     def query(self, frame: _Frame) -> str:
         """The whole query, which ends in this frame. It computes the columns of the last subquery once, so that one is not kept."""
-        parts = [f"{identifier} AS {self.dialect.kept}(\n  {body}\n)" for identifier, body in self.subqueries[:-1]]
+        parts = [f"{identifier} AS (\n  {body}\n)" for identifier, body in self.of_tables]
+        parts += [f"{identifier} AS {self.dialect.kept}(\n  {body}\n)" for identifier, body in self.subqueries[:-1]]
         parts += [f"{identifier} AS (\n  {body}\n)" for identifier, body in self.subqueries[-1:]]
         chain = "WITH " + ",\n".join(parts) + "\n" if parts else ""
-        items = [f"frame.{column.identifier} AS {self.dialect.identifier(column.name)}" for column in frame.columns]
+        items = [f"{self.of_result(column)} AS {self.dialect.identifier(column.name)}" for column in frame.columns]
         return f"{chain}{_selected(items, '')}\nFROM {frame.identifier} AS frame\nORDER BY {_listed(frame.order)}\n"
 
     # -- steps

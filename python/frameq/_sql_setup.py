@@ -5,6 +5,8 @@ import shlex
 from typing import Any, Dict, List, Optional, Sequence, Union
 
 from ._dialects import Dialect, Table, dialect_named, quoted_text
+from ._kinds import Notations
+from ._notations import words_of_run
 from ._sql import row_column, sources_of
 
 # The columns that each table of PostgreSQL has by itself.
@@ -24,7 +26,7 @@ _FILTERS = r"""tr '\000' '\377' | sed 's/^\\\.\(.\{0,1\}\)$/"\\."\1/'"""
 
 def sql_setup(
     plan: Dict[str, Any], files: Sequence[str], dialect: str = "postgres", tables: Optional[Sequence[Table]] = None,
-    program: Union[str, "os.PathLike[str]"] = "frameq",
+    program: Union[str, "os.PathLike[str]"] = "frameq", notations: Optional[Notations] = None,
 ) -> str:
     """A script of psql that makes the tables of the query of `sql` from files, for PostgreSQL 15 or later.
 
@@ -48,33 +50,38 @@ def sql_setup(
     left = list(files)
     for source, name in zip(sources, names):
         own, left = left[: source["files"]], left[source["files"]:]
-        lines += _table(spellings, spellings.table(name), source, row_column(sources), own, os.fspath(program))
+        lines += _table(spellings, spellings.table(name), source, row_column(sources), own, os.fspath(program), notations or {})
     return "\n".join([*lines, "COMMIT;", ""])
 
 
-def _table(dialect: Dialect, table: str, source: Dict[str, Any], row: str, files: Sequence[str], program: str) -> List[str]:
+def _table(
+    dialect: Dialect, table: str, source: Dict[str, Any], row: str, files: Sequence[str], program: str, notations: Notations
+) -> List[str]:
     """The statements that make and fill the table of a source."""
     columns = []
     for name, kind in source["columns"]:
         if name in _OF_POSTGRES:
             raise ValueError(f"each table of postgres has a column {name!r} by itself: rename it in the source and in its files")
-        columns.append(f"{dialect.identifier(name)} {dialect.types[kind]}{dialect.by_bytes if kind == 'text' else ''}")
+        is_noted = kind == "int" and name in notations
+        type_of = dialect.with_notations().type_of(notations[name]) if is_noted else dialect.types[kind]
+        columns.append(f"{dialect.identifier(name)} {type_of}{dialect.by_bytes if kind == 'text' else ''}")
     items = ",\n  ".join([f"{dialect.identifier(row)} BIGINT GENERATED ALWAYS AS IDENTITY", *columns])
     names = ", ".join(dialect.identifier(name) for name, _ in source["columns"])
     words = f"WITH (FORMAT csv, HEADER MATCH, FORCE_NULL ({names}), ENCODING 'UTF8')"
-    copies = [f"\\copy {table} ({names}) FROM PROGRAM {quoted_text(_printed(source, file, program))} {words}" for file in files]
+    printed = [_printed(source, file, program, notations) for file in files]
+    copies = [f"\\copy {table} ({names}) FROM PROGRAM {quoted_text(command)} {words}" for command in printed]
     for copy in copies:
         if "\n" in copy or "\r" in copy:
             raise ValueError(f"psql copies by one line, and a name in this one has more: {copy!r}")
     return [f"CREATE TABLE {table} (\n  {items}\n);", *copies, f"ANALYZE {table};"]
 
 
-def _printed(source: Dict[str, Any], file: str, program: str) -> str:
+def _printed(source: Dict[str, Any], file: str, program: str, notations: Notations) -> str:
     """The command of a shell that prints what frameq reads in a file. Where frameq gives no frame, or not all of it, the command prints a
     record of too many fields, which is an error."""
     if file == "-":
         raise ValueError("the script reads no standard input: name a file")
     path = f"./{file}" if file.startswith("-") else file
-    plan = json.dumps({"version": 2, "sources": [{**source, "files": 1}], "steps": []})
-    words = " ".join(map(shlex.quote, [program, "--details", "--plan", "-", path]))
-    return f"export LC_ALL=C; (printf %s {shlex.quote(plan)} | {words} || echo {',' * len(source['columns'])}) | {_FILTERS}"
+    plan = {"version": 2, "sources": [{**source, "files": 1}], "steps": []}
+    words = " ".join(map(shlex.quote, [program, "--details", *words_of_run(notations, plan, {}), "--plan", "-", path]))
+    return f"export LC_ALL=C; (printf %s {shlex.quote(json.dumps(plan))} | {words} || echo {',' * len(source['columns'])}) | {_FILTERS}"

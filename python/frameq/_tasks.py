@@ -24,9 +24,9 @@ class Told(NamedTuple):
 # A pool of processes, or of machines, finds these functions by their names. Each call has an argument of its own, since some executors take
 # calls with equal arguments for one, and a file may have changed since the last.
 
-def _run(_: str, plan: Dict[str, Any], files: Sequence[str], settings: Settings) -> Told:
+def _run(_: str, plan: Dict[str, Any], words: Sequence[str], files: Sequence[str], settings: Settings) -> Told:
     """Runs a plan."""
-    return Told(*printed(plan, [], files, settings))
+    return Told(*printed(plan, words, files, settings))
 
 
 def _count(_: str, file: str) -> int:
@@ -41,17 +41,17 @@ def most_rows(executor: "Executor", files: Sequence[str]) -> int:
 
 
 def run_all(
-    executor: "Executor", runs: Sequence[Tuple[Dict[str, Any], Sequence[str]]], settings: Settings, room: str
+    executor: "Executor", runs: Sequence[Tuple[Dict[str, Any], Sequence[str], Sequence[str]]], settings: Settings, room: str
 ) -> Generator[Told, None, None]:
-    """What the runs of plans over files tell, in their order.
+    """What the runs of plans, with arguments, over files tell, in their order.
 
     What comes before its turn waits in a file of a folder, so that it takes no memory.
     """
     arrived: "queue.SimpleQueue[int]" = queue.SimpleQueue()
     futures, early = {}, {}
     try:
-        for number, (name, (plan, files)) in enumerate(zip(_names(len(runs)), runs)):
-            futures[number] = executor.submit(_run, name, plan, files, settings)
+        for number, (name, (plan, words, files)) in enumerate(zip(_names(len(runs)), runs)):
+            futures[number] = executor.submit(_run, name, plan, words, files, settings)
             futures[number].add_done_callback(functools.partial(_note, arrived, number))
         for turn in range(len(runs)):
             while turn in futures:

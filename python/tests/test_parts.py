@@ -583,7 +583,7 @@ def steps_of_tasks():
     counts, run_all = [], _parts.run_all
 
     def noting(executor, runs, *others):
-        counts.extend(len(plan["steps"]) for plan, _ in runs)
+        counts.extend(len(plan["steps"]) for plan, _, _ in runs)
         return run_all(executor, runs, *others)
 
     with mock.patch("frameq._parts.run_all", noting):
