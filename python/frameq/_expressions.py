@@ -537,7 +537,8 @@ def _wanted(node: Node, kinds: List[ColumnKind], wanted: ColumnKind, result: Col
 def _conversion(one: ColumnKind, other: ColumnKind) -> str:
     """What makes two kinds the same, as the end of a sentence; nothing where nothing does."""
     if Date in (one, other):
-        return {Kind.INT: ": a Date // 1 is an Int64", Kind.TEXT: ": a day is a datetime.date(2024, 3, 5)"}.get(one if other == Date else other, "")
+        of_kinds: Dict[ColumnKind, str] = {Kind.INT: ": a Date // 1 is an Int64", Kind.TEXT: ": a day is a datetime.date(2024, 3, 5)"}
+        return of_kinds.get(one if other == Date else other, "")
     places = {kind: kind.scale if isinstance(kind, Decimal) else 0 for kind in (one, other)}
     if len(places) < 2 or not any(places.values()) or Kind.TEXT in places or Kind.BOOL in places:
         return ""

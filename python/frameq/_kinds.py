@@ -91,7 +91,8 @@ def kind_of_type(given: AnyKind) -> ColumnKind:
     if given in (Decimal, decimal.Decimal):
         raise UnsupportedError("a Decimal has a scale, the number of digits behind the point: write Decimal(scale=2)")
     raise UnsupportedError(
-        f"there is no kind {given!r}: a column is an Int64, a String, a Boolean, a Decimal(scale=2) or a Date. Read anything else as a String"
+        f"there is no kind {given!r}: a column is an Int64, a String, a Boolean, a Decimal(scale=2) or a Date. Read anything else as a "
+        "String"
     )
 
 

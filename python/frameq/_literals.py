@@ -4,7 +4,8 @@ A number has the scale of the column that it meets. What has more places is in n
 with the int below it.
 """
 import decimal
-from typing import Dict, Tuple, Union
+import operator
+from typing import Any, Callable, Dict, Tuple, Union
 
 from ._expressions import COMPARISONS, PARTS_OF_DATES, Node, kind_of, literal_at, literal_by_itself
 from ._faults import WrongKindError
@@ -13,6 +14,10 @@ from ._kinds import LEAST, MOST, ColumnKind, Date, Decimal, Kind, Schema, fits, 
 # The operators whose literals have the kind of the other operand.
 _OF_ONE_KIND = frozenset({*COMPARISONS, "add", "sub", "fill_null"})
 _TURNED = {"lt": "gt", "le": "ge", "gt": "lt", "ge": "le"}
+_COMPARED: Dict[str, Callable[[Any, Any], bool]] = {
+    "eq": operator.eq, "eq_missing": operator.eq, "ne": operator.ne,
+    "lt": operator.lt, "le": operator.le, "gt": operator.gt, "ge": operator.ge,
+}
 
 
 def settled(node: Node, schema: Schema) -> Node:
@@ -41,7 +46,11 @@ def _number_of(node: Node) -> Union[int, decimal.Decimal]:
 def _beside_literal(node: Node, schema: Schema) -> Node:
     """An operation on a literal of no kind yet, and on another operand. Of two such literals, that with more places is by itself."""
     head, left, right = node
-    is_right = _is_loose(right) and not (_is_loose(left) and _places_of(right) > _places_of(left))
+    is_right = _is_loose(right)
+    if is_right and _is_loose(left):
+        if head in COMPARISONS and "decimal" in (left[0], right[0]):
+            return ("lit", Kind.BOOL, _COMPARED[head](_number_of(left), _number_of(right)))
+        is_right = _places_of(left) >= _places_of(right)
     operand, literal = (left, right) if is_right else (right, left)
     operand = settled(operand, schema)
     kind = kind_of(operand, schema)
@@ -78,18 +87,17 @@ def _compared(head: str, operand: Node, literal: Node, kind: ColumnKind, is_righ
     floor, is_exact = floor_at(_number_of(literal), kind.scale if isinstance(kind, Decimal) else 0)
     if is_exact and fits(floor):
         return _placed(head, operand, ("lit", kind, floor), is_right)
-    operator = head if is_right else _TURNED.get(head, head)
-    if operator == "eq_missing":
+    if head == "eq_missing":
         return ("and", ("is_null", operand), ("lit", Kind.BOOL, False))
-    operator, bound = _bound(operator, floor)
-    return (operator, operand, ("lit", kind, bound))
+    head, bound = _bound(head if is_right else _TURNED.get(head, head), floor)
+    return (head, operand, ("lit", kind, bound))
 
 
-def _bound(operator: str, floor: int) -> Tuple[str, int]:
+def _bound(head: str, floor: int) -> Tuple[str, int]:
     """What says of an int that it compares so with a number above this one, and below the next or past 64 bits. A null stays null."""
-    if operator in ("eq", "ne"):
-        return {"eq": "gt", "ne": "le"}[operator], MOST
-    is_above = operator in ("gt", "ge")
+    if head in ("eq", "ne"):
+        return {"eq": "gt", "ne": "le"}[head], MOST
+    is_above = head in ("gt", "ge")
     if floor < LEAST:
         return "ge" if is_above else "lt", LEAST
     return "gt" if is_above else "le", min(floor, MOST)

@@ -43,7 +43,7 @@ def frame_of_text(schema: Schema, text: bytes, values_of: Callable[[str], Column
 
 
 def _array_of(kind: ColumnKind, values: Column) -> Any:
-    """The values as an array; decimals as objects, and dates in seconds, or, in pandas before 2, in nanoseconds of the years that have them."""
+    """The values as an array: decimals as objects, and dates in seconds; pandas before 2 has nanoseconds, and few centuries of them."""
     import numpy
     import pandas
 

@@ -124,16 +124,17 @@ class _Parts:
 
     def last(self) -> Union[_Run, str]:
         """The run that is left when the parts are there; or the file that has their rows, if these are the result."""
-        place = self._place()
+        place, result = self._place(), self._report.schemas[-1]
         for cut in cuts(self._steps, self._report.schemas, place, self._dates):
             if self._fits_one_run and cut.then and cut.then == self._steps:
                 break
             files = self._rows_of_parts(cut)
+            if files is not None and not cut.then:
+                return files[0]
             if files is not None:
-                result = self._report.schemas[-1]
-                return self._run(cut.then, result, files, [self._first] * len(files), _source(cut.columns), cut.at) if cut.then else files[0]
+                return self._run(cut.then, result, files, [self._first] * len(files), _source(cut.columns), cut.at)
         if self._fits_one_run:
-            return self._run(self._steps, self._report.schemas[-1], self._files, range(self._first, len(self._report.files)))
+            return self._run(self._steps, result, self._files, range(self._first, len(self._report.files)))
         renamed = names_of_other_dates(self._report.schemas[place], self._dates)
         if renamed:
             raise UnsupportedError(

@@ -1,0 +1,522 @@
+"""Decimals and dates: what calls on them write, what is refused, what a run is told of them, and its results."""
+import contextlib
+import copy
+import datetime
+import itertools
+import os
+import pickle
+import tempfile
+import unittest
+from concurrent.futures import ThreadPoolExecutor
+from decimal import Decimal
+
+from repository import fq, program
+
+from frameq._kinds import int_at, value_of_int
+from frameq._results import read_frame
+
+C, INT, TEXT, BOOL, DATE, D2, D4 = fq.col, fq.Int64, fq.String, fq.Boolean, fq.Date, fq.Decimal(scale=2), fq.Decimal(scale=4)
+LEAST, MOST = -(2**63), 2**63 - 1
+DAY = datetime.date(2024, 3, 5)
+A, R, D, N = ({"col": name} for name in ("a", "r", "d", "n"))
+COLUMNS = {"a": D2, "b": D2, "r": D4, "d": DATE, "e": DATE, "n": INT, "t": TEXT, "p": BOOL}
+
+
+def frame(**columns):
+    return fq.scan_csv("main.csv", schema=columns or COLUMNS)
+
+
+def steps(lazy):
+    return lazy.plan()["steps"]
+
+
+class Kinds(unittest.TestCase):
+    """Kinds of columns."""
+
+    def test_kinds(self):
+        """A decimal is its scale, and both are ints of the plan."""
+        self.assertEqual((D2, hash(D2), repr(D2), repr(DATE)), (fq.Decimal(scale=2), hash(fq.Decimal(scale=2)), "Decimal(scale=2)", "Date"))
+        self.assertEqual(len({D2, D4, DATE, INT}), 4)
+        for kind in (D2, DATE):
+            self.assertEqual(pickle.loads(pickle.dumps(kind)), kind)
+            self.assertEqual(copy.deepcopy(kind), kind)
+        lazy = frame(a=D2, d=datetime.date)
+        self.assertEqual(lazy.plan()["sources"], [{"files": 1, "columns": [["a", "int"], ["d", "int"]]}])
+        self.assertEqual((lazy.collect_schema(), lazy.notations()), ({"a": D2, "d": DATE}, {"a": D2, "d": DATE}))
+        self.assertEqual(frame(n=INT, t=TEXT).notations(), {})
+
+    def test_refused(self):
+        for wrong, words in [
+            (lambda: fq.Decimal(), "the scale of a Decimal is 1 to 18"),
+            (lambda: fq.Decimal(scale=19), "not 19"),
+            (lambda: fq.Decimal(18, 2), "no precision"),
+            (lambda: frame(a=fq.Decimal), "Decimal(scale=2)"),
+            (lambda: frame(a=Decimal), "Decimal(scale=2)"),
+            (lambda: frame(a=datetime.datetime), "there is no kind"),
+            (lambda: frame(a=float), "a Decimal(scale=2) or a Date"),
+        ]:
+            with self.subTest(words), self.assertRaises(fq.UnsupportedError) as raised:
+                wrong()
+            self.assertIn(words, str(raised.exception))
+
+
+class Expressions(unittest.TestCase):
+    """Expressions as the plan language writes them, and their kinds."""
+
+    def judged(self, expr):
+        lazy = frame().select(x=expr)
+        return steps(lazy)[0]["select"][0][1], lazy.collect_schema()["x"]
+
+    def test_arithmetic(self):
+        a, b, r, d, n = map(C, "abrdn")
+        for expr, plan, kind in [
+            (a + b, ["add", A, {"col": "b"}], D2),
+            (a + Decimal("1.5"), ["add", A, 150], D2),
+            (1 - a, ["sub", 100, A], D2),
+            (Decimal("0.1000") + a, ["add", 10, A], D2),
+            (-a, ["neg", A], D2),
+            (a * r, ["mul", A, R], fq.Decimal(scale=6)),
+            (a * 3, ["mul", A, 3], D2),
+            (n * a, ["mul", N, A], D2),
+            (a * Decimal("1.19"), ["mul", A, 119], D4),
+            (a * Decimal("1.50"), ["mul", A, 150], D4),
+            (a * Decimal("7"), ["mul", A, 7], D2),
+            (n * Decimal("1.00"), ["mul", N, 100], D2),
+            (n + Decimal("3"), ["add", N, 3], INT),
+            (r + a * Decimal("1.00"), ["add", R, ["mul", A, 100]], D4),
+            (a // 100, ["floordiv", A, 100], INT),
+            (a % n, ["mod", A, N], INT),
+            (d // 100, ["floordiv", D, 100], INT),
+            (d % 100, ["mod", D, 100], INT),
+            (d.dt.year(), ["floordiv", D, 10000], INT),
+            (d.dt.month(), ["mod", ["floordiv", D, 100], 100], INT),
+            (d.dt.day() + 1, ["add", ["mod", D, 100], 1], INT),
+            (a.fill_null(0), ["fill_null", A, 0], D2),
+            (a.fill_null(Decimal("-0.5")), ["fill_null", A, -50], D2),
+            (a.fill_null(b), ["fill_null", A, {"col": "b"}], D2),
+            (d.fill_null(DAY), ["fill_null", D, 20240305], DATE),
+            (fq.lit(Decimal("1.50")), 150, D2),
+            (fq.lit(Decimal("1.5"), dtype=D2), 150, D2),
+            (fq.lit(3, dtype=D2), 300, D2),
+            (fq.lit(Decimal("1E+2")), 100, INT),
+            (fq.lit(DAY), 20240305, DATE),
+            (fq.lit(None, dtype=D2), {"null": "int"}, D2),
+            (fq.lit(None, dtype=DATE), {"null": "int"}, DATE),
+            (fq.lit(1) + Decimal("1.5"), ["add", 10, 15], fq.Decimal(scale=1)),
+        ]:
+            with self.subTest(expr):
+                self.assertEqual(self.judged(expr), (plan, kind))
+
+    def test_comparisons(self):
+        """A bound that is no value of the column is the next one below it, and one past all values is never, or always, passed."""
+        a, d, n = map(C, "adn")
+        for expr, plan in [
+            (a > 1, ["gt", A, 100]),
+            (a == Decimal("1.50"), ["eq", A, 150]),
+            (a > Decimal("1.005"), ["gt", A, 100]),
+            (a >= Decimal("1.005"), ["gt", A, 100]),
+            (a < Decimal("1.005"), ["le", A, 100]),
+            (a <= Decimal("-1.005"), ["le", A, -101]),
+            (a == Decimal("1.005"), ["gt", A, MOST]),
+            (a != Decimal("1.005"), ["le", A, MOST]),
+            (a.eq_missing(Decimal("1.005")), ["and", ["is_null", A], False]),
+            (a.ne_missing(1), ["not", ["eq_missing", A, 100]]),
+            (a > Decimal("1e30"), ["gt", A, MOST]),
+            (a <= MOST, ["le", A, MOST]),
+            (a > LEAST, ["ge", A, LEAST]),
+            (a < Decimal("-1e30"), ["lt", A, LEAST]),
+            (a == Decimal("92233720368547758.07"), ["eq", A, MOST]),
+            (fq.lit(Decimal("1.005")) < a, ["gt", A, 100]),
+            (fq.lit(Decimal("1.005")) >= a, ["le", A, 100]),
+            (fq.lit(2) < a, ["lt", 200, A]),
+            (a.is_between(1, Decimal("2.005")), ["and", ["ge", A, 100], ["le", A, 200]]),
+            (n >= Decimal("2.5"), ["gt", N, 2]),
+            (n == Decimal("2.0"), ["eq", N, 2]),
+            (d >= DAY, ["ge", D, 20240305]),
+            (d.is_between(DAY, "e", closed="left"), ["and", ["ge", D, 20240305], ["lt", D, {"col": "e"}]]),
+            (d == 20240305, ["eq", D, 20240305]),
+            (fq.lit(Decimal("1.0")) == 1, True),
+        ]:
+            with self.subTest(expr):
+                self.assertEqual(self.judged(expr), (plan, BOOL))
+        self.assertEqual(steps(frame().filter(C("a") > Decimal("1.005"), d=DAY))[0]["filter"], ["and", ["gt", A, 100], ["eq", D, 20240305]])
+
+    def test_refused(self):
+        """What has no meaning, and what would not be exact, with what to do instead."""
+        a, r, d, e, n, t = map(C, "ardent")
+        for expr, words in [
+            (lambda: a + r, "a Decimal(scale=2) times Decimal('1.00') is a Decimal(scale=4)"),
+            (lambda: a > r, "a Decimal(scale=2) times Decimal('1.00') is a Decimal(scale=4)"),
+            (lambda: a + n, "a Int64 times Decimal('1.00') is a Decimal(scale=2)"),
+            (lambda: n == a, "a Int64 times Decimal('1.00') is a Decimal(scale=2)"),
+            (lambda: n + Decimal("1.5"), "a Int64 times Decimal('1.0') is a Decimal(scale=1)"),
+            (lambda: a + Decimal("1.005"), "Decimal('1.005') is no Decimal(scale=2): it has more than 2 places"),
+            (lambda: a + MOST, "does not fit 64 bits"),
+            (lambda: a.fill_null(Decimal("0.001")), "more than 2 places"),
+            (lambda: a // Decimal("0.5"), "// and % are by an Int64, and not by a Decimal(scale=1)"),
+            (lambda: n % a, "// and % are by an Int64"),
+            (lambda: 1 // d, "// and % are by an Int64"),
+            (lambda: (r * r * r * r) * (r * a), "22 are more than 18"),
+            (lambda: a * t, "String"),
+            (lambda: a == "1.50", "String"),
+            (lambda: d + 1, "no arithmetic of dates"),
+            (lambda: d - e, "no arithmetic of dates"),
+            (lambda: d * 2, "no arithmetic of dates"),
+            (lambda: -d, "no arithmetic of dates"),
+            (lambda: d + a, "no arithmetic of dates"),
+            (lambda: d.rolling_sum(2), "no arithmetic of dates"),
+            (lambda: d == "2024-03-05", "a day is a datetime.date(2024, 3, 5)"),
+            (lambda: d > n, "a Date // 1 is an Int64"),
+            (lambda: d.fill_null(0), "a Date // 1 is an Int64"),
+            (lambda: d > Decimal("1.5"), "Decimal(scale=1)"),
+            (lambda: t.dt.year(), "dt.year is a part of a Date, and this is a String"),
+            (lambda: a & a, "Boolean"),
+            (lambda: fq.lit(DAY, dtype=INT), "no casts"),
+            (lambda: fq.lit(20240305, dtype=DATE), "no casts"),
+            (lambda: fq.lit(Decimal("1.005"), dtype=D2), "more than 2 places"),
+            (lambda: fq.lit(Decimal("1.5"), dtype=TEXT), "no casts"),
+            (lambda: fq.lit(Decimal("1e-19")), "the scale of a Decimal is 1 to 18"),
+            (lambda: fq.lit(Decimal("1e30")), "64 bits"),
+            (lambda: fq.lit(Decimal("NaN")), "no literal"),
+            (lambda: fq.lit(Decimal("1e999999")), "no literal"),
+            (lambda: fq.lit(datetime.datetime(2024, 3, 5)), "no literal"),
+            (lambda: a + 1.5, "no literal"),
+            (lambda: d.dt.weekday(), "no dt.weekday()"),
+        ]:
+            with self.subTest(words), self.assertRaises((fq.WrongKindError, fq.UnsupportedError)) as raised:
+                frame().select(x=expr())
+            self.assertIn(words, str(raised.exception))
+
+    def test_types_of_refusals(self):
+        """A kind that does not fit is a TypeError, as with other kinds."""
+        with self.assertRaises(TypeError):
+            frame().select(x=C("a") + C("r"))
+        with self.assertRaises(TypeError):
+            frame().group_by("t").agg(C("d").sum())
+
+    def test_names(self):
+        """What is shown of literals, and the name of one."""
+        self.assertEqual(repr(C("a") > Decimal("1.005")), "gt(col('a'), lit(Decimal('1.005')))")
+        self.assertEqual(repr(C("d").dt.year() == 2024), "eq(col('d').dt.year(), lit(2024))")
+        self.assertEqual(repr(fq.lit(DAY)), "lit(datetime.date(2024, 3, 5))")
+        self.assertEqual(repr(fq.lit(3, dtype=D2)), "lit(Decimal('3.00'))")
+        self.assertEqual(list(frame().select(Decimal("1.5")).collect_schema().items()), [("literal", fq.Decimal(scale=1))])
+
+
+class Steps(unittest.TestCase):
+    """Kinds along steps."""
+
+    def test_groups(self):
+        """Sums, ends, and the least and greatest keep a scale and a date; numbers of rows are ints."""
+        functions = ("min", "max", "first", "last", "count", "n_unique")
+        aggs = {f"{name} {column}": getattr(C(column), name)() for column in "ad" for name in functions}
+        after = frame().group_by(month=C("d") // 100).agg(C("a").sum(), fq.len(), mean=C("a").sum() // fq.len() * Decimal("0.01"), **aggs)
+        kinds = after.collect_schema()
+        self.assertEqual([kinds[name] for name in ("month", "a", "len", "mean")], [INT, D2, INT, D2])
+        for name in aggs:
+            self.assertEqual(kinds[name], INT if name.split()[0] in ("count", "n_unique") else COLUMNS[name.split()[1]])
+
+    def test_rolling_sums(self):
+        lazy = frame().with_columns(s=C("a").rolling_sum(3), u=C("a").rolling_sum(2) + Decimal("0.5"), n=(C("a") * C("r")).rolling_sum(2))
+        self.assertEqual([lazy.collect_schema()[name] for name in "sun"], [D2, D2, fq.Decimal(scale=6)])
+
+    def test_joins(self):
+        """Keys have one kind, and its scale."""
+        right = fq.scan_csv("right.csv", schema={"a": D2, "d": DATE, "b": D4})
+        lazy = frame().join(right, on=["a", "d"], how="left")
+        self.assertEqual(lazy.collect_schema()["b_right"], D4)
+        for kind in (INT, D4, DATE):
+            with self.subTest(kind), self.assertRaises(fq.WrongKindError):
+                frame(a=kind).join(right, on="a")
+        self.assertEqual(frame(a=D2).unique().collect_schema(), {"a": D2})
+        self.assertEqual(frame().rename({"a": "money"}).collect_schema()["money"], D2)
+
+
+class Arguments(unittest.TestCase):
+    """What a run is told. A script stands in for the program: it keeps its arguments, and prints what is in a file."""
+
+    def setUp(self):
+        room = tempfile.TemporaryDirectory()
+        self.addCleanup(room.cleanup)
+        self.room = room.name
+        self.program, self.said = self.path("frameq"), self.path("said")
+        with open(self.program, "w", encoding="utf-8") as file:
+            file.write(f'#!/bin/sh\nfor word in "$@"; do printf "%s\\n" "$word"; done > {self.said}\ncat {self.path("printed")}\n')
+        os.chmod(self.program, 0o755)
+
+    def path(self, name):
+        return os.path.join(self.room, name)
+
+    def words(self, call, printed=""):
+        """The arguments of a run, but for the plan's file and what stands before."""
+        with open(self.path("printed"), "w", encoding="utf-8") as file:
+            file.write(printed)
+        with contextlib.suppress(fq.FrameqError):
+            call()
+        with open(self.said, encoding="utf-8") as file:
+            return file.read().splitlines()[2:]
+
+    def test_words(self):
+        """Each call that runs the program says which columns are decimals and dates: those of sources, and of the result."""
+        right = fq.scan_csv("right.csv", schema={"k": INT, "until": DATE})
+        lazy = fq.scan_csv("main.csv", schema={"k": INT, "a": D2, "d": DATE, "t": TEXT}).join(right, on="k").select(
+            total=C("a") * Decimal("1.5"), first="until", n="k"
+        )
+        noted = ["--decimal=a=2,total=3", "--date=until,d,first"]
+        files = ["right.csv", "main.csv"]
+        for call, words in [
+            (lambda: lazy.collect(program=self.program), ["--details", *noted, *files]),
+            (lambda: lazy.collect(program=self.program, batch=7), ["--details", "--batch", "7", *noted, *files]),
+            (lambda: lazy.explain(program=self.program), ["--details", "--explain", *noted]),
+            (lambda: lazy.sink_csv("x", program=self.program), ["--details", "--output", os.path.abspath("x"), *noted, *files]),
+        ]:
+            with self.subTest(words):
+                self.assertEqual(self.words(call, "total,first,n\n"), words)
+
+    def test_words_of_plans(self):
+        """A plan that exists has the notations that are given, and those of the schema of its result."""
+        lazy = frame(a=D2, d=DATE).select(total="a", n=C("d") // 100)
+        for given, words in [
+            ({"notations": lazy.notations()}, ["--decimal=a=2,total=2", "--date=d"]),
+            ({"notations": {"a": D2, "d": DATE}, "schema": lazy.collect_schema()}, ["--decimal=a=2,total=2", "--date=d"]),
+            ({"schema": {"total": D2, "n": INT}}, ["--decimal=total=2"]),
+            ({}, []),
+        ]:
+            with self.subTest(given):
+                run = lambda given=given: fq.run_plan(lazy.plan(), lazy.files(), program=self.program, **given)  # noqa: E731
+                said = self.words(run, "total,n\n1.50,202403\n")
+                self.assertEqual(said, ["--details", *words, "main.csv"])
+        for given in [{"notations": {"a": INT}}, {"notations": {"total": D4}, "schema": {"total": D2, "n": INT}}]:
+            with self.subTest(given), self.assertRaises(fq.UnsupportedError):
+                fq.run_plan(lazy.plan(), lazy.files(), program=self.program, **given)
+
+    def test_words_without_notations(self):
+        """Where there are no decimals and no dates, nothing is said of any."""
+        lazy = frame(n=INT, t=TEXT).filter(C("n") > 1)
+        self.assertEqual(self.words(lambda: lazy.collect(program=self.program), "n,t\n"), ["--details", "main.csv"])
+        self.assertEqual(self.words(lambda: lazy.explain(program=self.program)), ["--details", "--explain"])
+
+    def test_names(self):
+        """A name has what an argument can have, and is no option."""
+        lazy = frame(**{"-x": DATE, "a=b": D2, "": DATE, "é\n": D4})
+        self.assertEqual(self.words(lambda: lazy.explain(program=self.program))[2:], ["--decimal=a=b=2,é", "=4", "--date=-x,"])
+        for name in ("a,b", "a\0b"):
+            lazy = frame(**{name: D2, "n": INT})
+            self.assertEqual(steps(lazy.select("n")), [{"select": [["n", N]]}])
+            for call in (
+                lambda lazy: lazy.collect(program=self.program),
+                lambda lazy: lazy.explain(program=self.program),
+                lambda lazy: lazy.sink_csv("x", program=self.program),
+                lambda lazy: lazy.collect(program=self.program, executor=ThreadPoolExecutor(1)),
+            ):
+                with self.subTest(name), self.assertRaisesRegex(fq.UnsupportedError, "give it another name in its files"):
+                    call(lazy)
+
+    def test_two_notations(self):
+        """A name that would be written in two ways is refused where the run is asked for, and not before."""
+        plain = fq.scan_csv("right.csv", schema={"n": INT, "a": INT})
+        for lazy, words in [
+            (frame().with_columns(a=C("a") * C("r")), "'a' is a Decimal(scale=2) in source 0 and a Decimal(scale=6) in the result"),
+            (frame().select(d=C("d") // 100), "another name, by alias"),
+            (frame().select(n="a"), "'n' is a Int64 in source 0 and a Decimal(scale=2) in the result"),
+            (frame().join(plain, on="n", how="semi"), "give both the same kind"),
+        ]:
+            with self.subTest(words):
+                lazy.plan(), lazy.collect_schema()
+                for name, given in [("collect", ()), ("explain", ()), ("notations", ()), ("sink_csv", ("x",)), ("sql", ("postgres",))]:
+                    with self.assertRaises(fq.UnsupportedError) as raised:
+                        getattr(lazy, name)(*given)
+                    self.assertIn(words, str(raised.exception))
+        frame().with_columns(a=C("a") * C("r")).select(product="a").notations()
+        frame().with_columns(a=fq.lit("x"), d=fq.lit(True)).notations()
+
+
+class Results(unittest.TestCase):
+    """Frames with decimals and dates."""
+
+    COLUMNS = {"a": D2, "d": DATE, "x": fq.Decimal(scale=18)}
+    TEXT = (
+        "a,d,x\n"
+        "1234.50,2024-03-05,0.000000000000000000\n"
+        "-0.05,0001-01-01,-9.223372036854775808\n"
+        ",,\n"
+        "0.00,9999-12-31,9.223372036854775807\n"
+    )
+
+    def test_read_and_printed(self):
+        result = read_frame(self.TEXT.encode(), self.COLUMNS)
+        self.assertEqual(result["a"], [Decimal("1234.50"), Decimal("-0.05"), None, Decimal("0.00")])
+        self.assertEqual(result["d"], [DAY, datetime.date.min, None, datetime.date.max])
+        self.assertEqual([str(it) for it in result["a"]], ["1234.50", "-0.05", "None", "0.00"])
+        self.assertEqual(result.write_csv(), self.TEXT)
+        self.assertEqual(result.head(4).write_csv(), self.TEXT)
+        made = fq.DataFrame({"a": D2, "d": DATE}, [(Decimal("1.5"), DAY), (3, None)])
+        self.assertEqual(made.write_csv(), "a,d\n1.50,2024-03-05\n3.00,\n")
+
+    def test_ints(self):
+        """Each int of 64 bits is a decimal of each scale, and back."""
+        for scale, number in itertools.product((1, 2, 17, 18), (0, 1, -1, 99, -100, LEAST, MOST, 10**18)):
+            with self.subTest((scale, number)):
+                value = value_of_int(number, fq.Decimal(scale=scale))
+                self.assertEqual((int_at(value, scale), value.as_tuple().exponent), (number, -scale))
+
+    def test_refused(self):
+        """A cell that is no decimal of the scale, or no day: an int that is no day is printed in digits."""
+        for kind, cells in [(D2, ["12", "1.5", "x.yz", "1.500"]), (DATE, ["20240231", "0", "2024-02-31"]), (INT, ["1.50"])]:
+            for cell in cells:
+                with self.subTest(cell), self.assertRaises(fq.WrongKindError):
+                    read_frame(f"a\n{cell}\n".encode(), {"a": kind}).rows()
+
+    def test_shown(self):
+        result = read_frame(self.TEXT.encode(), self.COLUMNS).head(2)
+        lines = repr(result).splitlines()
+        self.assertEqual(lines[2].split(), ["Decimal(scale=2)", "Date", "Decimal(scale=18)"])
+        self.assertEqual(lines[3], "         1234.50  2024-03-05   0.000000000000000000")
+        glimpse = result.glimpse(return_type="string")
+        self.assertIn("$ a  <decimal[*,2]> 1234.50, -0.05\n$ d          <date> 2024-03-05, 0001-01-01\n", glimpse)
+        self.assertIn('<td style="text-align: right">1234.50</td><td style="text-align: left">2024-03-05</td>', result._repr_html_())
+
+    def test_order(self):
+        result = read_frame(self.TEXT.encode(), self.COLUMNS)
+        self.assertEqual(result.sort("a")["a"], [None, Decimal("-0.05"), Decimal("0.00"), Decimal("1234.50")])
+        self.assertEqual(result.sort("d", descending=True, nulls_last=True)["d"], [datetime.date.max, DAY, datetime.date.min, None])
+        self.assertEqual(pickle.loads(pickle.dumps(result)), result)
+
+    def test_pandas(self):
+        """Decimals are objects, and dates are datetimes."""
+        try:
+            import pandas
+        except ImportError:
+            self.skipTest("no pandas")
+        text = self.TEXT.replace("0001-01-01", "2001-01-01").replace("9999-12-31", "1999-12-31")
+        for result in [read_frame(text.encode(), self.COLUMNS), read_frame(text.encode(), self.COLUMNS).head(4)]:
+            made = result.to_pandas()
+            self.assertEqual([None if pandas.isna(it) else it for it in made["a"]], result["a"])
+            self.assertEqual([None if pandas.isna(it) else it.date() for it in made["d"]], result["d"])
+            self.assertEqual((made["a"].dtype.kind, made["d"].dtype.kind), ("O", "M"))
+
+    def test_polars(self):
+        try:
+            import polars
+        except ImportError:
+            self.skipTest("no polars")
+        result = read_frame(self.TEXT.encode(), self.COLUMNS)
+        made = result.to_polars()
+        self.assertEqual((made["a"].to_list(), made["d"].to_list()), (result["a"], result["d"]))
+        self.assertEqual((made["a"].dtype, made["d"].dtype), (polars.Decimal(38, 2), polars.Date))
+
+
+class Runs(unittest.TestCase):
+    """Runs of the program, in one and in parts."""
+
+    def setUp(self):
+        self.program = program()
+        room = tempfile.TemporaryDirectory()
+        self.addCleanup(room.cleanup)
+        self.room = room.name
+
+    def scan(self, *texts, name="main", **columns):
+        files = []
+        for number, text in enumerate(texts):
+            files.append(os.path.join(self.room, f"{name}-{number}.csv"))
+            with open(files[-1], "w", encoding="utf-8") as file:
+                file.write(text)
+        return fq.scan_csv(files, schema=columns)
+
+    def same(self, lazy):
+        """The text of a report, which is the same in one run and in parts."""
+        expected = lazy.collect(program=self.program).write_csv()
+        with ThreadPoolExecutor(2) as executor:
+            self.assertEqual(lazy.collect(program=self.program, executor=executor).write_csv(), expected)
+        return expected
+
+    def test_report(self):
+        """Amounts by month, from files that write them in several ways."""
+        lazy = self.scan("day,amount\n2024-01-31,12.5\n2024-02-01,.5\n", "day,amount\n2024-01-01,-3\n,+1.000\n", day=DATE, amount=D2)
+        months = lazy.group_by(month=C("day") // 100).agg(C("amount").sum().alias("revenue"), last=C("day").max())
+        self.assertEqual(self.same(months), "month,revenue,last\n202401,9.50,2024-01-31\n202402,0.50,2024-02-01\n,1.00,\n")
+        result = months.collect(program=self.program)
+        self.assertEqual(result.rows()[0], (202401, Decimal("9.50"), datetime.date(2024, 1, 31)))
+        path = os.path.join(self.room, "result.csv")
+        months.sink_csv(path, program=self.program)
+        again = fq.scan_csv(path, schema=months.collect_schema())
+        self.assertEqual(again.collect(program=self.program), result)
+        given = {"schema": result.schema, "notations": months.notations()}
+        self.assertEqual(fq.run_plan(months.plan(), months.files(), **given, program=self.program), result)
+
+    def test_faults(self):
+        """A field that is no decimal of the scale, or no day."""
+        for field, column in [("12.345,2024-01-01", "amount"), ("1,2024-02-30", "day"), ("1,20240101", "day"), ("1e2,", "amount")]:
+            with self.subTest(field), self.assertRaises(fq.BadCellError) as raised:
+                self.scan(f"amount,day\n{field}\n", amount=D2, day=DATE).collect(program=self.program)
+            self.assertEqual((raised.exception.row, raised.exception.column), (1, column))
+        with self.assertRaises(fq.OverflowError):
+            self.scan("a\n92233720368547758.07\n", a=D2).select(b=C("a") + Decimal("0.01")).collect(program=self.program)
+        with self.assertRaises(fq.ArgumentsError):
+            lazy = self.scan("a\n1\n", a=INT)
+            fq.run_plan(lazy.plan(), lazy.files(), notations={"b": D2}, program=self.program)
+
+    def test_no_day(self):
+        """A column of a plan that is named a date, and has an int that is no day."""
+        lazy = self.scan("n\n20240231\n20240229\n", n=INT).select(day="n")
+        result = fq.run_plan(lazy.plan(), lazy.files(), notations={"day": DATE}, program=self.program)
+        self.assertEqual(result["day"], ["20240231", "2024-02-29"])
+        with self.assertRaises(fq.WrongKindError):
+            fq.run_plan(lazy.plan(), lazy.files(), schema={"day": DATE}, program=self.program)
+
+    def test_parts(self):
+        """What comes back of parts is written by the names that it has, whatever kinds the columns have there."""
+        texts = ["d,a,_0,k\n2024-03-05,1.50,2024-01-01,1\n2024-03-06,2,,2\n", "d,a,_0,k\n2023-01-01,0.01,2024-01-02,1\n"]
+        lazy = self.scan(*texts, d=DATE, a=D2, _0=DATE, k=INT)
+        rights = self.scan("k,price,most\n1,0.5,2024-01-01\n2,1.5,2024-01-02\n2,2.5,2024-01-03\n", name="right", k=INT, price=D2, most=DATE)
+        for after, text in [
+            (lazy.group_by("k").agg(C("a").sum(), fq.len(), first=C("d").min()),
+             "k,a,len,first\n1,1.51,2,2023-01-01\n2,2.00,1,2024-03-06\n"),
+            (lazy.group_by(C("_0").dt.day().alias("y")).agg(C("a").max(), d=C("d").last()),
+             "y,a,d\n1,1.50,2024-03-05\n,2.00,2024-03-06\n2,0.01,2023-01-01\n"),
+            (lazy.with_columns(a=C("a") * C("a")).group_by("k").agg(s=C("a").sum()), "k,s\n1,2.2501\n2,4.0000\n"),
+            (lazy.with_columns(d=C("d") // 100).group_by("d").agg(s=C("a").sum()).select(month="d", s="s"),
+             "month,s\n202403,3.50\n202301,0.01\n"),
+            (lazy.with_columns(s=C("a").rolling_sum(2)).select("s", "d"), "s,d\n,2024-03-05\n3.50,2024-03-06\n2.01,2023-01-01\n"),
+            (lazy.join(rights, on="k").group_by("most").agg(total=(C("a") * C("price")).sum()),
+             "most,total\n2024-01-01,0.7550\n2024-01-02,3.0000\n2024-01-03,5.0000\n"),
+            (lazy.filter(C("a") > Decimal("0.015")).select("a", day="d"), "a,day\n1.50,2024-03-05\n2.00,2024-03-06\n"),
+        ]:
+            with self.subTest(text):
+                self.assertEqual(self.same(after), text)
+
+    def test_many_files(self):
+        """More files than one run takes: a column that has the name of a date, and is none, is refused where it would come back."""
+        lazy = self.scan(*["d,a\n2024-03-05,1.50\n"] * 20, d=DATE, a=D2)
+        with ThreadPoolExecutor(2) as executor:
+            result = lazy.group_by("d").agg(C("a").sum()).collect(program=self.program, executor=executor)
+            self.assertEqual(result.rows(), [(DAY, Decimal("30.00"))])
+            other = lazy.with_columns(d=C("d") // 100).group_by("d").agg(s=C("a").sum()).select("s")
+            with self.assertRaisesRegex(fq.UnsupportedError, "'d' another name"):
+                other.collect(program=self.program, executor=executor)
+
+
+class Queries(unittest.TestCase):
+    """Queries and scripts."""
+
+    def test_sql(self):
+        """Tables and rows have decimals and dates where an engine has them, and the query has ints."""
+        lazy = frame(a=D2, d=DATE, t=TEXT).filter(C("a") > Decimal("1.005"))
+        for dialect, parts in [
+            ("postgres", ['frame."a" * CAST(100 AS DECIMAL(3, 0))', 'MAKE_DATE(CAST(frame."d" / 10000 AS INTEGER)', '(frame."a" > BIGINT']),
+            ("duckdb", ['EXTRACT(YEAR FROM frame."d") * 10000', 'CAST(0.01 AS DECIMAL(2, 2)) AS DECIMAL(19, 2)) AS "a"']),
+            ("spark", ["EXTRACT(DAY FROM frame.`d`)", "MAKE_DATE(CAST(frame.`d` DIV 10000 AS INT)"]),
+        ]:
+            query = lazy.sql(dialect)
+            for part in parts:
+                with self.subTest(dialect):
+                    self.assertIn(part, query)
+        with self.assertRaisesRegex(ValueError, "sqlite has no decimals and no dates"):
+            lazy.sql("sqlite")
+        script = lazy.sql_setup()
+        self.assertIn('"a" DECIMAL(19, 2),\n  "d" DATE,\n', script)
+        self.assertIn("frameq --details --decimal=a=2 --date=d --plan - main.csv", script)
+
+
+if __name__ == "__main__":
+    unittest.main()

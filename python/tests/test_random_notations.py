@@ -1,0 +1,440 @@
+"""Random chains of calls on decimals and dates: what each gives is computed here with Python's own decimals, dates and whole numbers."""
+import concurrent.futures
+import datetime
+import decimal
+import operator
+import os
+import tempfile
+import unittest
+from typing import Any, Callable, NamedTuple
+
+from repository import fq, program
+
+import cases
+
+COUNT = int(os.environ.get("FRAMEQ_CASES", "2000"))
+C, INT, BOOL, DATE, D2, D4 = fq.col, fq.Int64, fq.Boolean, fq.Date, fq.Decimal(scale=2), fq.Decimal(scale=4)
+MAIN = {"a": D2, "b": D2, "r": D4, "d": DATE, "e": DATE, "n": INT, "k": INT}
+RIGHT = {"k": INT, "d": DATE, "price": fq.Decimal(scale=1), "until": DATE}
+COMPARISONS = {name: getattr(operator, name) for name in ("eq", "ne", "lt", "le", "gt", "ge")}
+NUMERIC = ("count", "n_unique", "len")
+EXACT = decimal.Context(prec=200)
+
+
+class TooLarge(Exception):
+    """An int of the plan does not fit 64 bits."""
+
+
+class Term(NamedTuple):
+    """An expression: by the calls of the package, its kind, and its value on the row at a place among rows."""
+
+    expr: Any
+    kind: Any
+    value: Callable
+
+
+def scale_of(kind):
+    return kind.scale if isinstance(kind, fq.Decimal) else 0
+
+
+def fitted(value, scale=0):
+    """A number, if the int that it is in the plan fits 64 bits."""
+    if value is not None and not -(2**63) <= int(EXACT.scaleb(decimal.Decimal(value), scale)) < 2**63:
+        raise TooLarge
+    return value
+
+
+def int_of(value):
+    """The int that a value is in a plan."""
+    if isinstance(value, datetime.date):
+        return int(value.strftime("%Y%m%d"))
+    return value if isinstance(value, int) else int("".join(map(str, value.as_tuple().digits))) * (-1 if value < 0 else 1)
+
+
+def at_scale(value, kind):
+    """A number with as many digits behind the point as its kind has, and no sign at 0."""
+    if not isinstance(kind, fq.Decimal):
+        return value
+    value = EXACT.quantize(decimal.Decimal(value), decimal.Decimal(1).scaleb(-kind.scale))
+    return value if value else EXACT.abs(value)
+
+
+def column(name, kind):
+    return Term(C(name), kind, lambda rows, place: rows[place][name])
+
+
+def computed(expr, kind, call, *terms):
+    """An expression that is null where one of its operands is."""
+    def value(rows, place):
+        values = [term.value(rows, place) for term in terms]
+        return None if None in values else call(*values)
+    return Term(expr, kind, value)
+
+
+def arithmetic(expr, kind, call, *terms):
+    """An expression whose value is a number of a kind."""
+    return computed(expr, kind, lambda *values: at_scale(fitted(call(*values), scale_of(kind)), kind), *terms)
+
+
+# ---- random expressions
+
+def number(draw, most_places):
+    """A number with some digits behind the point."""
+    return decimal.Decimal(draw.choice([draw.randint(-300, 300), draw.randint(-10**6, 10**6)])).scaleb(-draw.randint(0, most_places))
+
+
+def day(draw):
+    return draw.choice([datetime.date(2024, 2, 29), datetime.date(2024, 3, 1), datetime.date(2023, 12, 31), datetime.date(1, 1, 1)])
+
+
+def term(draw, kinds, kind, depth):
+    """An expression of a kind over columns of these kinds."""
+    names = [name for name, it in kinds.items() if it == kind]
+    if depth == 0 or draw.often(20):
+        if names and draw.often(80):
+            return column(draw.choice(names), kind)
+        return constant(draw, kind)
+    if kind == DATE:
+        inner, given = term(draw, kinds, DATE, depth - 1), day(draw)
+        return Term(inner.expr.fill_null(given), DATE, lambda rows, place: filled(inner.value(rows, place), given))
+    if kind == BOOL:
+        return condition(draw, kinds, depth)
+    return whole(draw, kinds, depth) if kind == INT else decimal_term(draw, kinds, kind, depth)
+
+
+def filled(value, other):
+    return other if value is None else value
+
+
+def constant(draw, kind):
+    """A literal, which is a null at times."""
+    if draw.often(10):
+        return Term(fq.lit(None, dtype=kind), kind, lambda rows, place: None)
+    if kind == DATE:
+        value = day(draw)
+    elif kind == BOOL:
+        value = draw.often(50)
+    elif kind == INT:
+        value = draw.randint(-5, 5)
+    else:
+        value = at_scale(number(draw, kind.scale), kind)
+    return Term(fq.lit(value, dtype=kind if draw.often(50) else None), kind, lambda rows, place: value)
+
+
+def decimal_term(draw, kinds, kind, depth):
+    """A sum, a product, or what else is a decimal of this scale."""
+    form, scale = draw.choice(["add", "sub", "neg", "literal", "fill", "product", "factor", "of int", "rolling"]), kind.scale
+    inner = term(draw, kinds, kind, depth - 1)
+    if form in ("add", "sub"):
+        other, call = term(draw, kinds, kind, depth - 1), getattr(EXACT, {"add": "add", "sub": "subtract"}[form])
+        return arithmetic(getattr(operator, form)(inner.expr, other.expr), kind, call, inner, other)
+    if form == "neg":
+        return arithmetic(-inner.expr, kind, EXACT.minus, inner)
+    if form == "literal":
+        value = number(draw, scale) if draw.often(50) else draw.randint(-9, 9)
+        if draw.often(50):
+            return arithmetic(inner.expr + value, kind, lambda it: EXACT.add(it, value), inner)
+        return arithmetic(value - inner.expr, kind, lambda it: EXACT.subtract(value, it), inner)
+    if form == "fill":
+        value = number(draw, scale) if draw.often(50) else draw.randint(-9, 9)
+        return Term(inner.expr.fill_null(value), kind, lambda rows, place: filled(inner.value(rows, place), at_scale(value, kind)))
+    if form == "product" and scale > 1:
+        left = draw.randint(1, scale - 1)
+        one, two = (term(draw, kinds, fq.Decimal(scale=it), depth - 1) for it in (left, scale - left))
+        return arithmetic(one.expr * two.expr, kind, EXACT.multiply, one, two)
+    if form == "factor":
+        other = term(draw, kinds, INT, depth - 1)
+        return arithmetic(inner.expr * other.expr if draw.often(50) else other.expr * inner.expr, kind, EXACT.multiply, inner, other)
+    if form == "rolling" and draw.often(50):
+        return rolling(draw, inner)
+    other, value = term(draw, kinds, INT, depth - 1), at_scale(number(draw, scale), kind)
+    return arithmetic(other.expr * value, kind, lambda it: EXACT.multiply(it, value), other)
+
+
+def rolling(draw, inner):
+    """A rolling sum, of what has none in it."""
+    if "rolling_sum" in repr(inner.expr):
+        return inner
+    window = draw.randint(1, 3)
+    least = draw.randint(1, window)
+
+    def value(rows, place):
+        values = [inner.value(rows, it) for it in range(max(0, place - window + 1), place + 1)]
+        present = [it for it in values if it is not None]
+        return at_scale(fitted(total(present), scale_of(inner.kind)), inner.kind) if len(present) >= least else None
+
+    return Term(inner.expr.rolling_sum(window, min_samples=least), inner.kind, value)
+
+
+def total(values):
+    """A sum, with as many digits as it needs."""
+    result = decimal.Decimal(0)
+    for value in values:
+        result = EXACT.add(result, value)
+    return int(result) if all(isinstance(value, int) for value in values) else result
+
+
+def whole(draw, kinds, depth):
+    """A part of a date, or a quotient or a rest."""
+    if draw.often(40):
+        inner, part = term(draw, kinds, DATE, depth - 1), draw.choice(["year", "month", "day"])
+        return computed(getattr(inner.expr.dt, part)(), INT, lambda it: getattr(it, part), inner)
+    inner, divisor = term(draw, kinds, draw.choice([D2, D4, DATE, INT]), depth - 1), draw.choice([-7, -1, 0, 1, 3, 100, 10000])
+    name = draw.choice(["floordiv", "mod"])
+    call = lambda it: getattr(operator, name)(int_of(it), divisor) if divisor else None  # noqa: E731
+    return computed(getattr(inner.expr, name)(divisor), INT, lambda it: fitted(call(it)), inner)
+
+
+def condition(draw, kinds, depth):
+    """A comparison, or what is made of two."""
+    if draw.often(30):
+        one, two = term(draw, kinds, BOOL, depth - 1), term(draw, kinds, BOOL, depth - 1)
+        if draw.often(50):
+            return Term(one.expr & two.expr, BOOL, lambda rows, place: kleene(one.value(rows, place), two.value(rows, place), False))
+        return Term(one.expr | two.expr, BOOL, lambda rows, place: kleene(one.value(rows, place), two.value(rows, place), True))
+    inner = term(draw, kinds, draw.choice([D2, D4, DATE, INT]), depth - 1)
+    if draw.often(15):
+        return Term(inner.expr.is_null(), BOOL, lambda rows, place: inner.value(rows, place) is None)
+    if draw.often(40):
+        other = term(draw, kinds, inner.kind, depth - 1)
+        name = draw.choice(list(COMPARISONS))
+        return computed(getattr(inner.expr, name)(other.expr), BOOL, COMPARISONS[name], inner, other)
+    given = bound(draw, inner.kind)
+    in_plan = int_of if inner.kind == DATE and isinstance(given, int) else lambda it: it
+    if draw.often(20):
+        return Term(inner.expr.eq_missing(given), BOOL, lambda rows, place: missing_equal(inner.value(rows, place), given, in_plan))
+    name = draw.choice(list(COMPARISONS))
+    if draw.often(50):
+        return computed(getattr(inner.expr, name)(given), BOOL, lambda it: COMPARISONS[name](in_plan(it), given), inner)
+    return computed(getattr(fq.lit(given), name)(inner.expr), BOOL, lambda it: COMPARISONS[name](given, in_plan(it)), inner)
+
+
+def missing_equal(value, given, in_plan):
+    return value is not None and in_plan(value) == given
+
+
+def bound(draw, kind):
+    """What values of a kind are compared with."""
+    if kind == DATE:
+        return day(draw) if draw.often(70) else draw.choice([20240229, 20240230, 0, -1])
+    if draw.often(30):
+        return draw.choice([draw.randint(-5, 5), 2**63 - 1, -(2**63)])
+    huge = decimal.Decimal(draw.choice(["1e30", "-1e30", "92233720368547758.07", "92233720368547758.08", "92233720368547758.075", "1e-30"]))
+    return draw.choice([huge, number(draw, 6), number(draw, scale_of(kind))])
+
+
+def kleene(left, right, decides):
+    """Kleene's `and`, which False decides, or his `or`, which True decides."""
+    if decides in (left, right):
+        return decides
+    return None if None in (left, right) else not decides
+
+
+# ---- random steps
+
+class Chain:
+    """A frame, the kinds of its columns, and its rows."""
+
+    def __init__(self, draw, frame, right, kinds, rows, right_rows):
+        self.draw, self.frame, self.right, self.kinds, self.rows, self.right_rows = draw, frame, right, kinds, rows, right_rows
+        self.names = iter(f"c{number}" for number in range(1000))
+
+    def kind(self):
+        return self.draw.choice([D2, D2, D4, DATE, INT, BOOL, fq.Decimal(scale=6)])
+
+    def term(self, kind=None):
+        return term(self.draw, self.kinds, self.kind() if kind is None else kind, self.draw.randint(0, 3))
+
+    def values(self, it):
+        return [it.value(self.rows, place) for place in range(len(self.rows))]
+
+    def filter(self):
+        predicate = self.term(BOOL)
+        self.frame = self.frame.filter(predicate.expr)
+        self.rows = [row for row, is_kept in zip(self.rows, self.values(predicate)) if is_kept]
+
+    def outputs(self):
+        """Names, that are new or stand for a column at times, with what is computed."""
+        names = [self.draw.choice(list(self.kinds)) if self.draw.often(15) else next(self.names) for _ in range(self.draw.randint(1, 3))]
+        return {name: self.term(self.kinds.get(name) if self.draw.often(80) else None) for name in dict.fromkeys(names)}
+
+    def take(self, outputs, kept):
+        columns = {name: self.values(it) for name, it in outputs.items()}
+        kinds = {**{name: self.kinds[name] for name in kept}, **{name: it.kind for name, it in outputs.items()}}
+        self.rows = [
+            {name: columns[name][place] if name in columns else row[name] for name in kinds} for place, row in enumerate(self.rows)
+        ]
+        self.kinds = kinds
+
+    def with_columns(self):
+        outputs = self.outputs()
+        self.frame = self.frame.with_columns(it.expr.alias(name) for name, it in outputs.items())
+        self.take(outputs, self.kinds)
+
+    def select(self):
+        outputs = {**self.outputs(), **{name: column(name, kind) for name, kind in self.kinds.items() if self.draw.often(60)}}
+        self.frame = self.frame.select(it.expr.alias(name) for name, it in outputs.items())
+        self.take(outputs, ())
+
+    def join(self):
+        keys = [name for name in ("k", "d") if self.kinds.get(name) == RIGHT[name]]
+        others = [name for name in RIGHT if name not in keys]
+        if not keys or any(name in self.kinds and f"{name}_right" in self.kinds for name in others):
+            return
+        how = self.draw.choice(["inner", "left", "semi", "anti"])
+        on = self.draw.some(keys, 1, len(keys))
+        others = [name for name in RIGHT if name not in on]
+        if any(name in self.kinds and f"{name}_right" in self.kinds for name in others):
+            return
+        self.frame = self.frame.join(self.right, on=on, how=how)
+        after = {f"{name}_right" if name in self.kinds else name: name for name in others}
+        rows = []
+        for row in self.rows:
+            matches = [it for it in self.right_rows if all(row[key] is not None and row[key] == it[key] for key in on)]
+            if how in ("semi", "anti"):
+                rows += [row] if bool(matches) == (how == "semi") else []
+            else:
+                rows += [{**row, **{new: it[old] for new, old in after.items()}} for it in matches]
+                rows += [{**row, **dict.fromkeys(after)}] if how == "left" and not matches else []
+        self.rows = rows
+        if how in ("inner", "left"):
+            self.kinds = {**self.kinds, **{new: RIGHT[old] for new, old in after.items()}}
+
+    def group_by(self):
+        keys = {next(self.names): self.term() for _ in range(self.draw.randint(1, 2))}
+        if self.draw.often(50):
+            name = self.draw.choice(list(self.kinds))
+            keys = {name: column(name, self.kinds[name])}
+        aggregates = {next(self.names): self.aggregate() for _ in range(self.draw.randint(1, 3))}
+        self.frame = self.frame.group_by(it.expr.alias(name) for name, it in keys.items()).agg(
+            it.expr.alias(name) for name, it in aggregates.items()
+        )
+        groups = {}
+        for key, row in zip(zip(*map(self.values, keys.values())), range(len(self.rows))):
+            groups.setdefault(key, []).append(row)
+        self.rows = [
+            {**dict(zip(keys, key)), **{name: it.value(self.rows, places) for name, it in aggregates.items()}}
+            for key, places in groups.items()
+        ]
+        self.kinds = {name: it.kind for name, it in {**keys, **aggregates}.items()}
+
+    def aggregate(self):
+        """An aggregate, whose value is over some places; or a quotient of a sum, which is a mean."""
+        function = self.draw.choice(["sum", "min", "max", "first", "last", *NUMERIC, "mean"])
+        inner = self.term(self.draw.choice([D2, D4, INT]) if function in ("sum", "mean") else None)
+        if "rolling_sum" in repr(inner.expr):
+            inner = column(*next(iter(self.kinds.items()))) if function not in ("sum", "mean") else constant(self.draw, D2)
+        kind = INT if function in NUMERIC else inner.kind
+
+        def values(rows, places):
+            return aggregated(function, [inner.value(rows, place) for place in places], kind)
+
+        if function == "mean":
+            if not isinstance(kind, fq.Decimal):
+                return Term(inner.expr.sum() // fq.len(), INT, lambda rows, places: values(rows, places) // len(places))
+            unit = decimal.Decimal(1).scaleb(-kind.scale)
+            mean = lambda rows, places: EXACT.multiply(int_of(at_scale(values(rows, places), kind)) // len(places), unit)  # noqa: E731
+            return Term(inner.expr.sum() // fq.len() * unit, kind, mean)
+        return Term(getattr(inner.expr, function)(), kind, values)
+
+
+def aggregated(function, values, kind):
+    """What an aggregate gives of a group's values."""
+    present = [it for it in values if it is not None]
+    if function in ("first", "last"):
+        return values[0 if function == "first" else -1]
+    if function in ("min", "max"):
+        return {"min": min, "max": max}[function](present) if present else None
+    if function in ("sum", "mean"):
+        return at_scale(fitted(total(present), scale_of(kind)), kind)
+    return {"len": len(values), "count": len(present), "n_unique": len(set(values))}[function]
+
+
+# ---- random files
+
+CELLS = {
+    INT: [None, 0, 1, 2, -3], DATE: [None, datetime.date(2024, 2, 29), datetime.date(2023, 12, 31), datetime.date(9999, 12, 31)],
+    D2: [None, "0", "1.000", "-0.05", "12.5", "1234567.89", "7."], D4: [None, "0.0001", "-3", "+1.00500", ".25"],
+    RIGHT["price"]: [None, "1.5", "-.5"],
+}
+
+
+def rows_of(draw, kinds, most):
+    """Rows, and their texts in a file: decimals are written in several ways."""
+    texts = [{name: draw.choice(CELLS[kind]) for name, kind in kinds.items()} for _ in range(draw.randrange(most))]
+    rows = [{name: read(row[name], kind) for name, kind in kinds.items()} for row in texts]
+    lines = [",".join(kinds), *(",".join("" if it is None else str(it) for it in row.values()) for row in texts)]
+    return rows, "".join(f"{line}\n" for line in lines)
+
+
+def read(cell, kind):
+    return cell if cell is None or not isinstance(kind, fq.Decimal) else at_scale(decimal.Decimal(cell), kind)
+
+
+def shown(kinds, rows):
+    """Rows, with each value as it is written, so that a scale or a type that differs is seen."""
+    return [tuple((type(row[name]), str(row[name])) for name in kinds) for row in rows]
+
+
+def has_two_notations(kinds):
+    """Whether a column of the result has the name of one of a source, and is an int that is written in another way."""
+    for name, kind in kinds.items():
+        of_sources = [it[name] for it in (MAIN, RIGHT) if name in it]
+        if kind != BOOL and any(it != kind for it in of_sources):
+            return True
+    return False
+
+
+class RandomNotations(unittest.TestCase):
+    """Random chains on random rows."""
+
+    def test_chains(self):
+        """Each gives the rows that Python's decimals and dates give, in one run or in parts, or the fault of a value past 64 bits."""
+        path = program()
+        with concurrent.futures.ThreadPoolExecutor(len(os.sched_getaffinity(0))) as pool:
+            answers = list(pool.map(lambda number: self.difference(number, path), range(COUNT)))
+        self.assertEqual([it for it in answers if it not in ("alike", "too large", "refused")], [])
+        self.assertGreater(answers.count("alike"), COUNT * 3 // 5)
+
+    def difference(self, number, path):
+        """What came of a chain."""
+        draw = cases.Draw(f"notations {number}")
+        with tempfile.TemporaryDirectory() as room:
+            parts = [rows_of(draw, MAIN, 8) for _ in range(draw.choice([1, 1, 3]))]
+            right_rows, right_text = rows_of(draw, RIGHT, 6)
+            for place, text in enumerate([right_text, *(text for _, text in parts)]):
+                with open(os.path.join(room, f"{place}.csv"), "w", encoding="utf-8") as file:
+                    file.write(text)
+            right = fq.scan_csv(os.path.join(room, "0.csv"), schema=RIGHT)
+            frame = fq.scan_csv([os.path.join(room, f"{place + 1}.csv") for place in range(len(parts))], schema=MAIN)
+            chain = Chain(draw, frame, right, MAIN, [row for rows, _ in parts for row in rows], right_rows)
+            try:
+                for _ in range(draw.randint(1, 4)):
+                    getattr(chain, draw.choice(["filter", "with_columns", "select", "group_by", "join"]))()
+                expected = shown(chain.kinds, chain.rows)
+            except TooLarge:
+                expected = fq.OverflowError
+            return self.answer(number, chain, expected, path)
+
+    def answer(self, number, chain, expected, path):
+        try:
+            with concurrent.futures.ThreadPoolExecutor(2) as executor:
+                parts = {} if number % 3 else {"executor": executor}
+                result = chain.frame.collect(batch=number % 3 + 1, program=path, **parts)
+            actual = shown(result.schema, result.to_dicts())
+        except fq.OverflowError:
+            actual = fq.OverflowError
+        except fq.UnsupportedError as error:
+            is_said = has_two_notations(chain.frame.collect_schema()) and "alias" in str(error)
+            return "refused" if is_said else (number, chain.frame, error)
+        if has_two_notations(chain.frame.collect_schema()):
+            return number, chain.frame, "two notations"
+        if actual is not fq.OverflowError and expected is not fq.OverflowError and chain.kinds != result.schema:
+            return number, chain.frame, chain.kinds, result.schema
+        if actual != expected:
+            return number, chain.frame, chain.frame.plan()["steps"], expected, actual
+        return "too large" if actual is fq.OverflowError else "alike"
+
+
+if __name__ == "__main__":
+    unittest.main()
