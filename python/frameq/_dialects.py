@@ -64,8 +64,8 @@ class Dialect(NamedTuple):
         """How it has decimals and dates."""
         if self.noted is None:
             raise ValueError(
-                f"{self.name} has no decimals and no dates: give its tables the ints, such as 1250 for 12.50 and 20240305 for a day, and these "
-                "columns the kind Int64 in the schema of the scan whose query it is"
+                f"{self.name} has no decimals and no dates: give its tables the ints, such as 1250 for 12.50 and 20240305 for a day, and "
+                "these columns the kind Int64 in the schema of the scan whose query it is"
             )
         return self.noted
 

@@ -3,6 +3,8 @@
 They start a server of their own, and are left out where there is none. The variable SEED gives other random plans, FRAMES their number.
 """
 import csv
+import datetime
+import decimal
 import io
 import itertools
 import json
@@ -14,8 +16,9 @@ import unittest
 from collections import Counter
 from unittest import mock
 
-from repository import ROOT, program
+from repository import ROOT, fq, program
 
+from frameq._kinds import int_of_day, value_of_int
 from frameq._sql import sql
 from frameq._sql_setup import sql_setup
 
@@ -24,9 +27,13 @@ import oracle
 from postgres import start_server
 from sql_by_hand import ByHand
 from sql_cases import A_B, GREATEST, LEAST, SEED, as_text, column, plan_of, quoted, random_cases, row_name
+import test_random_notations as chains
 
 # Random cases are drawn until frameq has given so many frames.
 FRAMES = int(os.environ.get("FRAMES", "2000"))
+
+# How many random chains on decimals and dates there are.
+CHAINS = 300
 
 # For so many random cases the files are loaded.
 SETUPS = 100
@@ -185,6 +192,71 @@ class ByHandOnPostgres(ByHand, OnPostgres):
         for setting in ("on", "off"):
             with mock.patch.dict(server.environment, PGOPTIONS=f"-c standard_conforming_strings={setting} -c escape_string_warning=off"):
                 self.check(plan, [[(text,), ("it's",)]], ["t", "u"], [(text, text)])
+
+
+class Notations(OnPostgres):
+    """Decimals and dates, which are DECIMAL and DATE in tables and in rows."""
+
+    TYPES = {fq.Int64: "BIGINT", fq.Date: "DATE"}
+
+    def rows_of(self, lazy, *tables):
+        """The rows that the query of a report gives as texts, over tables of these kinds and rows, or the state of the error."""
+        made = []
+        for number, (kinds, rows) in enumerate(tables):
+            types = [f"{quoted(name)} {self.TYPES.get(kind) or f'DECIMAL(19, {kind.scale})'}" for name, kind in kinds.items()]
+            lines = ["\t".join([str(place), *map(self.field, row)]) for place, row in enumerate(rows, 1)]
+            made += [f"CREATE TEMPORARY TABLE source{number} (row BIGINT, {', '.join(types)});", f"COPY source{number} FROM STDIN;"]
+            made += [*lines[::-1], "\\.", ""]
+        query = "\n".join(["BEGIN;", *made, f"{lazy.sql('postgres')};", f"\\echo '{END}' :SQLSTATE", "ROLLBACK;", ""])
+        ran = server.psql(query.encode(), "--csv", f"--pset=null={NULL}")
+        (printed, state), = re.findall(f"(.*?)^{END} (.....)\n", ran.stdout.decode(), re.M | re.S)
+        return names_and_rows(printed)[1] if state == "00000" else (state, ran.stderr.decode())
+
+    @staticmethod
+    def field(value):
+        return "\\N" if value is None else f"{value:f}" if isinstance(value, decimal.Decimal) else str(value)
+
+    @staticmethod
+    def printed(value):
+        if isinstance(value, bool):
+            return "t" if value else "f"
+        return NULL if value is None else Notations.field(value)
+
+    def test_each_int_is_a_decimal(self):
+        numbers = [0, 1, -1, 99, -100, 10**18, LEAST, GREATEST]
+        for scale in (1, 2, 17, 18):
+            kind = fq.Decimal(scale=scale)
+            values = [(value_of_int(number, kind),) for number in numbers]
+            lazy = fq.scan_csv("main.csv", schema={"a": kind}).select(a="a", n=fq.col("a") // 1)
+            wanted = [[f"{value:f}", str(number)] for (value,), number in zip(values, numbers)]
+            with self.subTest(scale):
+                self.assertEqual(self.rows_of(lazy, ({"a": kind}, values)), wanted)
+
+    def test_days(self):
+        days = [datetime.date.min, datetime.date(2024, 2, 29), datetime.date.max]
+        lazy = fq.scan_csv("main.csv", schema={"d": fq.Date}).select(d="d", n=fq.col("d") // 1)
+        rows = [[str(day), str(int_of_day(day))] for day in days]
+        self.assertEqual(self.rows_of(lazy, ({"d": fq.Date}, [(day,) for day in days])), rows)
+
+    def test_random_chains(self):
+        """The queries of random chains of calls give what Python's own decimals and dates give."""
+        count = Counter()
+        for number in range(CHAINS):
+            chain, _ = chains.start(cases.Draw(f"{SEED} notations {number}"), "")
+            try:
+                chain.go_on()
+            except chains.TooLarge:
+                continue
+            if chains.has_two_notations(chain.frame.collect_schema()):
+                continue
+            sources = [(chains.MAIN, [tuple(row.values()) for row in chain.main_rows])]
+            if len(chain.frame.plan()["sources"]) > 1:
+                sources.insert(0, (chains.RIGHT, [tuple(row.values()) for row in chain.right_rows]))
+            wanted = [[self.printed(row[name]) for name in chain.kinds] for row in chain.rows]
+            with self.subTest(number):
+                self.assertEqual(self.rows_of(chain.frame, *sources), wanted, chain.frame)
+            count["alike"] += 1
+        self.assertGreater(count["alike"], CHAINS * 3 // 4)
 
 
 class RandomPlans(OnPostgres):

@@ -237,7 +237,13 @@ class Chain:
 
     def __init__(self, draw, frame, right, kinds, rows, right_rows):
         self.draw, self.frame, self.right, self.kinds, self.rows, self.right_rows = draw, frame, right, kinds, rows, right_rows
+        self.main_rows = rows
         self.names = iter(f"c{number}" for number in range(1000))
+
+    def go_on(self):
+        """Adds some steps."""
+        for _ in range(self.draw.randint(1, 4)):
+            getattr(self, self.draw.choice(["filter", "with_columns", "select", "group_by", "join"]))()
 
     def kind(self):
         return self.draw.choice([D2, D2, D4, DATE, INT, BOOL, fq.Decimal(scale=6)])
@@ -367,6 +373,16 @@ def rows_of(draw, kinds, most):
     return rows, "".join(f"{line}\n" for line in lines)
 
 
+def start(draw, room):
+    """A chain without steps, and the texts of its files."""
+    parts = [rows_of(draw, MAIN, 8) for _ in range(draw.choice([1, 1, 3]))]
+    right_rows, right_text = rows_of(draw, RIGHT, 6)
+    right_file, *files = [os.path.join(room, f"{place}.csv") for place in range(1 + len(parts))]
+    right, frame = fq.scan_csv(right_file, schema=RIGHT), fq.scan_csv(files, schema=MAIN)
+    chain = Chain(draw, frame, right, MAIN, [row for rows, _ in parts for row in rows], right_rows)
+    return chain, {right_file: right_text, **{file: text for file, (_, text) in zip(files, parts)}}
+
+
 def read(cell, kind):
     return cell if cell is None or not isinstance(kind, fq.Decimal) else at_scale(decimal.Decimal(cell), kind)
 
@@ -400,17 +416,12 @@ class RandomNotations(unittest.TestCase):
         """What came of a chain."""
         draw = cases.Draw(f"notations {number}")
         with tempfile.TemporaryDirectory() as room:
-            parts = [rows_of(draw, MAIN, 8) for _ in range(draw.choice([1, 1, 3]))]
-            right_rows, right_text = rows_of(draw, RIGHT, 6)
-            for place, text in enumerate([right_text, *(text for _, text in parts)]):
-                with open(os.path.join(room, f"{place}.csv"), "w", encoding="utf-8") as file:
+            chain, texts = start(draw, room)
+            for path_of_text, text in texts.items():
+                with open(path_of_text, "w", encoding="utf-8") as file:
                     file.write(text)
-            right = fq.scan_csv(os.path.join(room, "0.csv"), schema=RIGHT)
-            frame = fq.scan_csv([os.path.join(room, f"{place + 1}.csv") for place in range(len(parts))], schema=MAIN)
-            chain = Chain(draw, frame, right, MAIN, [row for rows, _ in parts for row in rows], right_rows)
             try:
-                for _ in range(draw.randint(1, 4)):
-                    getattr(chain, draw.choice(["filter", "with_columns", "select", "group_by", "join"]))()
+                chain.go_on()
                 expected = shown(chain.kinds, chain.rows)
             except TooLarge:
                 expected = fq.OverflowError
