@@ -414,6 +414,19 @@ class Setup(OnPostgres):
         self.assertEqual(self.psql(sql(plan, "postgres", tables).encode() + b";", "--csv"), "a\n3\n4\n")
         self.assertIn(b"already exists", self.load(plan, [b"a\n1\n", b"a\n"], tables=tables).stderr)
 
+    def test_decimals_and_dates(self):
+        """Tables have what a run reads, and the query gives what a run prints."""
+        texts = {"main.csv": "a,d\n12.5,2024-02-29\n,\n-.05,0001-01-01\n", "right.csv": "d,price\n2024-02-29,+1.500\n0001-01-01,7\n"}
+        for name, text in texts.items():
+            with open(os.path.join(self.folder, name), "w", encoding="utf-8") as file:
+                file.write(text)
+        right = fq.scan_csv("right.csv", schema={"d": fq.Date, "price": fq.Decimal(scale=1)})
+        lazy = fq.scan_csv("main.csv", schema={"a": fq.Decimal(scale=2), "d": fq.Date}).join(right, on="d", how="left")
+        lazy = lazy.with_columns(total=fq.col("a") * fq.col("price"), year=fq.col("d").dt.year())
+        self.assertEqual(server.psql(lazy.sql_setup(program=self.program).encode(), folder=self.folder).stderr, b"")
+        rows = "a,d,price,total,year\n12.50,2024-02-29,1.5,18.750,2024\n,,,,\n-0.05,0001-01-01,7.0,-0.350,1\n"
+        self.assertEqual(self.psql(lazy.sql("postgres").encode(), "--csv"), rows)
+
     def test_the_first_report(self):
         folder = os.path.join(ROOT, "examples", "monthly_sales")
         with open(os.path.join(folder, "plan.json"), encoding="utf-8") as file:
