@@ -7,7 +7,7 @@ import decimal
 import operator
 from typing import Any, Callable, Dict, Tuple, Union
 
-from ._expressions import COMPARISONS, PARTS_OF_DATES, Node, kind_of, literal_at, literal_by_itself
+from ._expressions import COMPARISONS, PARTS_OF_DATES, Node, kind_of, literal_at, literal_by_itself, parts
 from ._faults import WrongKindError
 from ._kinds import LEAST, MOST, ColumnKind, Date, Decimal, Kind, Schema, fits, floor_at, places_of
 
@@ -22,6 +22,16 @@ _COMPARED: Dict[str, Callable[[Any, Any], bool]] = {
 
 def settled(node: Node, schema: Schema) -> Node:
     """A node over these columns with an int of the plan, of its kind, for each literal, and with operators of the plan alone."""
+    has_notations = any(not isinstance(kind, Kind) for kind in schema.values()) or any(map(_is_noted, parts(node)))
+    return _settled(node, schema) if has_notations else node
+
+
+def _is_noted(part: Node) -> bool:
+    """Whether a part by itself is a decimal, a date or a part of a date."""
+    return part[0] == "decimal" or part[0] in PARTS_OF_DATES or (part[0] in ("lit", "null") and not isinstance(part[1], Kind))
+
+
+def _settled(node: Node, schema: Schema) -> Node:
     head = node[0]
     if head == "decimal":
         return literal_by_itself(node[1])
@@ -29,7 +39,7 @@ def settled(node: Node, schema: Schema) -> Node:
         return _beside_literal(node, schema)
     if head in ("col", "lit", "null"):
         return node
-    after = tuple(settled(part, schema) if isinstance(part, tuple) else part for part in node)
+    after = tuple(_settled(part, schema) if isinstance(part, tuple) else part for part in node)
     return _part_of_date(after, schema) if head in PARTS_OF_DATES else after
 
 
@@ -52,7 +62,7 @@ def _beside_literal(node: Node, schema: Schema) -> Node:
             return ("lit", Kind.BOOL, _COMPARED[head](_number_of(left), _number_of(right)))
         is_right = _places_of(left) >= _places_of(right)
     operand, literal = (left, right) if is_right else (right, left)
-    operand = settled(operand, schema)
+    operand = _settled(operand, schema)
     kind = kind_of(operand, schema)
     if head in COMPARISONS and _compares_exactly(literal, kind):
         return _compared(head, operand, literal, kind, is_right)
@@ -72,7 +82,7 @@ def _of_kind(literal: Node, kind: ColumnKind) -> Node:
     """A literal as a decimal of the scale of what it meets, or by itself."""
     if isinstance(kind, Decimal):
         return literal_at(_number_of(literal), kind)
-    return settled(literal, {})
+    return _settled(literal, {})
 
 
 # ---- comparisons

@@ -107,8 +107,11 @@ def _decimals_reader(scale: int) -> Callable[[List[str]], List[Value]]:
 
     def read(cells: List[str]) -> List[Value]:
         if any(cell and cell[point : point + 1] != "." for cell in cells):
-            raise ValueError(f"a decimal without {scale} places")
-        return [of_text(cell) if cell else None for cell in cells]
+            raise ValueError(f"a decimal has {scale} places")
+        try:
+            return [of_text(cell) if cell else None for cell in cells]
+        except decimal.InvalidOperation:
+            raise ValueError("not a decimal") from None
 
     return read
 
@@ -128,7 +131,7 @@ def _quoted(text: str) -> str:
 def _printed(kind: ColumnKind, values: Column) -> Iterable[str]:
     """The cells of a column."""
     if isinstance(kind, Decimal):
-        return ["" if value is None else f"{value:.{kind.scale}f}" for value in values]
+        return ["" if value is None else f"{decimal.Decimal(value):.{kind.scale}f}" for value in values]
     return _PRINTERS[kind](values)
 
 

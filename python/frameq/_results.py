@@ -41,7 +41,7 @@ class DataFrame:
         if self._columns is None:
             try:
                 self._columns = columns_of(self._text or b"", self._schema)
-            except (KeyError, ValueError, ArithmeticError) as error:
+            except (KeyError, ValueError) as error:
                 raise WrongKindError(f"a cell of the result is not of the kind that the schema has: {error}") from None
         return self._columns
 
