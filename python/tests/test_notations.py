@@ -9,9 +9,11 @@ import tempfile
 import unittest
 from concurrent.futures import ThreadPoolExecutor
 from decimal import Decimal
+from unittest import mock
 
 from repository import fq, program
 
+from frameq._cuts import cuts
 from frameq._kinds import int_at, value_of_int
 from frameq._results import read_frame
 
@@ -468,7 +470,7 @@ class Runs(unittest.TestCase):
         """What comes back of parts is written by the names that it has, whatever kinds the columns have there."""
         texts = ["d,a,_0,k\n2024-03-05,1.50,2024-01-01,1\n2024-03-06,2,,2\n", "d,a,_0,k\n2023-01-01,0.01,2024-01-02,1\n"]
         lazy = self.scan(*texts, d=DATE, a=D2, _0=DATE, k=INT)
-        rights = self.scan("k,price,most\n1,0.5,2024-01-01\n2,1.5,2024-01-02\n2,2.5,2024-01-03\n", name="right", k=INT, price=D2, most=DATE)
+        rights = self.scan("k,price,most\n1,0.5,0.01\n2,1.5,0.02\n2,2.5,3\n", name="right", k=INT, price=D2, most=D2)
         for after, text in [
             (lazy.group_by("k").agg(C("a").sum(), fq.len(), first=C("d").min()),
              "k,a,len,first\n1,1.51,2,2023-01-01\n2,2.00,1,2024-03-06\n"),
@@ -479,11 +481,18 @@ class Runs(unittest.TestCase):
              "month,s\n202403,3.50\n202301,0.01\n"),
             (lazy.with_columns(s=C("a").rolling_sum(2)).select("s", "d"), "s,d\n,2024-03-05\n3.50,2024-03-06\n2.01,2023-01-01\n"),
             (lazy.join(rights, on="k").group_by("most").agg(total=(C("a") * C("price")).sum()),
-             "most,total\n2024-01-01,0.7550\n2024-01-02,3.0000\n2024-01-03,5.0000\n"),
+             "most,total\n0.01,0.7550\n0.02,3.0000\n3.00,5.0000\n"),
             (lazy.filter(C("a") > Decimal("0.015")).select("a", day="d"), "a,day\n1.50,2024-03-05\n2.00,2024-03-06\n"),
         ]:
-            with self.subTest(text):
-                self.assertEqual(self.same(after), text)
+            for most in (1, 4_294_967_295):
+                with self.subTest(text), mock.patch("frameq._parts._MOST_JOINED_ROWS", most):
+                    self.assertEqual(self.same(after), text)
+
+    def test_names_of_parts(self):
+        """The groups of parts have no name of a date for what is none."""
+        lazy = self.scan("_0,k\n", _0=DATE, k=INT).group_by("k").agg(fq.len(), first=C("_0").min())
+        cut = next(cuts(steps(lazy), [{"_0": DATE, "k": INT}, lazy.collect_schema()], 0, {"_0"}))
+        self.assertEqual(cut.columns, {"k": INT, "_1": INT, "_2": DATE})
 
     def test_many_files(self):
         """More files than one run takes: a column that has the name of a date, and is none, is refused where it would come back."""

@@ -90,6 +90,8 @@ def day(draw):
 def term(draw, kinds, kind, depth):
     """An expression of a kind over columns of these kinds."""
     names = [name for name, it in kinds.items() if it == kind]
+    if kind == BOOL and draw.often(80):
+        return condition(draw, kinds, max(depth, 1))
     if depth == 0 or draw.often(20):
         if names and draw.often(80):
             return column(draw.choice(names), kind)
@@ -98,7 +100,7 @@ def term(draw, kinds, kind, depth):
         inner, given = term(draw, kinds, DATE, depth - 1), day(draw)
         return Term(inner.expr.fill_null(given), DATE, lambda rows, place: filled(inner.value(rows, place), given))
     if kind == BOOL:
-        return condition(draw, kinds, depth)
+        return constant(draw, BOOL)
     return whole(draw, kinds, depth) if kind == INT else decimal_term(draw, kinds, kind, depth)
 
 
@@ -219,8 +221,9 @@ def bound(draw, kind):
         return day(draw) if draw.often(70) else draw.choice([20240229, 20240230, 0, -1])
     if draw.often(30):
         return draw.choice([draw.randint(-5, 5), 2**63 - 1, -(2**63)])
-    huge = decimal.Decimal(draw.choice(["1e30", "-1e30", "92233720368547758.07", "92233720368547758.08", "92233720368547758.075", "1e-30"]))
-    return draw.choice([huge, number(draw, 6), number(draw, scale_of(kind))])
+    huge = draw.choice(["1e30", "-1e30", "92233720368547758.07", "92233720368547758.08", "-92233720368547758.085", "1e-30"])
+    near = decimal.Decimal(draw.choice(CELLS.get(kind, CELLS[INT])) or 0) + draw.choice([1, -1, 5, 0]) * decimal.Decimal("0.00001")
+    return draw.choice([decimal.Decimal(huge), near, near, number(draw, scale_of(kind))])
 
 
 def kleene(left, right, decides):
