@@ -30,7 +30,7 @@ class Decimal:
     def __init__(self, precision: None = None, scale: int = 0) -> None:
         if precision is not None:
             raise UnsupportedError("a Decimal has no precision, since it is an int of 64 bits: write Decimal(scale=2)")
-        if not isinstance(scale, int) or not 1 <= scale <= MOST_PLACES:
+        if not isinstance(scale, int) or isinstance(scale, bool) or not 1 <= scale <= MOST_PLACES:
             raise UnsupportedError(f"the scale of a Decimal is 1 to {MOST_PLACES}, and not {scale!r}: write Decimal(scale=2)")
         self.scale = scale
 
