@@ -22,6 +22,10 @@ pub returns-clause-twice : goal.returns-clause-twice
 unfolding arguments_on_literals
 returns-clause-twice c = (refl, refl, refl)
 
+pub returns-clause-notes : goal.returns-clause-notes
+unfolding arguments_on_literals
+returns-clause-notes c = (refl, refl, refl, refl, refl, refl)
+
 pub returns-clause-checks : goal.returns-clause-checks
 unfolding arguments_on_literals
 returns-clause-checks c = (refl, refl, refl, refl, refl, refl, refl, refl)
