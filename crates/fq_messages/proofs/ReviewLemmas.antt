@@ -6,7 +6,7 @@ use Rattle.std.proofs.lemmas.List.{length-map}
 use Rattle.fq_csv.specs.declared.layouts.Layout.{Layout}
 use Rattle.fq_language.specs.Plan.{PlanData, file_layouts, files_wanted}
 use Rattle.fq_language.proofs.FileLemmas.{layouts-count}
-use Rattle.fq_messages.specs.Reviewed.{noted_layout, noted_layouts}
+use Rattle.fq_plan.specs.Noted.{noted_layout, noted_layouts}
 use Rattle.fq_notation.specs.Notation.{Named}
 use Rattle.fq_review.specs.Checked.{are_clean, is_clean}
 use Rattle.fq_review.proofs.CheckLemmas.{and-assoc, clean-more}

@@ -4,12 +4,13 @@ ghost use Rattle.fq_csv.specs.Sources.{layout_of};
 ghost use Rattle.fq_language.specs.Plan.{files_wanted};
 ghost use Rattle.fq_language.specs.View.{field_of, source_data};
 ghost use Rattle.fq_notation.specs.Notation.{notation_in};
+ghost use Rattle.fq_plan.specs.Noted.{noted_layout, noted_layouts};
 ghost use Rattle.fq_review.specs.Checked.{are_clean, is_clean};
 ghost use Rattle.fq_run.specs.Run.{Tell};
 ghost use Rattle.fq_run.specs.declared.faults.Fault.TheVariants as fault;
 ghost use Rattle.fq_shell.specs.Arguments.{named_by};
 ghost use Rattle.fq_messages.specs.Ending.{IsOutside};
-ghost use Rattle.fq_messages.specs.Reviewed.{IsVerdict, noted_layout, noted_layouts};
+ghost use Rattle.fq_messages.specs.Reviewed.{IsVerdict};
 ghost use Rattle.fq_messages.specs.declared.failures.Failure.TheVariants as failure;
 
 use crate::failures::Failure;

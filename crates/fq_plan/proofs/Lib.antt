@@ -11,3 +11,4 @@ pub mod NeededLemmas
 pub mod KeepingLemmas
 pub mod NarrowedLemmas
 pub mod NotedLemmas
+pub mod PlainNotationLemmas

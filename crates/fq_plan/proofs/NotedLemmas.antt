@@ -1,5 +1,5 @@
 -- A checked plan with notations, and the columns of its frame.
-use Rattle.std.proofs.Common.{◌≡◌, ℕ, suc, ◌+◌, ◌-◌, ◌<◌, ◌≤◌, Bool, true, false, Global, String, string_bytes, get_or, take, List, [], ◌∷◌, ◌++◌, map, drop, length, Option, Some, None, Result, Ok, Err, refl, ap, sym, subst, ◌∙◌, arith, append-nil}
+use Rattle.std.proofs.Common.{◌≡◌, ℕ, flat_map, replicate, zero, suc, ◌+◌, ◌-◌, ◌<◌, ◌≤◌, Bool, true, false, Global, String, string_bytes, get_or, take, List, [], ◌∷◌, ◌++◌, map, drop, length, Option, Some, None, Result, Ok, Err, refl, ap, sym, subst, ◌∙◌, arith, append-nil}
 use Rattle.std.specs.List.{list_any}
 use Rattle.std.specs.Prelude.{◌||◌}
 use Rattle.std.proofs.Math.Seq.{drop-cons, take-suc}
@@ -9,16 +9,16 @@ use Rattle.std.proofs.lemmas.List.Elements.{All-map}
 use Rattle.fq_column.specs.Agreement.{marked}
 use Rattle.fq_column.specs.Frame.{Fields, Name, has_name, same_name}
 use Rattle.fq_column.specs.declared.faults.StepFault.{StepFault}
-use Rattle.fq_csv.specs.Sources.{Source, but_last, last_or}
+use Rattle.fq_csv.specs.Sources.{Source, but_last, last_or, layout_of}
 use Rattle.fq_csv.specs.declared.sources.TheConstants.{MAX_FILES}
 use Rattle.fq_expr.specs.Kinds.{steps_schema}
 use Rattle.fq_language.specs.Judged.{judged, judged_step, judged_steps}
-use Rattle.fq_language.specs.Plan.{PlanStep, PlanData, IsWithinLimits, main_fields, side_fields}
+use Rattle.fq_language.specs.Plan.{PlanStep, PlanData, IsWithinLimits, file_layouts, main_fields, side_fields}
 use Rattle.fq_language.specs.declared.faults.CheckFault.{CheckFault}
 use Rattle.fq_notation.specs.Notation.{Named, notation_in}
 use Rattle.fq_notation.specs.declared.notations.Notation.{Notation}
 use Rattle.fq_plan.specs.Needed.{needed_before_steps, needed_columns}
-use Rattle.fq_plan.specs.Noted.{frame_fields, has_ints, last_judged, noted, refused_after}
+use Rattle.fq_plan.specs.Noted.{frame_fields, has_ints, last_judged, noted, noted_layout, noted_layouts, refused_after}
 use Rattle.fq_plan.specs.declared.noted.NotationFault.{NotationFault}
 use Rattle.fq_plan.specs.declared.noted.NotationFault.TheVariants.{NoColumn, Twice}
 use Rattle.fq_plan.specs.Stages.{keeping, narrowed, plan_of, query_of, stage_steps, whole_source, IsChecked, Leads}
@@ -210,3 +210,20 @@ module _ (q : PlanData) (entries : List Entry) (i : ℕ) (d : Entry) (below : i 
       opened ∙ rw (stands ∙ e, h) (
       ap (λ names. refused_after q names (map named_in (drop (suc i) entries))) (sym (map-append name_in (take i entries) (here ∷ [])) ∙ ap (map name_in) (sym (take-suc entries i d below)))
       ∙ ap from (let up : suc i ≡ i + 1 = omega arith in up))
+
+-- ---- the files
+
+-- how the files of a plan in notations are read
+layouts-of : (named : List Named) (sources : List Source) →
+    flat_map (λ (s : Source). replicate s.files (layout_of s)) (map (noted_source named) sources) ≡ map (noted_layout named) (flat_map (λ (s : Source). replicate s.files (layout_of s)) sources)
+layouts-of named [] = refl
+layouts-of named (s ∷ sources) =
+    (λ i. copies s.files i ++ layouts-of named sources i)
+    ∙ sym (map-append (noted_layout named) (replicate s.files (layout_of s)) (flat_map (λ (s : Source). replicate s.files (layout_of s)) sources))
+  where
+    copies : (n : ℕ) → replicate n (layout_of (noted_source named s)) ≡ map (noted_layout named) (replicate n (layout_of s))
+    copies zero = refl
+    copies (suc n) = ap (λ rest. layout_of (noted_source named s) ∷ rest) (copies n)
+
+pub layouts-noted : (named : List Named) (plan : PlanData) → file_layouts (noted named plan) ≡ noted_layouts named plan
+layouts-noted named plan = layouts-of named plan.sources

@@ -3,8 +3,9 @@ use Rattle.std.specs.Prelude.{◌||◌, ◌++◌, Bool, List, [], ◌∷◌, len
 use Rattle.std.specs.List.{list_any}
 use Rattle.fq_column.specs.Frame.{Fields, Name, has_name}
 use Rattle.fq_csv.specs.Sources.{last_or}
+use Rattle.fq_csv.specs.declared.layouts.Layout.{Layout}
 use Rattle.fq_language.specs.Judged.{judged}
-use Rattle.fq_language.specs.Plan.{PlanData}
+use Rattle.fq_language.specs.Plan.{PlanData, file_layouts}
 use Rattle.fq_language.specs.declared.faults.CheckFault.{CheckFault}
 use Rattle.fq_notation.specs.Notation.{Named, notation_in}
 use Rattle.fq_plan.specs.declared.noted.NotationFault.{NotationFault}
@@ -22,6 +23,13 @@ frame_fields p = last_judged (judged p)
 -- a plan whose sources are read in these notations, and whose frame is printed in them
 abbrev pub noted : List Named → PlanData → PlanData
 noted named p = record { sources = map (noted_source named) p.sources; steps = p.steps; notations = map (notation_in named) (frame_fields p) }
+
+-- how a file is read whose ints are in notations by the names of their columns, and how each of a plan's files is, in argument order
+abbrev pub noted_layout : List Named → Layout → Layout
+noted_layout named layout = record layout { notations = map (notation_in named) layout.schema }
+
+abbrev pub noted_layouts : List Named → PlanData → List Layout
+noted_layouts named p = map (noted_layout named) (file_layouts p)
 
 -- whether a source or the frame has a column of ints of this name
 abbrev pub has_ints : PlanData → Name → Bool

@@ -1,7 +1,8 @@
 //! Laws of the definitions, proved for all values.
-ghost use Rattle.std.specs.Prelude.{◌≡◌, ◌<◌, ◌≤◌, ℕ, All, IsOk, List, drop, length, map};
-ghost use Rattle.fq_column.specs.Frame.{Fields, Row};
+ghost use Rattle.std.specs.Prelude.{◌≡◌, ◌<◌, ◌≤◌, ℕ, [], All, IsOk, List, drop, length, map};
+ghost use Rattle.fq_column.specs.Frame.{Fields, Frame, Row};
 ghost use Rattle.fq_column.specs.Stream.{Stream, done, rename_fault};
+ghost use Rattle.fq_csv.specs.Printed.{printed, printed_in};
 ghost use Rattle.fq_csv.specs.Sources.{but_last};
 ghost use Rattle.fq_csv.specs.declared.faults.ScanFault.{ScanFault};
 ghost use Rattle.fq_expr.specs.Expression.{Step as RowWise};
@@ -10,6 +11,7 @@ ghost use Rattle.fq_expr.specs.Steps.{apply_steps};
 ghost use Rattle.fq_expr.specs.declared.fronts.RowFault.{RowFault};
 ghost use Rattle.fq_plan.specs.Cuts.{GiveTheSameRows};
 ghost use Rattle.fq_plan.specs.Meaning.{meaning, meaning_of_files};
+ghost use Rattle.fq_plan.specs.Noted.{noted};
 ghost use Rattle.fq_plan.specs.Needed.{AreWide, DifferInUnneeded, needed_alone};
 ghost use Rattle.fq_language.specs.Judged.{judged};
 ghost use Rattle.fq_language.specs.Plan.{PlanData, file_streams, files_wanted, main_fields, side_files};
@@ -46,4 +48,10 @@ pub fn meaning_of_needed_columns()
 pub fn renamed_steps()
     ensures { (n : ℕ) (fields : Fields) (steps : List RowWise) (u : Stream RowFault) →
         rename_fault row_fault (apply_steps fault_at n fields steps u) ≡ apply_steps overflow n fields steps (rename_fault row_fault u) }
+{}
+
+/// Notations that are given to no column change nothing: files without any are read, and a frame is printed, as if there were no notations.
+pub fn meaning_without_notations()
+    ensures read { (p : PlanData) (files : List (List ℕ)) → All (λ s. s.notations ≡ []) p.sources → file_streams (noted [] p) files ≡ file_streams p files }
+    ensures printed { (p : PlanData) (frame : Frame) → printed_in (noted [] p).notations frame ≡ printed frame }
 {}

@@ -18,5 +18,8 @@ pub use fq_language::{
     Refusal, Source, StepText, plans_of_both_versions, read_plan, reason_of,
 };
 pub use fq_run::{Explanation, Fault, Worked};
-pub use laws::{meaning_of_cut_files, meaning_of_items, meaning_of_needed_columns, renamed_steps};
+pub use laws::{
+    meaning_of_cut_files, meaning_of_items, meaning_of_needed_columns, meaning_without_notations,
+    renamed_steps,
+};
 pub use noted::NotationFault;

@@ -1,20 +1,19 @@
 -- What a check of named files comes to, case by case.
-use Rattle.std.proofs.Common.{◌≡◌, ◌∙◌, ◌∷◌, ◌++◌, [], ℕ, zero, suc, Bool, true, false, List, flat_map, length, map, replicate, Option, Some, Result, Ok, Err, refl, ap, sym, subst, inl, inr}
-use Rattle.std.proofs.lemmas.List.{length-map, map-append}
+use Rattle.std.proofs.Common.{◌≡◌, ◌∙◌, ℕ, Bool, true, false, List, length, Option, Some, Result, Ok, Err, refl, ap, sym, subst, inl, inr}
+use Rattle.std.proofs.lemmas.List.{length-map}
 use Rattle.std.specs.Result.{result_map_both}
-use Rattle.fq_csv.specs.Sources.{Source, layout_of}
 use Rattle.fq_csv.specs.declared.layouts.Layout.{Layout}
 use Rattle.fq_language.specs.Judged.{checked, judged}
 use Rattle.fq_language.specs.declared.faults.CheckFault.{CheckFault}
 use Rattle.fq_language.specs.Plan.{PlanData, file_layouts}
 use Rattle.fq_language.specs.Spelling.{read_as_plan}
 use Rattle.fq_notation.specs.Notation.{Named}
-use Rattle.fq_plan.specs.Noted.{noted}
+use Rattle.fq_plan.specs.Noted.{noted_layouts}
+use Rattle.fq_plan.proofs.NotedLemmas.{layouts-noted}
 use Rattle.fq_review.specs.Checked.{are_clean}
-use Rattle.fq_run.specs.Noted.{noted_source}
 use Rattle.fq_run.specs.Run.{Tell}
 use Rattle.fq_messages.specs.Ending.{code_of, number_of}
-use Rattle.fq_messages.specs.Reviewed.{IsVerdict, noted_layout, noted_layouts}
+use Rattle.fq_messages.specs.Reviewed.{IsVerdict}
 use Rattle.fq_messages.specs.declared.failures.Failure.{Failure}
 use Rattle.fq_messages.specs.declared.failures.Failure.TheVariants.{Check, Problems}
 use Rattle.fq_program.specs.Named.{ComesTo, EndsAt, noted_plan, reviewed}
@@ -24,21 +23,6 @@ use Rattle.fq_program.proofs.NamedLemmas.{noted-is}
 -- as many names as files
 pub many : (bytes_of : List ℕ → Option (List ℕ)) (names files : List (List ℕ)) → Tell bytes_of names files → length names ≡ length files
 many bytes_of names files tell = sym (length-map names bytes_of) ∙ ap length tell ∙ length-map files Some
-
--- how the files of a plan in notations are read
-layouts-of : (named : List Named) (sources : List Source) →
-    flat_map (λ (s : Source). replicate s.files (layout_of s)) (map (noted_source named) sources) ≡ map (noted_layout named) (flat_map (λ (s : Source). replicate s.files (layout_of s)) sources)
-layouts-of named [] = refl
-layouts-of named (s ∷ sources) =
-    (λ i. copies s.files i ++ layouts-of named sources i)
-    ∙ sym (map-append (noted_layout named) (replicate s.files (layout_of s)) (flat_map (λ (s : Source). replicate s.files (layout_of s)) sources))
-  where
-    copies : (n : ℕ) → replicate n (layout_of (noted_source named s)) ≡ map (noted_layout named) (replicate n (layout_of s))
-    copies zero = refl
-    copies (suc n) = ap (λ rest. layout_of (noted_source named s) ∷ rest) (copies n)
-
-layouts-noted : (named : List Named) (plan : PlanData) → file_layouts (noted named plan) ≡ noted_layouts named plan
-layouts-noted named plan = layouts-of named plan.sources
 
 -- what a check of the files has answered is what it comes to
 pub review-comes : {X : Type 0} (plan read p : PlanData) (named : List Named) (n : ℕ) (files : List (List ℕ)) (r : Result X Failure) → read ≡ plan → noted_plan plan named n ≡ Ok p →

@@ -6,7 +6,7 @@ use Rattle.fq_csv.specs.Sources.{layout_of}
 use Rattle.fq_language.specs.Plan.{file_layouts}
 use Rattle.fq_language.specs.View.{source_data}
 use Rattle.fq_language.specs.declared.plans.Source.{Source}
-use Rattle.fq_messages.specs.Reviewed.{noted_layout, noted_layouts}
+use Rattle.fq_plan.specs.Noted.{noted_layout, noted_layouts}
 use Rattle.fq_messages.proofs.ReviewLemmas.{all-clean, as-many, next-clean, past-layouts}
 use Rattle.fq_messages.proofs.reviews.read_files.Goals as goal
 

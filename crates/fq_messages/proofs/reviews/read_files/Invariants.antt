@@ -2,7 +2,7 @@ use Rattle.std.proofs.Common.{◌≡◌, ℕ, List, map, take}
 use Rattle.std.specs.Prelude.{◌==◌, ◌&&◌}
 use Rattle.fq_review.specs.Checked.{are_clean}
 use Rattle.fq_run.specs.Run.{Tell}
-use Rattle.fq_messages.specs.Reviewed.{noted_layouts}
+use Rattle.fq_plan.specs.Noted.{noted_layouts}
 use Rattle.fq_messages.proofs.reviews.read_files.Given as goal
 
 abbrev pub invariant-loop-name : goal.invariant-loop-name
