@@ -99,7 +99,7 @@ fn write_replaced<E: Write>(options: &Options<'_>, err: &mut E) -> Option<()> {
 // The lists of `--decimal`.
 fn write_decimals<E: Write>(options: &Options<'_>, err: &mut E) -> Option<()> {
     for list in options.decimals() {
-        writeln!(err, "  --decimal {list}").ok()?;
+        writeln!(err, "  --decimal {}", Quoted(list.as_bytes())).ok()?;
     }
     Some(())
 }
