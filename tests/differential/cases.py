@@ -324,7 +324,8 @@ def wrong_plan_text(draw, value):
 # ---- notations
 
 UNKNOWN_NOTATIONS = [f"{UNKNOWN}=2", "a =2", "A=2"]
-WRONG_NOTATIONS = ["a", "a=", "a=0", f"a={MOST_PLACES + 1}", "a=-2", "a=2.0", "a= 2", "a=2=", "x,y=2", "a=99999999999999999999", "a=2,"]
+WRONG_NOTATIONS = ["a", "a=", "a=0", f"a={MOST_PLACES + 1}", "a=-2", "a=2.0", "a= 2", "a=2=", "a=1=2", "x,y=2",
+                   "a=99999999999999999999", "a=2,"]
 
 
 def frames_of(value):

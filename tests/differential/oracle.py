@@ -459,7 +459,6 @@ def check(plan):
 
 DATE = "date"
 MOST_PLACES = 18
-DECIMAL_FORM = f"it takes NAME=SCALE, with a scale from 1 to {MOST_PLACES}"
 
 # No number is rounded in it.
 EXACT = decimal.Context(
@@ -467,16 +466,12 @@ EXACT = decimal.Context(
 )
 
 
-class RefusedValue(Exception):
-    """A value that an option does not take; its text says so."""
-
-
 def decimal_entry(entry):
-    """The name and the scale of an entry of --decimal; the last `=` stands between them."""
-    name, _, digits = entry.rpartition("=")
+    """The name and the scale of an entry of --decimal; its first `=` stands between them."""
+    name, _, digits = entry.partition("=")
     scale = re.fullmatch("[+-]?0*([0-9]{1,2})", digits) if "=" in entry else None
     if not scale or digits.startswith("-") or not 1 <= int(scale[1]) <= MOST_PLACES:
-        raise RefusedValue(f"invalid value '{entry}' for '--decimal <NAME=SCALE>': {DECIMAL_FORM}")
+        raise Ending(2, f"--decimal takes NAME=SCALE, with a scale from 1 to {MOST_PLACES}")
     return name, int(scale[1])
 
 
@@ -905,8 +900,6 @@ def answer(plan_text, files, arguments=()):
     --decimal and --date, pairs of the option and its value."""
     try:
         return Answer(0, output_of(plan_text, files, entries_of(arguments)), b"")
-    except RefusedValue as refusal:
-        return Answer(2, b"", f"error: {refusal}\n\nFor more information, try '--help'.\n".encode())
     except Ending as ending:
         return Answer(ending.status, b"", f"frameq: {ending.line}\n".encode())
 
