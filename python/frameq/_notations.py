@@ -5,6 +5,9 @@ from ._faults import UnsupportedError
 from ._kinds import ColumnKind, Decimal, Kind, Notations, Schema
 
 _RESULT = "the result"
+# what the name of a column does not have where an argument names it
+_NOT_IN_DATES = {",": "a comma", "\0": "a character 0"}
+_NOT_IN_DECIMALS = {**_NOT_IN_DATES, "=": "an equals sign"}
 
 
 def notations_of(sources: Iterable[Mapping[str, ColumnKind]], result: Schema) -> Notations:
@@ -45,12 +48,13 @@ def words_of_run(notations: Notations, plan: Dict[str, Any], result: Mapping[str
 
 def words_of(notations: Notations) -> List[str]:
     """The arguments that say how these columns are written."""
-    for name in notations:
-        if "," in name or "\0" in name:
-            raise UnsupportedError(
-                f"the column {name!r} is a {notations[name]!r}, and no argument can say so, since its name has a comma, or a character 0: "
-                "give it another name in its files, or a column of the result by alias"
-            )
+    for name, kind in notations.items():
+        for character, what in (_NOT_IN_DECIMALS if isinstance(kind, Decimal) else _NOT_IN_DATES).items():
+            if character in name:
+                raise UnsupportedError(
+                    f"the column {name!r} is a {kind!r}, and no argument can say so, since its name has {what}: "
+                    "give it another name in its files, or a column of the result by alias"
+                )
     decimals = [f"{name}={kind.scale}" for name, kind in notations.items() if isinstance(kind, Decimal)]
     dates = [name for name, kind in notations.items() if not isinstance(kind, Decimal)]
     return [f"{word}={','.join(names)}" for word, names in (("--decimal", decimals), ("--date", dates)) if names]
