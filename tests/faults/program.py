@@ -70,6 +70,15 @@ ROWS = [
         ["v\n" + "12345\n" * 5000], frame("v,s\n" + "12345,12345\n" * 5000), ("--batch", "2048")),
     Row("no such column", plan([source(1, "id int")], OVER_TEN), ["id\n1\n"], fault(3, "plan: step 0: no such column")),
     Row("standard input", plan([source(1, "id int", "v int")], OVER_TEN), ["id,v\n1,5\n2,\n3,20\n"], frame("id,v\n3,20\n"), None),
+    Row("amounts and dates", plan([source(2, "day int", "v int")], '{"with_columns":[["w",["mul",{"col":"v"},2]]]}'),
+        ["day,v\n2024-02-29,1.5\n", "day,v\n,-.05\n"], frame("day,v,w\n2024-02-29,1.50,3.00\n,-0.05,-0.10\n"),
+        ("--decimal", "v=2", "--date", "day", "--decimal", "w=2")),
+    Row("an amount of too many places", plan([source(1, "v int")], ""), ["v\n1.5\n1.25\n"], fault(4, "file 0, row 2, column 0: bad cell"),
+        ("--decimal", "v=1")),
+    Row("no scale", plan([source(1, "v int")], ""), ["v\n1.5\n"], fault(2, "--decimal takes NAME=SCALE, with a scale from 1 to 18"),
+        ("--decimal", "v=2,v")),
+    Row("two ways to write a name", plan([source(1, "v int")], ""), ["v\n1.5\n"], fault(2, "--decimal, --date: a name stands twice"),
+        ("--decimal", "v=2", "--date", "v")),
     Row("a bad cell on standard input", plan([source(1, "x int")], ""), ["x\n9223372036854775808\n"],
         fault(4, "file 0, row 1, column 0: bad cell"), None),
 ]
@@ -78,7 +87,7 @@ ROWS = [
 ARGUMENTS = [(0, "--help"), (2, "--nope"), (2, "--plan"), (2, "--plan", "p", "--workers", "17", "a"),
              (2, "--plan", "p", "--batch", "x", "a")]
 
-# Plans and files that fault, the status, the line, and what --details says after it, of the plan P and the file F.
+# Plans and files that fault, the status, the line, and what --details says after it, of the plan P and the file F; then other options.
 DETAILS = [
     ("a bad cell", plan([source(1, "x int")], ""), "x\n\n1\nz\n", 4, "file 0, row 2, column 0: bad cell",
         '  F:4: column "x": "z" is not an int\n'),
@@ -90,6 +99,12 @@ DETAILS = [
     ("a shape", '{"version":1,"sources":[],"steps":[]}', "", 3, "plan: wrong shape",
         "  P: sources: [] has no source; a plan has at least one\n"),
     ("a column", plan([source(1, "x int")], OVER_TEN), "", 3, "plan: step 0: no such column", '  "v"; there are "x"\n'),
+    ("an amount", plan([source(1, "x int")], ""), "x\n1.5\n1.25\n", 4, "file 0, row 2, column 0: bad cell",
+        '  F:3: column "x": "1.25" is not a decimal of at most 1 place\n', "--decimal", "x=1"),
+    ("a scale", plan([source(1, "x int")], ""), "x\n", 2, "--decimal takes NAME=SCALE, with a scale from 1 to 18",
+        "  --decimal x=2,y\n", "--decimal", "x=2,y"),
+    ("a name", plan([source(1, "x int", "t text")], ""), "x,t\n", 2, "--decimal, --date: no such int column",
+        '  "t" is no int column\n  source 0: "x"\n  the frame: "x"\n', "--decimal", "x=2", "--date", "t"),
 ]
 
 
@@ -106,6 +121,9 @@ REVIEWS = [
         'F:7: column "x": "z" is not an int\n'
         '2 bad fields. "x": "z" 2\n1 row of another width\n1 flaw of quotes or line ends\n'),
     ("a check that finds nothing", ("--plan", "P", "--check", "F"), X_INT, "x\n1\n\n2\n", frame(""), ""),
+    ("a check of dates", ("--plan", "P", "--date", "x", "--check", "F"), X_INT, "x\n2024-02-29\n2023-02-29\n",
+        fault(4, "the files have problems"),
+        'F:3: column "x": "2023-02-29" is not a date, YYYY-MM-DD\n1 bad field. "x": "2023-02-29" 1\n'),
     ("a draft", ("--draft", "F"), X_INT, "x\n" + "1\n" * 20 + "a longer text than others\n2,3\n", frame(DRAFTED),
         '"x" is text: 20 ints, 1 other (first "a longer text than others", line 22)\nF:23: a row of another width is left out\n'),
 ]
@@ -278,13 +296,14 @@ def with_names(text, paths):
 class Detailed:
     """A run with --details, in a folder of its own. Of its answer, what follows the line of the fault, or a part of that, is cut off."""
 
-    def __init__(self, program, folder, own_plan, rows, details):
+    def __init__(self, program, folder, own_plan, rows, details, options):
         os.mkdir(folder)
-        self.program, self.plan, self.file = program, write(f"{folder}/plan.json", own_plan), write(f"{folder}/rows.csv", rows)
-        self.details = with_names(details, {"P": self.plan, "F": self.file})
+        paths = {"P": write(f"{folder}/plan.json", own_plan), "F": write(f"{folder}/rows.csv", rows)}
+        self.program, self.arguments = program, ["--details", *options, "--plan", paths["P"], paths["F"]]
+        self.details = with_names(details, paths)
 
     def whole(self, **how):
-        return self.program.run(["--details", "--plan", self.plan, self.file], **how)
+        return self.program.run(self.arguments, **how)
 
     def __call__(self, **how):
         answer = self.whole(**how)
@@ -331,8 +350,8 @@ def try_reviews(count, pool, program, library, room):
 def try_details(count, pool, program, library, room):
     """What --details says, and that a call that is refused changes nothing of the answer but that."""
     runs = []
-    for name, own_plan, rows, status, line, details in DETAILS:
-        run, own = Detailed(program, f"{room}/details-{name.replace(' ', '-')}", own_plan, rows, details), fault(status, line)
+    for name, own_plan, rows, status, line, details, *options in DETAILS:
+        run, own = Detailed(program, f"{room}/details-{name.replace(' ', '-')}", own_plan, rows, details, options), fault(status, line)
         answer = run.whole()
         is_right = answer == own._replace(err=own.err + run.details)
         count.add("program, details", f"status {status}", None if is_right else f"{name}: {answer}")
@@ -411,7 +430,8 @@ def try_random_case(count, program, library, room, case, own, draw):
     for path, data in zip(paths, (case.plan, *case.files)):
         with open(path, "wb") as file:
             file.write(data)
-    arguments = ["--batch", str(case.batch), "--workers", str(case.workers), "--plan", *paths]
+    notations = [word for pair in case.notations for word in pair]
+    arguments = ["--batch", str(case.batch), "--workers", str(case.workers), *notations, "--plan", *paths]
     for _ in range(RUNS_OF_A_CASE):
         sort = draw.choice(("memory",) * 4 + SORTS)
         number = draw.randint(1, 300 if sort == "memory" else 12)
@@ -423,8 +443,8 @@ def try_random(count, pool, program, library, room):
     text = lambda them: them.decode(errors="replace")
     jobs = []
     for number in range(RANDOM_CASES):
-        case = cases.case(SEED, number)
-        wanted = oracle.answer(case.plan, case.files)
+        case = cases.case(SEED, number, noted=40)
+        wanted = oracle.answer(case.plan, case.files, case.notations)
         own = Answer(wanted.status, text(wanted.output), text(wanted.error))
         jobs.append((try_random_case, count, program, library, f"{room}/case {number}", case, own, random.Random(number)))
     together(jobs, pool)
