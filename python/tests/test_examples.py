@@ -1,4 +1,5 @@
 """Each example, written by the calls of the package: the same plan, the same bytes."""
+import datetime
 import json
 import os
 import shlex
@@ -9,7 +10,7 @@ from repository import ROOT, fq, program
 
 EXAMPLES = os.path.join(ROOT, "examples")
 C, LIT = fq.col, fq.lit
-TEXT, INT, BOOL = fq.String, fq.Int64, fq.Boolean
+TEXT, INT, BOOL, DATE, AMOUNT = fq.String, fq.Int64, fq.Boolean, fq.Date, fq.Decimal(scale=2)
 
 CUSTOMERS = {"customer": INT, "total": INT, "name": TEXT}
 TOTALS = {"customer": INT, "total": INT}
@@ -51,6 +52,17 @@ def change():
 
 # Each example's frame, from its files in the order of the command line.
 FRAMES = {
+    "monthly_revenue": lambda *f: (
+        scan(f, {"invoice": INT, "day": DATE, "customer": TEXT, "amount": AMOUNT})
+        .with_columns(month=C("day") // 100)
+        .group_by("month")
+        .agg(invoices=fq.len(), revenue=C("amount").sum(), largest=C("amount").max(), last_day=C("day").max())
+    ),
+    "guide/amounts_and_dates": lambda *f: (
+        scan(f, {"day": DATE, "item": TEXT, "price": AMOUNT, "units": INT})
+        .filter((C("day") >= datetime.date(2024, 2, 1)) & (C("price") >= 10))
+        .with_columns(C("day").dt.month().alias("month"), (C("price") * C("units")).alias("total"))
+    ),
     "bad_cell": lambda *f: scan(f, {"sensor": TEXT, "reading": INT}).group_by("sensor").agg(total=C("reading").sum()),
     "dirty_export": lambda countries, *weeks: (
         scan(weeks, {"day": TEXT, "code": TEXT, "units": INT, "returned": BOOL}, ["NULL", "N/A", "-", "unknown"])
@@ -280,7 +292,7 @@ class Examples(unittest.TestCase):
 
     def frame(self, name):
         words = shlex.split(read(name, "command").decode())
-        return FRAMES[name](*(os.path.join(EXAMPLES, name, file) for file in words[3:]))
+        return FRAMES[name](*(os.path.join(EXAMPLES, name, word) for word in words if word.endswith(".csv")))
 
     def test_all_are_here(self):
         """No example is left out."""
