@@ -1,5 +1,6 @@
-"""Each example, written by the calls of the package: the same plan, the same bytes."""
+"""Each example, written by the calls of the package: the same plan, the same arguments, the same bytes."""
 import datetime
+import decimal
 import json
 import os
 import shlex
@@ -52,17 +53,6 @@ def change():
 
 # Each example's frame, from its files in the order of the command line.
 FRAMES = {
-    "monthly_revenue": lambda *f: (
-        scan(f, {"invoice": INT, "day": DATE, "customer": TEXT, "amount": AMOUNT})
-        .with_columns(month=C("day") // 100)
-        .group_by("month")
-        .agg(invoices=fq.len(), revenue=C("amount").sum(), largest=C("amount").max(), last_day=C("day").max())
-    ),
-    "guide/amounts_and_dates": lambda *f: (
-        scan(f, {"day": DATE, "item": TEXT, "price": AMOUNT, "units": INT})
-        .filter((C("day") >= datetime.date(2024, 2, 1)) & (C("price") >= 10))
-        .with_columns(C("day").dt.month().alias("month"), (C("price") * C("units")).alias("total"))
-    ),
     "bad_cell": lambda *f: scan(f, {"sensor": TEXT, "reading": INT}).group_by("sensor").agg(total=C("reading").sum()),
     "dirty_export": lambda countries, *weeks: (
         scan(weeks, {"day": TEXT, "code": TEXT, "units": INT, "returned": BOOL}, ["NULL", "N/A", "-", "unknown"])
@@ -91,6 +81,17 @@ FRAMES = {
             C("reading").sum().alias("total"),
             C("reading").min().alias("lowest"),
             C("high").last().alias("last_high"),
+        )
+    ),
+    "monthly_revenue": lambda *f: (
+        scan(f, {"invoice": INT, "day": DATE, "customer": TEXT, "amount": AMOUNT})
+        .with_columns(month=C("day") // 100)
+        .group_by("month")
+        .agg(
+            fq.len().alias("invoices"),
+            C("amount").sum().alias("revenue"),
+            C("amount").max().alias("largest"),
+            C("day").max().alias("last_day"),
         )
     ),
     "monthly_sales": lambda *f: (
@@ -195,6 +196,11 @@ FRAMES = {
         .group_by("user")
         .agg(fq.len().alias("events"), C("day").min().alias("first_day"), C("day").max().alias("last_day"))
     ),
+    "guide/amounts_and_dates": lambda *f: (
+        scan(f, {"day": DATE, "item": TEXT, "price": AMOUNT, "units": INT})
+        .filter((C("day") >= datetime.date(2024, 2, 1)) & (C("price") >= 10))
+        .with_columns(C("day").dt.month().alias("month"), (C("price") * C("units")).alias("total"))
+    ),
     "guide/anti_join": lambda blocked, *f: scan(f, ORDERS).join(scan([blocked], BLOCKED), on="customer", how="anti"),
     "guide/semi_join": lambda blocked, *f: scan(f, ORDERS).join(scan([blocked], BLOCKED), on="customer", how="semi"),
     "guide/inner_join": lambda customers, *f: scan(f, TOTALS).join(scan([customers], CUSTOMERS), on="customer"),
@@ -287,12 +293,21 @@ def read(*path):
         return file.read()
 
 
+def words_of(name):
+    """The words of an example's command behind its plan: those of `--decimal` and of `--date`, and its files."""
+    words, options = shlex.split(read(name, "command").decode())[3:], {"--decimal": [], "--date": []}
+    while words[0] in options:
+        option, entries, *words = words
+        options[option] += entries.split(",")
+    return options, words
+
+
 class Examples(unittest.TestCase):
     """The frames of the examples."""
 
     def frame(self, name):
-        words = shlex.split(read(name, "command").decode())
-        return FRAMES[name](*(os.path.join(EXAMPLES, name, word) for word in words if word.endswith(".csv")))
+        _, files = words_of(name)
+        return FRAMES[name](*(os.path.join(EXAMPLES, name, file) for file in files))
 
     def test_all_are_here(self):
         """No example is left out."""
@@ -304,6 +319,22 @@ class Examples(unittest.TestCase):
         for name in FRAMES:
             with self.subTest(name):
                 self.assertEqual(self.frame(name).plan(), json.loads(read(name, "plan.json")))
+
+    def test_notations(self):
+        """The decimals and the dates of each are those of its command."""
+        for name in FRAMES:
+            options, _ = words_of(name)
+            with self.subTest(name):
+                notations = self.frame(name).notations()
+                decimals = {f"{column}={kind.scale}" for column, kind in notations.items() if kind != DATE}
+                self.assertEqual(decimals, {*options["--decimal"]})
+                self.assertEqual({column for column, kind in notations.items() if kind == DATE}, {*options["--date"]})
+
+    def test_values(self):
+        """Amounts and days are values of Python."""
+        result = self.frame("monthly_revenue").collect(program=program())
+        amounts = [decimal.Decimal(it) for it in ("1339.90", "1250.00")]
+        self.assertEqual(result.rows()[0], (202311, 2, *amounts, datetime.date(2023, 11, 28)))
 
     def test_results(self):
         """What each writes or raises is what its folder has."""
