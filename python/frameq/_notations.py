@@ -5,9 +5,9 @@ from ._faults import UnsupportedError
 from ._kinds import ColumnKind, Decimal, Kind, Notations, Schema
 
 _RESULT = "the result"
-# what the name of a column does not have where an argument names it
-_NOT_IN_DATES = {",": "a comma", "\0": "a character 0"}
-_NOT_IN_DECIMALS = {**_NOT_IN_DATES, "=": "an equals sign"}
+
+# What no name of an argument can have. An entry of `--decimal` has its name before its first `=`, and one of `--date` is all name.
+_UNSAID = {",": "a comma", "\0": "a character 0", "=": "an equals sign"}
 
 
 def notations_of(sources: Iterable[Mapping[str, ColumnKind]], result: Schema) -> Notations:
@@ -49,8 +49,8 @@ def words_of_run(notations: Notations, plan: Dict[str, Any], result: Mapping[str
 def words_of(notations: Notations) -> List[str]:
     """The arguments that say how these columns are written."""
     for name, kind in notations.items():
-        for character, what in (_NOT_IN_DECIMALS if isinstance(kind, Decimal) else _NOT_IN_DATES).items():
-            if character in name:
+        for mark, what in _UNSAID.items():
+            if mark in name and (mark != "=" or isinstance(kind, Decimal)):
                 raise UnsupportedError(
                     f"the column {name!r} is a {kind!r}, and no argument can say so, since its name has {what}: "
                     "give it another name in its files, or a column of the result by alias"

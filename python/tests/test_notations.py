@@ -300,18 +300,24 @@ class Arguments(unittest.TestCase):
 
     def test_names(self):
         """A name has what an argument can have, and is no option."""
-        lazy = frame(**{"-x": DATE, "a=b": DATE, "": D2, "é\n": D4})
-        self.assertEqual(self.words(lambda: lazy.explain(program=self.program))[2:], ["--decimal==2,é", "=4", "--date=-x,a=b"])
-        for name in ("a,b", "a\0b", "a=b", "="):
-            lazy = frame(**{name: D2, "n": INT})
+        lazy = frame(**{"-x": DATE, "a=b": DATE, "": DATE, "-y": D2, "é\n": D4})
+        self.assertEqual(self.words(lambda: lazy.explain(program=self.program))[2:], ["--decimal=-y=2,é", "=4", "--date=-x,a=b,"])
+        self.assertEqual(self.words(lambda: frame(**{"": D2}).explain(program=self.program))[2:], ["--decimal==2"])
+        for name, kind, what in [
+            ("a,b", D2, "a comma"), ("a,b", DATE, "a comma"), ("a\0b", D2, "a character 0"), ("a\0b", DATE, "a character 0"),
+            ("a=b", D2, "an equals sign"), ("=", D4, "an equals sign"),
+        ]:
+            lazy = frame(**{name: kind, "n": INT})
             self.assertEqual(steps(lazy.select("n")), [{"select": [["n", N]]}])
+            said = f"its name has {what}: give it another name in its files"
             for call in (
                 lambda lazy: lazy.collect(program=self.program),
                 lambda lazy: lazy.explain(program=self.program),
                 lambda lazy: lazy.sink_csv("x", program=self.program),
                 lambda lazy: lazy.collect(program=self.program, executor=ThreadPoolExecutor(1)),
+                lambda lazy: fq.run_plan(lazy.plan(), lazy.files(), notations=lazy.notations(), program=self.program),
             ):
-                with self.subTest(name), self.assertRaisesRegex(fq.UnsupportedError, "give it another name in its files"):
+                with self.subTest((name, kind)), self.assertRaisesRegex(fq.UnsupportedError, said):
                     call(lazy)
 
     def test_two_notations(self):
@@ -458,6 +464,16 @@ class Runs(unittest.TestCase):
             lazy = self.scan("a\n1\n", a=INT)
             fq.run_plan(lazy.plan(), lazy.files(), notations={"b": D2}, program=self.program)
 
+    def test_names(self):
+        """The program reads each name as it is meant."""
+        names = {"-x": DATE, "a=b": DATE, "": DATE, " s ": D2, "é\n": D4, '"q"': D2, "-": D2}
+        text = '-x,a=b,, s ,"é\n","""q""",-\n2024-03-05,2024-03-06,2024-03-07,1.50,2.0000,3.00,4.00\n'
+        lazy = self.scan(text, **names)
+        self.assertEqual(lazy.collect(program=self.program).rows()[0][2:4], (datetime.date(2024, 3, 7), Decimal("1.50")))
+        self.assertEqual(self.same(lazy), text)
+        lazy = self.scan(",n\n1.5,2\n", **{"": D2, "n": INT}).select("", m=C("n") + 1)
+        self.assertEqual(self.same(lazy), ",m\n1.50,3\n")
+
     def test_no_day(self):
         """A column of a plan that is named a date, and has an int that is no day."""
         lazy = self.scan("n\n20240231\n20240229\n", n=INT).select(day="n")
@@ -525,6 +541,9 @@ class Queries(unittest.TestCase):
         script = lazy.sql_setup()
         self.assertIn('"a" DECIMAL(19, 2),\n  "d" DATE,\n', script)
         self.assertIn("frameq --details --decimal=a=2 --date=d --plan - main.csv", script)
+        self.assertIn("frameq --details --date=a=b --plan - main.csv", frame(**{"a=b": DATE}).sql_setup())
+        with self.assertRaisesRegex(fq.UnsupportedError, "its name has an equals sign"):
+            frame(**{"a=b": D2}).sql_setup()
 
 
 if __name__ == "__main__":
