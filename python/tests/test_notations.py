@@ -460,9 +460,17 @@ class Runs(unittest.TestCase):
             self.assertEqual((raised.exception.row, raised.exception.column), (1, column))
         with self.assertRaises(fq.OverflowError):
             self.scan("a\n92233720368547758.07\n", a=D2).select(b=C("a") + Decimal("0.01")).collect(program=self.program)
-        with self.assertRaises(fq.ArgumentsError):
-            lazy = self.scan("a\n1\n", a=INT)
-            fq.run_plan(lazy.plan(), lazy.files(), notations={"b": D2}, program=self.program)
+
+    def test_refused_names(self):
+        """A notation of a name that is no int column."""
+        lazy = self.scan("a,t\n1,x\n", a=INT, t=TEXT)
+        for name in ("b", "t"):
+            with self.subTest(name), self.assertRaises(fq.ArgumentsError) as raised:
+                fq.run_plan(lazy.plan(), lazy.files(), notations={name: D2}, program=self.program)
+            error, details = raised.exception, (f'"{name}" is no int column', 'source 0: "a"', 'the frame: "a"')
+            self.assertEqual((error.status, error.line), (2, "frameq: --decimal, --date: no such int column"))
+            self.assertEqual(error.details, details)
+            self.assertEqual(str(error), "\n  ".join(["--decimal, --date: no such int column", *details]))
 
     def test_names(self):
         """The program reads each name as it is meant."""
