@@ -336,7 +336,8 @@ class Chain:
         kind = INT if function in NUMERIC else inner.kind
 
         def values(rows, places):
-            return aggregated(function, [inner.value(rows, place) for place in places], kind)
+            # (a number of rows has none of their values computed, so none is past 64 bits)
+            return len(places) if function == "len" else aggregated(function, [inner.value(rows, place) for place in places], kind)
 
         if function == "mean":
             if not isinstance(kind, fq.Decimal):
@@ -356,7 +357,7 @@ def aggregated(function, values, kind):
         return {"min": min, "max": max}[function](present) if present else None
     if function in ("sum", "mean"):
         return at_scale(fitted(total(present), scale_of(kind)), kind)
-    return {"len": len(values), "count": len(present), "n_unique": len(set(values))}[function]
+    return {"count": len(present), "n_unique": len(set(values))}[function]
 
 
 # ---- random files
