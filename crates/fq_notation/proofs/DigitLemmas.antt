@@ -8,7 +8,7 @@ use Rattle.std.proofs.lemmas.Bool.{and_from, cases_Bool, lt-ltb}
 use Rattle.std.proofs.lemmas.Str.{digit_value_digit}
 use Rattle.std.proofs.lemmas.Str.Parse.{digits_value_short, numerals_by_value, tells_all_ascii_digits, IsNumeralModel}
 use Rattle.fq_column.specs.Cell.{fits}
-use Rattle.fq_notation.specs.Digits.{after_digits, is_numeral, leading_digits, whole_of}
+use Rattle.fq_notation.specs.Digits.{after_digits, is_numeral, leading_digits, signed, whole_of}
 
 -- more digits make no number less
 pub grows : (n : ℕ) (ds : List ℕ) → n ≤ digits_value_after 10 n ds
@@ -116,19 +116,20 @@ few-after ds xs a l =
 
 -- ---- whole numbers
 
+-- a number below 10 ^ 18 with its sign
+pub fits-few : (is_negative : Bool) (n : ℕ) → n < 10 ^ 18 → fits (signed is_negative n) ≡ true
+fits-few true zero l = refl
+fits-few true (suc k) l = lt-ltb k (2 ^ 63) (omega (arith, l))
+fits-few false n l = lt-ltb n (2 ^ 63) (omega (arith, l))
+
 -- a sign and digits that write a number below 10 ^ 18
 pub few-whole : (field : List ℕ) (is_negative : Bool) (digits : List ℕ) (n : ℕ) → is_negative ≡ starts_with_minus field → digits ≡ without_leading_sign field
-    → (length digits ≡ 0 → ⊥) → all_ascii_digits digits ≡ true → n ≡ digits_value 10 digits → n < 10 ^ 18 → Some (cond is_negative (neg_ℤ (pos n)) (pos n)) ≡ whole_of field
+    → (length digits ≡ 0 → ⊥) → all_ascii_digits digits ≡ true → n ≡ digits_value 10 digits → n < 10 ^ 18 → Some (signed is_negative n) ≡ whole_of field
 few-whole field is_negative digits n minus same some all value few =
     let v = fits-few (starts_with_minus field) n few in
     let numeral = numeral-of digits some all in
     rw (minus, sym (value ∙ ap (digits_value 10) same), rw same at numeral) (rw v refl)
   where
-    fits-few : (is_negative : Bool) (n : ℕ) → n < 10 ^ 18 → fits (cond is_negative (neg_ℤ (pos n)) (pos n)) ≡ true
-    fits-few true zero l = refl
-    fits-few true (suc k) l = lt-ltb k (2 ^ 63) (omega (arith, l))
-    fits-few false n l = lt-ltb n (2 ^ 63) (omega (arith, l))
-
     numeral-of : (ds : List ℕ) → (length ds ≡ 0 → ⊥) → all_ascii_digits ds ≡ true → is_numeral ds ≡ true
     numeral-of [] some all = absurd (some refl)
     numeral-of (c ∷ cs) some all = all

@@ -1,16 +1,16 @@
 //! Numbers with a decimal point.
-ghost use Rattle.std.specs.Prelude.{◌≡◌, ◌^◌, ◌<◌, ◌≤◌, ◌*◌, ◌-◌, ◌==◌, ◌++◌, IfSome, IfNone, drop, length, replicate, take, true};
+ghost use Rattle.std.specs.Prelude.{◌≡◌, ◌^◌, ◌<◌, ◌≤◌, ◌*◌, ◌-◌, ◌==◌, ◌++◌, if◌then◌else◌, IfSome, IfNone, None, Some, drop, false, length, replicate, take, true};
 ghost use Rattle.std.specs.Char.{is_ascii_digit};
 ghost use Rattle.std.specs.List.{list_all, list_any};
 ghost use Rattle.std.specs.Option.{SomeIff};
 ghost use Rattle.std.specs.Str.{all_ascii_digits};
 ghost use Rattle.std.specs.Str.Parse.{digits_value, digits_value_after};
 ghost use Rattle.arrayvec.specs.ArrayVec.{array_vec_len};
+ghost use Rattle.fq_column.specs.Cell.{fits};
+ghost use Rattle.fq_notation.specs.Digits.{signed};
 ghost use Rattle.fq_notation.specs.Decimals.{are_places, before_point, decimal_of, decimal_text, is_decimal, places, scaled, scaled_text};
 
-use crate::digits::{
-    FEW_DIGITS, digits_after, few_digits_after, number_after, split_sign, with_sign,
-};
+use crate::digits::{FEW_DIGITS, digits_after, few_with_sign, number_after, split_sign, with_sign};
 use crate::scales::Scale;
 use crate::texts::{IntText, push_all};
 use arrayvec::ArrayVec;
@@ -50,46 +50,44 @@ pub fn decimal(field: &[u8], scale: Scale) -> Option<i64>
     ensures { result ≡ decimal_of scale field.now }
 {
     let (is_negative, number) = split_sign(field);
-    with_sign(is_negative, scaled(number, scale)?)
-}
-
-/// The number without its sign, times 10^scale.
-#[inline]
-fn scaled(number: &[u8], scale: Scale) -> Option<u64>
-    ensures decimal { IfSome result (λ n. (is_decimal scale number.now ≡ true) × (n ≡ scaled scale number.now)) }
-    ensures other { IfNone result (is_decimal scale number.now ≡ true → 2 ^ 63 < scaled scale number.now) }
-{
-    match short_scaled(number, scale) {
-        Some(scaled) => Some(scaled),
-        None => long_scaled(number, scale),
+    match short_decimal(is_negative, number, scale) {
+        Some(value) => Some(value),
+        None => long_decimal(is_negative, number, scale),
     }
 }
 
-/// The same of the usual decimals: few bytes, and no more places than the scale has. `None` says nothing.
+/// The int of the usual decimals, by their sign and the number behind it: few bytes, and no more places than the scale has. `None` says
+/// nothing.
 #[inline]
-fn short_scaled(number: &[u8], scale: Scale) -> Option<u64>
-    ensures { IfSome result (λ n. (is_decimal scale number.now ≡ true) × (n ≡ scaled scale number.now)) }
+fn short_decimal(is_negative: bool, number: &[u8], scale: Scale) -> Option<i64>
+    ensures { IfSome result (λ z. (is_decimal scale number.now ≡ true) × (fits (signed is_negative (scaled scale number.now)) ≡ true) × (z ≡ signed is_negative (scaled scale number.now))) }
 {
     if number.len() > FEW_DIGITS {
         return None;
     }
-    if !has_digit(number) {
-        return None;
-    }
-    let (whole, places) = short_point(number)?;
+    let (digits, places) = digits_and_places(number)?;
     let most = scale.places();
-    if places.len() > most {
-        return None;
+    match places {
+        Some(places) if places == most => Some(few_with_sign(is_negative, digits)),
+        Some(places) if places < most && number.len() > 1 => {
+            with_sign(is_negative, times_power(digits, most - places)?)
+        }
+        None if !number.is_empty() => with_sign(is_negative, times_power(digits, most)?),
+        _ => None,
     }
-    let (digits, rest) = few_digits_after(whole, places);
-    if !rest.is_empty() {
-        return None;
-    }
-    times_power(digits, most - places.len())
 }
 
 /// The same of any decimal.
 #[cold]
+fn long_decimal(is_negative: bool, number: &[u8], scale: Scale) -> Option<i64>
+    ensures decimal { IfSome result (λ z. (is_decimal scale number.now ≡ true) × (fits (signed is_negative (scaled scale number.now)) ≡ true) × (z ≡ signed is_negative (scaled scale number.now))) }
+    ensures other { IfNone result (is_decimal scale number.now ≡ true → fits (signed is_negative (scaled scale number.now)) ≡ false) }
+{
+    with_sign(is_negative, long_scaled(number, scale)?)
+}
+
+/// The number without its sign, times 10^scale, of any decimal.
+#[inline]
 fn long_scaled(number: &[u8], scale: Scale) -> Option<u64>
     ensures decimal { IfSome result (λ n. (is_decimal scale number.now ≡ true) × (n ≡ scaled scale number.now)) }
     ensures other { IfNone result (is_decimal scale number.now ≡ true → 2 ^ 63 < scaled scale number.now) }
@@ -109,19 +107,30 @@ fn has_digit(text: &[u8]) -> bool
     text.iter().any(|byte| byte.is_ascii_digit())
 }
 
-/// The number that stands before the first point of few bytes, and the places behind that point.
+/// The digits of few bytes as one number, and how many of them are behind the point, if there is one. `None` if there is a byte but digits and
+/// one point.
 #[inline]
-fn short_point(number: &[u8]) -> Option<(u64, &[u8])>
+fn digits_and_places(number: &[u8]) -> Option<(u64, Option<usize>)>
     requires { length number.now ≤ 18 }
-    ensures digits { IfSome result (λ r. (all_ascii_digits (before_point number.now) ≡ true) × (r.0 ≡ digits_value 10 (before_point number.now))) }
-    ensures places { IfSome result (λ r. r.1.now ≡ places number.now) }
+    ensures form { IfSome result (λ r. all_ascii_digits (before_point number.now ++ places number.now) ≡ true) }
+    ensures digits { IfSome result (λ r. r.0 ≡ digits_value 10 (before_point number.now ++ places number.now)) }
+    ensures places { IfSome result (λ r. r.1 ≡ (if list_any (λ c. c == 46) number.now then Some (length (places number.now)) else None)) }
+    ensures few { IfSome result (λ r. r.0 < 10 ^ 18) }
 {
-    let (whole, rest) = few_digits_after(0, number);
-    match rest {
-        [] => Some((whole, rest)),
-        [b'.', places @ ..] => Some((whole, places)),
-        _ => None,
+    let mut digits = 0;
+    let mut places = None;
+    let mut rest = number;
+    while let [byte, tail @ ..] = rest {
+        if byte.is_ascii_digit() {
+            digits = digits * 10 + u64::from(*byte - b'0');
+        } else if *byte == b'.' && places.is_none() {
+            places = Some(tail.len());
+        } else {
+            return None;
+        }
+        rest = tail;
     }
+    Some((digits, places))
 }
 
 /// The number that stands before the first point, and the places behind that point.

@@ -28,8 +28,7 @@ pub fn whole(field: &[u8]) -> Option<i64>
     if !rest.is_empty() {
         return None;
     }
-    let number = number.cast_signed();
-    Some(if is_negative { -number } else { number })
+    Some(few_with_sign(is_negative, number))
 }
 
 /// Whether a field begins with a minus, and the field without its sign.
@@ -92,6 +91,17 @@ pub fn number_after(number: u64, digits: &[u8]) -> Option<u64>
 {
     let (number, rest) = digits_after(number, digits)?;
     if rest.is_empty() { Some(number) } else { None }
+}
+
+/// A number of few digits with its sign.
+#[inline]
+pub fn few_with_sign(is_negative: bool, number: u64) -> i64
+    requires { number < 10 ^ 18 }
+    ensures value { result ≡ signed is_negative number }
+    ensures range { fits (signed is_negative number) ≡ true }
+{
+    let number = number.cast_signed();
+    if is_negative { -number } else { number }
 }
 
 /// A number with its sign, if it lies within 64 bits.
