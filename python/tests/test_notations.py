@@ -462,12 +462,12 @@ class Runs(unittest.TestCase):
             self.scan("a\n92233720368547758.07\n", a=D2).select(b=C("a") + Decimal("0.01")).collect(program=self.program)
 
     def test_refused_names(self):
-        """A notation of a name that is no int column."""
+        """A notation of a name that is not an int column."""
         lazy = self.scan("a,t\n1,x\n", a=INT, t=TEXT)
         for name in ("b", "t"):
             with self.subTest(name), self.assertRaises(fq.ArgumentsError) as raised:
                 fq.run_plan(lazy.plan(), lazy.files(), notations={name: D2}, program=self.program)
-            error, details = raised.exception, (f'"{name}" is no int column', 'source 0: "a"', 'the frame: "a"')
+            error, details = raised.exception, (f'"{name}" is not an int column', 'source 0: "a"', 'the frame: "a"')
             self.assertEqual((error.status, error.line), (2, "frameq: --decimal, --date: no such int column"))
             self.assertEqual(error.details, details)
             self.assertEqual(str(error), "\n  ".join(["--decimal, --date: no such int column", *details]))

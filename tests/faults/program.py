@@ -104,7 +104,7 @@ DETAILS = [
     ("a scale", plan([source(1, "x int")], ""), "x\n", 2, "--decimal takes NAME=SCALE, with a scale from 1 to 18",
         "  --decimal \"x=2,y\"\n", "--decimal", "x=2,y"),
     ("a name", plan([source(1, "x int", "t text")], ""), "x,t\n", 2, "--decimal, --date: no such int column",
-        '  "t" is no int column\n  source 0: "x"\n  the frame: "x"\n', "--decimal", "x=2", "--date", "t"),
+        '  "t" is not an int column\n  source 0: "x"\n  the frame: "x"\n', "--decimal", "x=2", "--date", "t"),
 ]
 
 

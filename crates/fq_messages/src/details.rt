@@ -121,7 +121,7 @@ fn write_notation<E: Write>(
         }
         NotationFault::NoColumn(place) => {
             let name = Quoted(named.entries().get(place)?.0.as_bytes());
-            writeln!(err, "  {name} is no int column").ok()?;
+            writeln!(err, "  {name} is not an int column").ok()?;
             write_ints(alloc, text, err)
         }
     }

@@ -28,7 +28,7 @@ pub enum Failure {
     /// The frame would take the place of the plan file.
     #[error("the frame would replace the plan")]
     PlanReplaced,
-    /// An entry of `--decimal` is no name with a scale.
+    /// An entry of `--decimal` is not a name with a scale.
     #[error("--decimal takes NAME=SCALE, with a scale from 1 to 18")]
     Decimals,
     /// The plan has no column of ints for a notation, or a column has two.

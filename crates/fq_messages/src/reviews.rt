@@ -186,10 +186,11 @@ fn answer_to(read: Result<(), Unread>, failure: Failure) -> Result<(), Failure>
     }
 }
 
-/// What the data files draft. `DraftTooLarge` if a plan may not have as many files, sources or texts that are null. If there is no draft,
-/// writes on `err` what is said of each file that was read.
+/// What the data files draft, with ints in these notations. `DraftTooLarge` if a plan may not have as many files, sources or texts that
+/// are null. If there is no draft, writes on `err` what is said of each file that was read.
 pub fn draft_of<O: Opener, E: Write>(
     alloc: Global,
+    named: NamedNotations,
     options: &Options<'_>,
     files: &mut O,
     err: &mut E,
@@ -201,7 +202,7 @@ pub fn draft_of<O: Opener, E: Write>(
     if names.len() > usize::from(MAX_FILES) || options.null_values().len() > MAX_NULL_VALUES {
         return Err(Failure::DraftTooLarge);
     }
-    let mut draft = Draft::new(alloc, null_values(alloc, options)?);
+    let mut draft = Draft::new(alloc, null_values(alloc, options)?, named);
     match draft_files(alloc, &mut draft, names, files) {
         Ok(()) => Ok(draft),
         Err(failure) => {

@@ -18,7 +18,7 @@ use Rattle.fq_notation.specs.Decimals.{are_places, before_point, is_decimal, pla
 use Rattle.fq_column.specs.Cell.{fits}
 use Rattle.fq_notation.specs.Digits.{after_digits, leading_digits, signed}
 use Rattle.fq_notation.specs.declared.decimals.TheConstants.{POWERS}
-use Rattle.fq_notation.proofs.DigitLemmas.{all-append, alone, few-after, grows, leading-all, no-digit, value-append}
+use Rattle.fq_notation.proofs.DigitLemmas.{all-append, grows, leading-all, no-digit, value-append}
 
 pub power-at : (k : ℕ) → k < 19 → slice_index_or POWERS k 0 ≡ 10 ^ k
 power-at k l = eqb-true _ _ (agree_below_at (λ k. slice_index_or POWERS k 0 == 10 ^ k) (λ k. true) 19 k refl l)
@@ -157,14 +157,6 @@ pub counted-digit : (o : Option ℕ) (c : ℕ) (cs : List ℕ) → is_ascii_digi
 counted-digit None c cs d = rw (digit-no-point c d) refl
 counted-digit (Some k) c cs d = refl
 
-pub counted-none : (o : Option ℕ) → counted o [] ≡ o
-counted-none None = refl
-counted-none (Some k) = refl
-
-pub left-none : (o : Option ℕ) → left o [] ≡ []
-left-none None = refl
-left-none (Some k) = refl
-
 -- one digit more of few is below the next power of 10
 pub one-more : (n d l : ℕ) → d < 10 → l < 18 → n < 10 ^ (18 - suc l) → n * 10 + d < 10 ^ (18 - l)
 one-more n d l few less below =
@@ -280,7 +272,7 @@ any-of-two (c ∷ d ∷ ds) a l = elim (cases_Bool (c == 46)) [
       | inr f ↦ rw f h
     ]
 
--- a place behind the point is a digit of the number, and so is each byte of it but the point
+-- a place behind the point is a digit of the number
 any-digit : (xs : List ℕ) → 0 < length xs → all_ascii_digits xs ≡ true → list_any is_ascii_digit xs ≡ true
 any-digit [] l a = absurd (omega (arith, l))
 any-digit (d ∷ ds) l a = let h : is_ascii_digit d ≡ true = (and_parts _ _ a).0 in rw h refl

@@ -1,5 +1,5 @@
 -- Digits that follow those of a number, and the digits that a text begins with.
-use Rattle.std.proofs.Common.{◌≡◌, ◌<◌, ◌≤◌, ◌^◌, ◌+◌, ◌-◌, ◌*◌, ◌∙◌, ℕ, zero, suc, pos, neg_ℤ, Bool, Some, None, cond, List, [], ◌∷◌, ◌++◌, true, false, ap, arith, refl, sym, inl, inr, length, length-append, slice_index_or}
+use Rattle.std.proofs.Common.{◌≡◌, ◌<◌, ◌≤◌, ◌^◌, ◌+◌, ◌-◌, ◌*◌, ◌∙◌, ℕ, zero, suc, Bool, Some, None, List, [], ◌∷◌, ◌++◌, true, false, ap, arith, refl, sym, inl, inr, length, slice_index_or}
 use Rattle.std.specs.Prelude.{◌&&◌}
 use Rattle.std.specs.Char.{digit_value, is_ascii_digit}
 use Rattle.std.specs.Str.{all_ascii_digits}
@@ -102,17 +102,9 @@ length-leading (c ∷ cs) = elim (cases_Bool (is_ascii_digit c)) [
 own : IsNumeralModel (λ ds. all_ascii_digits ds ≡ true) (digits_value 10)
 own = numerals_by_value (λ ds. all_ascii_digits ds ≡ true) tells_all_ascii_digits
 
--- the digits that few bytes begin with, also after others
+-- the digits that few bytes begin with
 pub few : (xs : List ℕ) → length xs ≤ 18 → digits_value_after 10 0 (leading_digits xs) < 10 ^ 18
 few xs l = digits_value_short own (leading_digits xs) 18 (leading-all xs) (omega (arith, length-leading xs, l))
-
-pub few-after : (ds xs : List ℕ) → all_ascii_digits ds ≡ true → length ds + length xs ≤ 18 → digits_value_after 10 (digits_value 10 ds) (leading_digits xs) < 10 ^ 18
-few-after ds xs a l =
-    omega (
-      arith,
-      value-append 0 ds (leading_digits xs),
-      digits_value_short own (ds ++ leading_digits xs) 18 (all-append ds (leading_digits xs) ∙ and_from _ _ a (leading-all xs)) (omega (arith, length-append ds (leading_digits xs), length-leading xs, l)),
-    )
 
 -- ---- whole numbers
 

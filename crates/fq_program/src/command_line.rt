@@ -236,7 +236,7 @@ fn run_options<T: Threads + Wait + Sync, O: Opener, W: Write, E: Write>(
     if options.check() {
         check_named(alloc, options, files, err, learned)
     } else if options.draft() {
-        draft_plan(alloc, options, files, out, err)
+        draft_plan(alloc, options, files, out, err, learned)
     } else if options.explain() {
         explain_plan(alloc, options, files, out, learned)
     } else {
@@ -351,17 +351,19 @@ fn draft_plan<O: Opener, W: Write, E: Write>(
     files: &mut O,
     out: &mut W,
     err: &mut E,
+    learned: &mut Learned,
 ) -> Result<(), Failure>
     ensures same { O.bytes_of files.new ≡ O.bytes_of files.old }
     ensures unwritten { IfErr result (λ f. f ≢ failure.Run fault.Write → Keeps (W.contents out.old) (W.contents out.new)) }
 {
-    judge_names(alloc, options, files)?;
+    let named = judge_names(alloc, options, files)?;
     let names = options.files();
-    let draft = draft_of(alloc, options, files, err)?;
+    let draft = draft_of(alloc, named, options, files, err)?;
     draft.write_notes(names, err);
-    let text = draft.plan()?;
-    checked_plan(alloc, text.as_bytes())?;
-    write!(out, "{text}").map_err(|_| Failure::Run(Fault::Write))
+    learned.plan = draft.plan()?.into_bytes();
+    let text = learned.plan.as_slice();
+    checked_plan(alloc, text)?.with_notations(alloc, draft.notations())?;
+    out.write_all(text).map_err(|_| Failure::Run(Fault::Write))
 }
 
 // Writes what the steps of the plan of the plan file leave. If there are names of files, their number has to be the plan's.

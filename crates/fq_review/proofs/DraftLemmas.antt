@@ -8,9 +8,11 @@ use Rattle.std.proofs.lemmas.Bool.Decides.{nat_tests}
 use Rattle.std.proofs.lemmas.Option.{same_Some, slice_get_within}
 use Rattle.std.proofs.lemmas.List.{append-nil, reverse-append, same_from_push}
 use Rattle.fq_column.specs.Frame.{Name, same_name}
+use Rattle.fq_notation.specs.Notation.{notation_named}
 use Rattle.fq_csv.specs.File.{Record}
 use Rattle.fq_review.specs.Checked.{names_in}
 use Rattle.fq_review.specs.Drafted.{AreSourcesOf, BeginsOther, HasCounted, HasTaken, IsSourceOf, fields_at, has_header}
+use Rattle.fq_review.specs.declared.drafts.Reading.{Reading}
 use Rattle.fq_review.specs.declared.drafts.Source.{Source}
 use Rattle.fq_review.specs.declared.guesses.Guess.{Guess}
 
@@ -97,26 +99,26 @@ begins-front source (f ∷ files) more h = h
 
 -- ---- sources
 
-module _ (nulls : List (List ℕ)) where
+module _ (reading : Reading) where
   -- the files of a source with these sources before it
   pub record Split (front : List Source) (source : Source) (files : List (List Record)) : Type 0 where
     pub before : List (List Record)
     pub own : List (List Record)
     pub are : files ≡ before ++ own
-    pub first : AreSourcesOf nulls front before
+    pub first : AreSourcesOf reading front before
     pub others : (init : List Source) (x : Source) → front ≡ init ++ x ∷ [] → BeginsOther x own
-    pub last : IsSourceOf nulls source own
+    pub last : IsSourceOf reading source own
 
-  others-more : (y : Source) (front : List Source) (before own : List (List Record)) → AreSourcesOf nulls front before → BeginsOther y (before ++ own)
+  others-more : (y : Source) (front : List Source) (before own : List (List Record)) → AreSourcesOf reading front before → BeginsOther y (before ++ own)
       → ((init : List Source) (x : Source) → front ≡ init ++ x ∷ [] → BeginsOther x own) → (init : List Source) (x : Source) → y ∷ front ≡ init ++ x ∷ [] → BeginsOther x own
   others-more y front before own first begins others [] x k =
       let same : y ≡ x = cc in
       let none : front ≡ [] = cc in
-      let empty : before ≡ [] = subst (λ fs. AreSourcesOf nulls fs before) none first in
+      let empty : before ≡ [] = subst (λ fs. AreSourcesOf reading fs before) none first in
       subst (λ z. BeginsOther z own) same (subst (λ b. BeginsOther y (b ++ own)) empty begins)
   others-more y front before own first begins others (z ∷ init) x k = others init x (let e : front ≡ init ++ x ∷ [] = cc in e)
 
-  pub split : (front : List Source) (source : Source) (files : List (List Record)) → AreSourcesOf nulls (front ++ source ∷ []) files → Split front source files
+  pub split : (front : List Source) (source : Source) (files : List (List Record)) → AreSourcesOf reading (front ++ source ∷ []) files → Split front source files
   split [] source files (own, rest, e, is, begins, none) = record {
     before = [];
     own = own;
@@ -137,15 +139,15 @@ module _ (nulls : List (List ℕ)) where
         last = h.last;
       }
 
-  begins-both : (y : Source) (front : List Source) (rest own : List (List Record)) → AreSourcesOf nulls front rest → BeginsOther y rest → (front ≡ [] → BeginsOther y own) → BeginsOther y (rest ++ own)
+  begins-both : (y : Source) (front : List Source) (rest own : List (List Record)) → AreSourcesOf reading front rest → BeginsOther y rest → (front ≡ [] → BeginsOther y own) → BeginsOther y (rest ++ own)
   begins-both y [] rest own none begins h = subst (λ r. BeginsOther y (r ++ own)) (sym none) (h refl)
   begins-both y (z ∷ front) [] own (mine, more, e, is, other, others) begins h =
       let some : 0 < length mine = is.some_file in
       absurd (omega (arith, some, ap length e, length-append mine more))
   begins-both y (z ∷ front) (f ∷ rest) own are begins h = begins
 
-  pub join : (front : List Source) (source : Source) (before own : List (List Record)) → AreSourcesOf nulls front before
-      → ((init : List Source) (x : Source) → front ≡ init ++ x ∷ [] → BeginsOther x own) → IsSourceOf nulls source own → AreSourcesOf nulls (front ++ source ∷ []) (before ++ own)
+  pub join : (front : List Source) (source : Source) (before own : List (List Record)) → AreSourcesOf reading front before
+      → ((init : List Source) (x : Source) → front ≡ init ++ x ∷ [] → BeginsOther x own) → IsSourceOf reading source own → AreSourcesOf reading (front ++ source ∷ []) (before ++ own)
   join [] source before own none others is = (own, [], ap (λ b. b ++ own) none ∙ sym (append-nil own), is, tt, refl)
   join (y ∷ front) source before own (mine, rest, e, is-y, begins, more) others is = (
     mine,
@@ -157,27 +159,27 @@ module _ (nulls : List (List ℕ)) where
   )
 
   -- a file more, of which only the header is read, of the last source
-  pub one-file-more : (front : List Source) (source longer : Source) (files : List (List Record)) (header : Record) → AreSourcesOf nulls (front ++ source ∷ []) files
+  pub one-file-more : (front : List Source) (source longer : Source) (files : List (List Record)) (header : Record) → AreSourcesOf reading (front ++ source ∷ []) files
       → longer.files ≡ min (source.files + 1) 65535 → longer.columns ≡ source.columns → pointwise same_name (names_in source.columns.items) header ≡ true
-      → AreSourcesOf nulls (front ++ longer ∷ []) (files ++ (header ∷ []) ∷ [])
+      → AreSourcesOf reading (front ++ longer ∷ []) (files ++ (header ∷ []) ∷ [])
   one-file-more front source longer files header are count columns same =
       let h = split front source files are in
       let own = h.own ++ (header ∷ []) ∷ [] in
       let size : length own ≡ length h.own + 1 = length-append h.own ((header ∷ []) ∷ []) in
-      subst (AreSourcesOf nulls (front ++ longer ∷ [])) (sym (append_assoc h.before h.own ((header ∷ []) ∷ [])) ∙ ap (λ fs. fs ++ (header ∷ []) ∷ []) (sym h.are))
+      subst (AreSourcesOf reading (front ++ longer ∷ [])) (sym (append_assoc h.before h.own ((header ∷ []) ∷ [])) ∙ ap (λ fs. fs ++ (header ∷ []) ∷ []) (sym h.are))
       (join front longer h.before own h.first (λ init x k. begins-longer x h.own ((header ∷ []) ∷ []) h.last.some_file (h.others init x k))
       (record {
         some_file = omega (arith, size);
         count = omega (arith, size, count, h.last.count);
         headers = ap (λ (cs : List (String Global × Guess)). list_all (has_header (names_in cs)) own) (ap (λ (v : _). v.items) columns) ∙ one-header-more (names_in source.columns.items) h.own header same h.last.headers;
-        taken = subst (λ rows. HasTaken nulls longer (reverse rows)) (sym (rows-less h.own header)) (λ i column at. subst (λ (n : ℕ). HasCounted nulls column.1 (fields_at n i (reverse (flat_map (drop 1) h.own)))) (ap (λ (v : _). length v.items) (sym columns)) (h.last.taken i column (subst (λ v. slice_get v.items i ≡ Some column) columns at)));
+        taken = subst (λ rows. HasTaken reading longer (reverse rows)) (sym (rows-less h.own header)) (λ i column at. let t = h.last.taken i column (subst (λ v. slice_get v.items i ≡ Some column) columns at) in (t.0, subst (λ (n : ℕ). HasCounted reading.nulls column.1 (fields_at n i (reverse (flat_map (drop 1) h.own)))) (ap (λ (v : _). length v.items) (sym columns)) t.1));
       }))
 
   -- a file more, of which only the header is read, of a new source
-  pub one-source-more : (front : List Source) (source : Source) (files : List (List Record)) (header : Record) → AreSourcesOf nulls front files
+  pub one-source-more : (front : List Source) (source : Source) (files : List (List Record)) (header : Record) → AreSourcesOf reading front files
       → ((init : List Source) (x : Source) → front ≡ init ++ x ∷ [] → pointwise same_name (names_in x.columns.items) header ≡ false)
-      → source.files ≡ 1 → pointwise same_name (names_in source.columns.items) header ≡ true → HasTaken nulls source []
-      → AreSourcesOf nulls (front ++ source ∷ []) (files ++ (header ∷ []) ∷ [])
+      → source.files ≡ 1 → pointwise same_name (names_in source.columns.items) header ≡ true → HasTaken reading source []
+      → AreSourcesOf reading (front ++ source ∷ []) (files ++ (header ∷ []) ∷ [])
   one-source-more front source files header are others count same taken = join front source files ((header ∷ []) ∷ []) are others (record {
     some_file = omega arith;
     count = count;
@@ -187,9 +189,9 @@ module _ (nulls : List (List ℕ)) where
 
   -- the rows of the last file
   pub with-rows : (front : List Source) (source longer : Source) (files : List (List Record)) (header : Record) (rows : List Record)
-      → AreSourcesOf nulls (front ++ source ∷ []) (files ++ (header ∷ []) ∷ []) → longer.files ≡ source.files → names_in longer.columns.items ≡ names_in source.columns.items
-      → ((before : List Record) → HasTaken nulls source before → HasTaken nulls longer (reverse rows ++ before))
-      → AreSourcesOf nulls (front ++ longer ∷ []) (files ++ (header ∷ rows) ∷ [])
+      → AreSourcesOf reading (front ++ source ∷ []) (files ++ (header ∷ []) ∷ []) → longer.files ≡ source.files → names_in longer.columns.items ≡ names_in source.columns.items
+      → ((before : List Record) → HasTaken reading source before → HasTaken reading longer (reverse rows ++ before))
+      → AreSourcesOf reading (front ++ longer ∷ []) (files ++ (header ∷ rows) ∷ [])
   with-rows front source longer files header rows are count names taken =
       let h = split front source (files ++ (header ∷ []) ∷ []) are in
       let end = last-of h.own h.last.some_file in
@@ -197,14 +199,14 @@ module _ (nulls : List (List ℕ)) where
       let mine : h.own ≡ end.0 ++ (header ∷ []) ∷ [] = end.2 ∙ ap (λ f. end.0 ++ f ∷ []) (sym both.1) in
       let own = end.0 ++ (header ∷ rows) ∷ [] in
       let size : length own ≡ length h.own = length-append end.0 ((header ∷ rows) ∷ []) ∙ sym (ap length mine ∙ length-append end.0 ((header ∷ []) ∷ [])) in
-      subst (AreSourcesOf nulls (front ++ longer ∷ [])) (sym (append_assoc h.before end.0 ((header ∷ rows) ∷ [])) ∙ ap (λ fs. fs ++ (header ∷ rows) ∷ []) (sym both.0))
+      subst (AreSourcesOf reading (front ++ longer ∷ [])) (sym (append_assoc h.before end.0 ((header ∷ rows) ∷ [])) ∙ ap (λ fs. fs ++ (header ∷ rows) ∷ []) (sym both.0))
       (join front longer h.before own h.first (λ init x k. begins-alone x end.0 header rows (subst (BeginsOther x) mine (h.others init x k)))
       (record {
         some_file = omega (arith, size, h.last.some_file);
         count = count ∙ h.last.count ∙ ap (λ n. min n 65535) (sym size);
         headers = ap (λ ns. list_all (has_header ns) own) names ∙ header-alone (names_in source.columns.items) end.0 header rows ∙ ap (list_all (has_header (names_in source.columns.items))) (sym mine) ∙ h.last.headers;
-        taken = subst (HasTaken nulls longer) (sym (ap reverse (rows-more end.0 header rows) ∙ reverse-append (flat_map (drop 1) end.0) rows))
-            (taken (reverse (flat_map (drop 1) end.0)) (subst (λ rs. HasTaken nulls source (reverse rs)) (ap (flat_map (drop 1)) mine ∙ rows-less end.0 header) h.last.taken));
+        taken = subst (HasTaken reading longer) (sym (ap reverse (rows-more end.0 header rows) ∙ reverse-append (flat_map (drop 1) end.0) rows))
+            (taken (reverse (flat_map (drop 1) end.0)) (subst (λ rs. HasTaken reading source (reverse rs)) (ap (flat_map (drop 1)) mine ∙ rows-less end.0 header) h.last.taken));
       }))
 
 -- ---- rows
@@ -212,11 +214,16 @@ module _ (nulls : List (List ℕ)) where
 abbrev pub Columns : Type 0
 Columns = List (String Global × Guess)
 
+-- a column that has counted one field more
+abbrev pub CountsField : List (List ℕ) → List ℕ → String Global × Guess → String Global × Guess → Type 0
+CountsField nulls field before after =
+    (after.0 ≡ before.0) × (after.1.notation ≡ before.1.notation) × ((fields : List (List ℕ)) → HasCounted nulls before.1 fields → HasCounted nulls after.1 (field ∷ fields))
+
 module _ (nulls : List (List ℕ)) (row : Record) (old : Columns) where
   -- each of the first columns has counted its field of the row
   abbrev pub FirstCounted : Columns → ℕ → Type 0
   FirstCounted columns n = (i : ℕ) → i < n → (column : String Global × Guess) → slice_get columns i ≡ Some column →
-      (before : String Global × Guess) × (slice_get old i ≡ Some before) × ((fields : List (List ℕ)) → HasCounted nulls before.1 fields → HasCounted nulls column.1 (get_or row i [] ∷ fields))
+      (before : String Global × Guess) × (slice_get old i ≡ Some before) × CountsField nulls (get_or row i []) before column
 
   -- the others are as they were
   abbrev pub OthersSame : Columns → ℕ → Type 0
@@ -226,12 +233,12 @@ module _ (nulls : List (List ℕ)) (row : Record) (old : Columns) where
     abbrev pub written : Columns
     written = set columns n (column.0, guess)
 
-    pub first-counted : FirstCounted columns n → OthersSame columns n → ((fields : List (List ℕ)) → HasCounted nulls column.1 fields → HasCounted nulls guess (get_or row n [] ∷ fields))
+    pub first-counted : FirstCounted columns n → OthersSame columns n → CountsField nulls (get_or row n []) column (column.0, guess)
         → FirstCounted written (n + 1)
     first-counted first others counts = below_more _ _
         (λ i less c here. first i less c (sym (set-other columns n i (column.0, guess) (omega (arith, less))) ∙ here))
         (λ c here. let same : (column.0, guess) ≡ c = same_Some _ _ (sym (set-there columns n (column.0, guess) column at) ∙ here) in
-        (column, sym (others n (omega arith)) ∙ at, subst (λ (d : String Global × Guess). (fields : List (List ℕ)) → HasCounted nulls column.1 fields → HasCounted nulls d.1 (get_or row n [] ∷ fields)) same counts))
+        (column, sym (others n (omega arith)) ∙ at, subst (CountsField nulls (get_or row n []) column) same counts))
 
     pub others-same : OthersSame columns n → OthersSame written (n + 1)
     others-same others i past = set-other columns n i (column.0, guess) (omega (arith, past)) ∙ others i (omega (arith, past))
@@ -244,14 +251,26 @@ names-kept (c ∷ columns) zero column guess at =
 names-kept (c ∷ columns) (suc n) column guess at = ap (λ ns. string_bytes c.0 ∷ ns) (names-kept columns n column guess at)
 
 -- a row more
-pub row-taken : (nulls : List (List ℕ)) (source longer : Source) (row : Record) (rows : List Record) (n : ℕ) → length longer.columns.items ≡ length source.columns.items
-    → length row ≡ length source.columns.items → length source.columns.items ≤ n → FirstCounted nulls row source.columns.items longer.columns.items n
-    → HasTaken nulls source rows → HasTaken nulls longer (row ∷ rows)
-row-taken nulls source longer row rows n size wide all counted taken i column at =
+pub row-taken : (reading : Reading) (source longer : Source) (row : Record) (rows : List Record) (n : ℕ) → length longer.columns.items ≡ length source.columns.items
+    → length row ≡ length source.columns.items → length source.columns.items ≤ n → FirstCounted reading.nulls row source.columns.items longer.columns.items n
+    → HasTaken reading source rows → HasTaken reading longer (row ∷ rows)
+row-taken reading source longer row rows n size wide all counted taken i column at =
     let width = length source.columns.items in
     let less : i < width = omega (arith, size, slice_get_within longer.columns.items i column at) in
     let old = counted i (omega (arith, less, all)) column at in
+    let before = taken i old.0 old.1 in
     let is : (length row == width) ≡ true = grind (arith, nat_tests, wide) in
-    let here : fields_at width i (row ∷ rows) ≡ get_or row i [] ∷ fields_at width i rows = rw is refl in
-    subst (λ w. HasCounted nulls column.1 (fields_at w i (row ∷ rows))) (sym size)
-    (subst (HasCounted nulls column.1) (sym here) (old.2 (fields_at width i rows) (taken i old.0 old.1)))
+    let here : fields_at width i (row ∷ rows) ≡ get_or row i [] ∷ fields_at width i rows = rw is refl in (
+      old.2.1 ∙ before.0 ∙ ap (λ name. notation_named reading.named (string_bytes name)) (sym old.2.0),
+      subst (λ w. HasCounted reading.nulls column.1 (fields_at w i (row ∷ rows))) (sym size) (subst (HasCounted reading.nulls column.1) (sym here) (old.2.2 (fields_at width i rows) before.1)),
+    )
+
+-- a row of another width
+pub row-left-out : (reading : Reading) (source : Source) (row : Record) (rows : List Record) → length row ≢ length source.columns.items → HasTaken reading source rows
+    → HasTaken reading source (row ∷ rows)
+row-left-out reading source row rows other taken i column at =
+    let width = length source.columns.items in
+    let here = taken i column at in
+    let is : (length row == width) ≡ false = grind (arith, nat_tests, other) in
+    let left : fields_at width i (row ∷ rows) ≡ fields_at width i rows = rw is refl in
+    (here.0, subst (HasCounted reading.nulls column.1) (sym left) here.1)

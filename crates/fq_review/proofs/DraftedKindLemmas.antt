@@ -6,9 +6,11 @@ use Rattle.std.proofs.lemmas.Option.{same_Some}
 use Rattle.fq_column.specs.declared.cells.Kind.{Kind}
 use Rattle.fq_column.specs.declared.cells.Kind.TheVariants as kind
 use Rattle.fq_notation.specs.Digits.{whole_of}
-use Rattle.fq_notation.specs.declared.notations.Notation.TheVariants.{Plain}
+use Rattle.fq_notation.specs.Notation.{int_under}
+use Rattle.fq_notation.specs.declared.notations.Notation.{Notation}
+use Rattle.fq_notation.specs.declared.notations.Notation.TheVariants.{Plain, Decimal, Date}
 use Rattle.fq_csv.specs.Field.{cell_under, is_null, is_one_of, truth_of}
-use Rattle.fq_review.specs.Drafted.{drafted_kind, is_int, joined, joined_kind, kind_alone}
+use Rattle.fq_review.specs.Drafted.{drafted_kind, is_int, is_printed, joined, joined_kind, kind_alone, kind_of_nulls}
 
 -- a part of a column says no other kind
 abbrev Within : Kind → Option Kind → Type 0
@@ -32,9 +34,19 @@ parts k (Some kind.Text) (Some kind.Whole) h = mixed k (Some kind.Text) (Some ki
 parts k (Some kind.Text) (Some kind.Truth) h = mixed k (Some kind.Text) (Some kind.Truth) h
 parts k (Some kind.Text) (Some kind.Text) h = mixed k (Some kind.Text) (Some kind.Text) h
 
-module _ (nulls : List (List ℕ)) where
+-- a field that is an int as a column has them is one by its notation
+int-read : (notation : Notation) (field : List ℕ) → is_int notation field ≡ true → is_some (int_under notation field) ≡ true
+int-read Plain field is = by (whole_of field) refl
+  where
+    by : (o : Option ℤ) → whole_of field ≡ o → is_some (whole_of field) ≡ true
+    by None e = absurd (let bad : is_printed field ≡ false = rw (e, is_printed) refl in cc)
+    by (Some z) e = rw e refl
+int-read (Decimal scale) field is = is
+int-read Date field is = is
+
+module _ (nulls : List (List ℕ)) (notation : Notation) where
   abbrev Reads : Kind → List ℕ → Type 0
-  Reads k field = is_some (cell_under nulls k Plain field) ≡ true
+  Reads k field = is_some (cell_under nulls k notation field) ≡ true
 
   empty-reads : (k : Kind) (b : Bool) → is_one_of nulls [] ≡ b → Reads k []
   empty-reads k true e = rw e refl
@@ -55,66 +67,68 @@ module _ (nulls : List (List ℕ)) where
       by false e = rw (e, utf8) refl
 
   -- a field by itself
-  module _ (k : Kind) (c : ℕ) (cs : List ℕ) (some : is_one_of nulls (c ∷ cs) ≡ false) (utf8 : is_utf8 (c ∷ cs) ≡ true) (alone : kind_alone nulls (c ∷ cs) ≡ Some k) where
+  module _ (k : Kind) (c : ℕ) (cs : List ℕ) (some : is_one_of nulls (c ∷ cs) ≡ false) (utf8 : is_utf8 (c ∷ cs) ≡ true) (alone : kind_alone nulls notation (c ∷ cs) ≡ Some k) where
     abbrev field : List ℕ
     field = c ∷ cs
 
-    text-alone : is_int field ≡ false → is_some (truth_of field) ≡ false → Reads k field
+    text-alone : is_int notation field ≡ false → is_some (truth_of field) ≡ false → Reads k field
     text-alone whole truth =
-        let same : kind_alone nulls field ≡ Some kind.Text = rw (some, whole, truth) refl in
+        let same : kind_alone nulls notation field ≡ Some kind.Text = rw (some, whole, truth) refl in
         let text : k ≡ kind.Text = same_Some _ _ (let e : Some k ≡ Some kind.Text = cc in e) in
         subst (λ j. Reads j field) (sym text) (text-reads field utf8)
 
-    truth-alone : is_int field ≡ false → (o : Option Bool) → truth_of field ≡ o → Reads k field
+    truth-alone : is_int notation field ≡ false → (o : Option Bool) → truth_of field ≡ o → Reads k field
     truth-alone whole None e = text-alone whole (rw e refl)
     truth-alone whole (Some b) e =
         let there : is_some (truth_of field) ≡ true = rw e refl in
-        let same : kind_alone nulls field ≡ Some kind.Truth = rw (some, whole, there) refl in
+        let same : kind_alone nulls notation field ≡ Some kind.Truth = rw (some, whole, there) refl in
         let truth : k ≡ kind.Truth = same_Some _ _ (let f : Some k ≡ Some kind.Truth = cc in f) in
         subst (λ j. Reads j field) (sym truth) (rw (some, e) refl)
 
-    whole-alone : (b : Bool) → is_int field ≡ b → (o : Option ℤ) → whole_of field ≡ o → Reads k field
+    whole-alone : (b : Bool) → is_int notation field ≡ b → (o : Option ℤ) → int_under notation field ≡ o → Reads k field
     whole-alone false i o e = truth-alone i (truth_of field) refl
-    whole-alone true i None e = absurd (let bad : is_int field ≡ false = rw (e, is_int) refl in cc)
-    whole-alone true i (Some n) e =
-        let same : kind_alone nulls field ≡ Some kind.Whole = rw (some, i) refl in
+    whole-alone true i None e = absurd (let is : is_some (int_under notation field) ≡ true = int-read notation field i in let bad : is_some (int_under notation field) ≡ false = rw e refl in cc)
+    whole-alone true i (Some z) e =
+        let same : kind_alone nulls notation field ≡ Some kind.Whole = rw (some, i) refl in
         let whole : k ≡ kind.Whole = same_Some _ _ (let f : Some k ≡ Some kind.Whole = cc in f) in
         subst (λ j. Reads j field) (sym whole) (rw (some, e) refl)
 
-  alone-reads : (k : Kind) (field : List ℕ) → is_utf8 field ≡ true → kind_alone nulls field ≡ Some k → Reads k field
+  alone-reads : (k : Kind) (field : List ℕ) → is_utf8 field ≡ true → kind_alone nulls notation field ≡ Some k → Reads k field
   alone-reads k [] utf8 e = absurd (cc)
   alone-reads k (c ∷ cs) utf8 e = by (is_one_of nulls (c ∷ cs)) refl
     where
       by : (b : Bool) → is_one_of nulls (c ∷ cs) ≡ b → Reads k (c ∷ cs)
-      by true n = absurd (let none : kind_alone nulls (c ∷ cs) ≡ None = rw n refl in cc)
-      by false n = whole-alone k c cs n utf8 e (is_int (c ∷ cs)) refl (whole_of (c ∷ cs)) refl
+      by true n = absurd (let none : kind_alone nulls notation (c ∷ cs) ≡ None = rw n refl in cc)
+      by false n = whole-alone k c cs n utf8 e (is_int notation (c ∷ cs)) refl (int_under notation (c ∷ cs)) refl
 
-  none-is-null : (field : List ℕ) → kind_alone nulls field ≡ None → is_null nulls field ≡ true
-  none-is-null field e = by (is_null nulls field) (is_int field) (is_some (truth_of field)) refl refl refl
+  none-is-null : (field : List ℕ) → kind_alone nulls notation field ≡ None → is_null nulls field ≡ true
+  none-is-null field e = by (is_null nulls field) (is_int notation field) (is_some (truth_of field)) refl refl refl
     where
-      by : (n i t : Bool) → is_null nulls field ≡ n → is_int field ≡ i → is_some (truth_of field) ≡ t → is_null nulls field ≡ true
+      by : (n i t : Bool) → is_null nulls field ≡ n → is_int notation field ≡ i → is_some (truth_of field) ≡ t → is_null nulls field ≡ true
       by true i t a b c = a
-      by false true t a b c = absurd (let some : kind_alone nulls field ≡ Some kind.Whole = rw (a, b) refl in cc)
-      by false false true a b c = absurd (let some : kind_alone nulls field ≡ Some kind.Truth = rw (a, b, c) refl in cc)
-      by false false false a b c = absurd (let some : kind_alone nulls field ≡ Some kind.Text = rw (a, b, c) refl in cc)
+      by false true t a b c = absurd (let some : kind_alone nulls notation field ≡ Some kind.Whole = rw (a, b) refl in cc)
+      by false false true a b c = absurd (let some : kind_alone nulls notation field ≡ Some kind.Truth = rw (a, b, c) refl in cc)
+      by false false false a b c = absurd (let some : kind_alone nulls notation field ≡ Some kind.Text = rw (a, b, c) refl in cc)
 
-  one-reads : (k : Kind) (field : List ℕ) → Within k (kind_alone nulls field) → is_utf8 field ≡ true → Reads k field
+  one-reads : (k : Kind) (field : List ℕ) → Within k (kind_alone nulls notation field) → is_utf8 field ≡ true → Reads k field
   one-reads k field (inl none) utf8 = null-reads k field (none-is-null field none)
   one-reads k field (inr (inl e)) utf8 = alone-reads k field utf8 e
   one-reads k field (inr (inr text)) utf8 = subst (λ j. Reads j field) (sym text) (text-reads field utf8)
 
-  all-read : (k : Kind) (fields : List (List ℕ)) → Within k (joined_kind nulls fields) → All (λ f. is_utf8 f ≡ true → Reads k f) fields
+  all-read : (k : Kind) (fields : List (List ℕ)) → Within k (joined_kind nulls notation fields) → All (λ f. is_utf8 f ≡ true → Reads k f) fields
   all-read k [] h i d less = absurd (omega (arith, less))
-  all-read k (f ∷ fields) h zero d less = one-reads k f (parts k (kind_alone nulls f) (joined_kind nulls fields) h).0
-  all-read k (f ∷ fields) h (suc i) d less = all-read k fields (parts k (kind_alone nulls f) (joined_kind nulls fields) h).1 i d (omega (arith, less))
+  all-read k (f ∷ fields) h zero d less = one-reads k f (parts k (kind_alone nulls notation f) (joined_kind nulls notation fields) h).0
+  all-read k (f ∷ fields) h (suc i) d less = all-read k fields (parts k (kind_alone nulls notation f) (joined_kind nulls notation fields) h).1 i d (omega (arith, less))
 
-at-kind : (nulls fields : List (List ℕ)) (k : Kind) → drafted_kind nulls fields ≡ k → Within k (joined_kind nulls fields)
-    → All (λ field. is_utf8 field ≡ true → is_some (cell_under nulls (drafted_kind nulls fields) Plain field) ≡ true) fields
-at-kind nulls fields k e h = subst (λ j. All (λ field. is_utf8 field ≡ true → is_some (cell_under nulls j Plain field) ≡ true) fields) (sym e) (all-read nulls k fields h)
+at-kind : (nulls : List (List ℕ)) (notation : Notation) (fields : List (List ℕ)) (k : Kind) → drafted_kind nulls notation fields ≡ k → Within k (joined_kind nulls notation fields)
+    → All (λ field. is_utf8 field ≡ true → is_some (cell_under nulls (drafted_kind nulls notation fields) notation field) ≡ true) fields
+at-kind nulls notation fields k e h = subst (λ j. All (λ field. is_utf8 field ≡ true → is_some (cell_under nulls j notation field) ≡ true) fields) (sym e) (all-read nulls notation k fields h)
 
-pub drafted-read : (nulls fields : List (List ℕ)) → All (λ field. is_utf8 field ≡ true → is_some (cell_under nulls (drafted_kind nulls fields) Plain field) ≡ true) fields
-drafted-read nulls fields = by (joined_kind nulls fields) refl
+pub drafted-read : (nulls : List (List ℕ)) (notation : Notation) (fields : List (List ℕ)) →
+    All (λ field. is_utf8 field ≡ true → is_some (cell_under nulls (drafted_kind nulls notation fields) notation field) ≡ true) fields
+drafted-read nulls notation fields = by (joined_kind nulls notation fields) refl
   where
-    by : (o : Option Kind) → joined_kind nulls fields ≡ o → All (λ field. is_utf8 field ≡ true → is_some (cell_under nulls (drafted_kind nulls fields) Plain field) ≡ true) fields
-    by None e = at-kind nulls fields kind.Text (ap (λ p. elim p as (λ _. Kind) [ None ↦ kind.Text | Some k ↦ k ]) e) (inr (inr refl))
-    by (Some k) e = at-kind nulls fields k (ap (λ p. elim p as (λ _. Kind) [ None ↦ kind.Text | Some j ↦ j ]) e) (inr (inl e))
+    by : (o : Option Kind) → joined_kind nulls notation fields ≡ o →
+        All (λ field. is_utf8 field ≡ true → is_some (cell_under nulls (drafted_kind nulls notation fields) notation field) ≡ true) fields
+    by None e = at-kind nulls notation fields (kind_of_nulls notation) (ap (λ p. elim p as (λ _. Kind) [ None ↦ kind_of_nulls notation | Some k ↦ k ]) e) (inl e)
+    by (Some k) e = at-kind nulls notation fields k (ap (λ p. elim p as (λ _. Kind) [ None ↦ kind_of_nulls notation | Some j ↦ j ]) e) (inr (inl e))

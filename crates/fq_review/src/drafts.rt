@@ -10,17 +10,18 @@ ghost use Rattle.fq_places.specs.Marks.{HasMarks, IsSound, marks_of};
 ghost use Rattle.fq_places.specs.declared.marks.Mark.{Mark as MarkValue};
 ghost use Rattle.fq_review.specs.Checked.{names_in};
 ghost use Rattle.fq_review.specs.Drafted.{AreSourcesOf, HasTaken};
+ghost use Rattle.fq_review.specs.declared.drafts.Reading.{Reading as ReadingValue};
 ghost use Rattle.fq_review.specs.declared.drafts.Source.{Source as SourceValue};
 
 use crate::guesses::Guess;
 use crate::headers::has_names;
 use crate::notes::{CONVERSION, FileNote, Note, notes_of};
-use crate::null_options::NullOption;
+use crate::options::{NotationOption, NullOption};
 use crate::problems::Wanted;
 use csv::ByteRecord;
 use fq_column::{Kind, MAX_COLUMNS, Memory, has_double};
 use fq_csv::{NullValues, kind_word};
-use fq_notation::Notation;
+use fq_notation::NamedNotations;
 use fq_places::{Flaw, LinedRecords, Mark, Quoted, Unread};
 use serde_json::to_string;
 use std::alloc::{AllocError, AllocFailed, Global};
@@ -75,10 +76,17 @@ impl<T: Drop> From<AllocFailed<T>> for DraftFault {
 #[derive(Drop)]
 pub struct Draft {
     alloc: Global,
-    nulls: NullValues,
+    reading: Reading,
     files: u16,
     sources: Vec<Source>,
     notes: Vec<FileNote>,
+}
+
+// How the fields of files are read: which texts are null, and in which notations ints are, by the names of their columns.
+#[derive(Drop)]
+struct Reading {
+    nulls: NullValues,
+    named: NamedNotations,
 }
 
 // Files with one header.
@@ -103,13 +111,13 @@ impl Source {
     fn take_row(
         &mut self,
         alloc: Global,
-        nulls: &NullValues,
+        reading: &Reading,
         place: (u16, u64),
         row: &ByteRecord,
     ) -> Result<(), Memory>
         ensures files { self.new.files ≡ self.old.files }
         ensures names { OnOk result (names_in self.new.columns.items ≡ names_in self.old.columns.items) }
-        ensures taken { OnOk result ((rows : List Record) → HasTaken nulls.now self.old rows → HasTaken nulls.now self.new (fields_of row.now ∷ rows)) }
+        ensures taken { OnOk result ((rows : List Record) → HasTaken reading.now self.old rows → HasTaken reading.now self.new (fields_of row.now ∷ rows)) }
     {
         if row.len() != self.columns.len() {
             let (rows, first) = self.left_out.unwrap_or((0, place));
@@ -120,26 +128,34 @@ impl Source {
             let Some(field) = row.get(at) else {
                 unreachable!()
             };
-            self.columns[at].1.add(alloc, field, nulls, place)?;
+            self.columns[at].1.add(alloc, field, &reading.nulls, place)?;
         }
         Ok(())
     }
 }
 
 impl Draft {
-    /// A draft of no file, in which these texts are null.
-    pub fn new(alloc: Global, nulls: NullValues) -> Draft
-        ensures nulls { result.nulls ≡ nulls }
+    /// A draft of no file, in which these texts are null and ints are in these notations.
+    pub fn new(alloc: Global, nulls: NullValues, named: NamedNotations) -> Draft
+        ensures nulls { result.reading.nulls ≡ nulls }
+        ensures named { result.reading.named ≡ named }
         ensures files { result.files ≡ 0 }
-        ensures sources { AreSourcesOf nulls result.sources.items [] }
+        ensures sources { AreSourcesOf result.reading result.sources.items [] }
     {
         Draft {
             alloc,
-            nulls,
+            reading: Reading { nulls, named },
             files: 0,
             sources: Vec::new(alloc),
             notes: Vec::new(alloc),
         }
+    }
+
+    /// The notations of ints, by the names of their columns.
+    pub fn notations(&self) -> &NamedNotations
+        ensures { result.now ≡ self.now.reading.named }
+    {
+        &self.reading.named
     }
 
     /// How many files were read, at most 65,535.
@@ -163,10 +179,10 @@ impl Draft {
         records: A,
         marks: B,
     ) -> Result<(), DraftFault>
-        ensures nulls { self.new.nulls ≡ self.old.nulls }
+        ensures reading { self.new.reading ≡ self.old.reading }
         ensures files { self.new.files ≡ min (self.old.files + 1) 65535 }
-        ensures sources { OnOk result ((bytes : List ℕ) → A.remaining records ≡ Some bytes → B.remaining marks ≡ Some bytes → (files : List (List Record)) → AreSourcesOf self.old.nulls self.old.sources.items files →
-            AreSourcesOf self.old.nulls self.new.sources.items (files ++ records_of default_config (strip_bom bytes) ∷ [])) }
+        ensures sources { OnOk result ((bytes : List ℕ) → A.remaining records ≡ Some bytes → B.remaining marks ≡ Some bytes → (files : List (List Record)) → AreSourcesOf self.old.reading self.old.sources.items files →
+            AreSourcesOf self.old.reading self.new.sources.items (files ++ records_of default_config (strip_bom bytes) ∷ [])) }
     {
         let file = self.files;
         self.files = file.saturating_add(1);
@@ -182,10 +198,10 @@ impl Draft {
         records: A,
         marks: B,
     ) -> Result<Source, DraftFault>
-        ensures nulls { self.new.nulls ≡ self.old.nulls }
+        ensures reading { self.new.reading ≡ self.old.reading }
         ensures files { self.new.files ≡ self.old.files }
-        ensures sources { IfOk result (λ source. (bytes : List ℕ) → A.remaining records ≡ Some bytes → B.remaining marks ≡ Some bytes → (files : List (List Record)) → AreSourcesOf self.old.nulls self.old.sources.items files →
-            AreSourcesOf self.old.nulls (self.new.sources.items ++ source ∷ []) (files ++ records_of default_config (strip_bom bytes) ∷ [])) }
+        ensures sources { IfOk result (λ source. (bytes : List ℕ) → A.remaining records ≡ Some bytes → B.remaining marks ≡ Some bytes → (files : List (List Record)) → AreSourcesOf self.old.reading self.old.sources.items files →
+            AreSourcesOf self.old.reading (self.new.sources.items ++ source ∷ []) (files ++ records_of default_config (strip_bom bytes) ∷ [])) }
     {
         let mut records = match LinedRecords::new(self.alloc, records, marks) {
             Ok(records) => records,
@@ -203,7 +219,7 @@ impl Draft {
 
     // Keeps what is to be said of a file with this header.
     fn note_header(&mut self, file: u16, line: u64, header: &ByteRecord) -> Result<(), Memory>
-        ensures nulls { self.new.nulls ≡ self.old.nulls }
+        ensures reading { self.new.reading ≡ self.old.reading }
         ensures files { self.new.files ≡ self.old.files }
         ensures sources { self.new.sources ≡ self.old.sources }
     {
@@ -213,7 +229,7 @@ impl Draft {
 
     // Keeps what is to be said of the flaws that show where a file ends.
     fn note_flaws(&mut self, file: u16, flaws: &[Mark]) -> Result<(), Memory>
-        ensures nulls { self.new.nulls ≡ self.old.nulls }
+        ensures reading { self.new.reading ≡ self.old.reading }
         ensures files { self.new.files ≡ self.old.files }
         ensures sources { self.new.sources ≡ self.old.sources }
     {
@@ -232,23 +248,23 @@ impl Draft {
         ensures files { source.new.files ≡ source.old.files }
         ensures names { OnOk result (names_in source.new.columns.items ≡ names_in source.old.columns.items) }
         ensures taken { OnOk result ((rs : List Record) (marks : List MarkValue) → HasLeft A.remaining records.old.records rs → HasMarks B.remaining records.old.marks marks →
-            (rows : List Record) → HasTaken self.now.nulls source.old rows → HasTaken self.now.nulls source.new (reverse rs ++ rows)) }
+            (rows : List Record) → HasTaken self.now.reading source.old rows → HasTaken self.now.reading source.new (reverse rs ++ rows)) }
     {
         for _ in 0..u64::MAX {
             let Some(line) = next_line(file, records)? else {
                 return Ok(());
             };
-            source.take_row(self.alloc, &self.nulls, (file, line), &records.row)?;
+            source.take_row(self.alloc, &self.reading, (file, line), &records.row)?;
         }
         Err(DraftFault::Read { file })
     }
 
     // The source of a file with this header: the last, with one file more, if it has the same names, and else another.
     fn take_source(&mut self, file: u16, header: &ByteRecord) -> Result<Source, DraftFault>
-        ensures nulls { self.new.nulls ≡ self.old.nulls }
+        ensures reading { self.new.reading ≡ self.old.reading }
         ensures files { self.new.files ≡ self.old.files }
-        ensures sources { IfOk result (λ source. (files : List (List Record)) → AreSourcesOf self.old.nulls self.old.sources.items files →
-            AreSourcesOf self.old.nulls (self.new.sources.items ++ source ∷ []) (files ++ (fields_of header.now ∷ []) ∷ [])) }
+        ensures sources { IfOk result (λ source. (files : List (List Record)) → AreSourcesOf self.old.reading self.old.sources.items files →
+            AreSourcesOf self.old.reading (self.new.sources.items ++ source ∷ []) (files ++ (fields_of header.now ∷ []) ∷ [])) }
     {
         if self.goes_on(header) {
             let Some(mut source) = self.sources.pop() else {
@@ -257,7 +273,7 @@ impl Draft {
             source.files = source.files.saturating_add(1);
             return Ok(source);
         }
-        new_source(self.alloc, file, header)
+        new_source(self.alloc, &self.reading.named, file, header)
     }
 
     // Whether a file with this header is one more of the last source.
@@ -303,11 +319,12 @@ impl Draft {
 
     // Writes the texts that are null, if there are any.
     fn write_nulls(&self, text: &mut String) -> Result<(), Memory> {
-        if self.nulls.texts().is_empty() {
+        let nulls = self.reading.nulls.texts();
+        if nulls.is_empty() {
             return Ok(());
         }
         text.push_str(",\n      \"null_values\": [")?;
-        for (place, null) in self.nulls.texts().iter().enumerate() {
+        for (place, null) in nulls.iter().enumerate() {
             let comma = if place == 0 { "" } else { ", " };
             let null = quoted(self.alloc, null)?;
             write!(text, "{comma}{null}").map_err(|_| Memory)?;
@@ -348,6 +365,7 @@ impl Draft {
                 write!(err, "{} is text: ", Quoted(column.0.as_bytes())).ok()?;
                 column.1.write(names, err)?;
                 self.write_null_option(&column.1, err)?;
+                write_notation_option(column.0.as_str(), &column.1, err)?;
                 writeln!(err, "").ok()?;
             }
         }
@@ -356,21 +374,27 @@ impl Draft {
 
     // Writes which option makes null what alone is not as the other fields of a column are.
     fn write_null_option<E: Write>(&self, column: &Guess, err: &mut E) -> Option<()> {
-        let Some((text, kind)) = column.null_text() else {
+        let Some((text, wanted)) = column.null_text() else {
             return Some(());
         };
-        let Some(option) = NullOption::of(&self.nulls, text) else {
+        let Some(option) = NullOption::of(&self.reading.nulls, text) else {
             return Some(());
         };
-        match kind {
-            Kind::Text => write!(err, "; {option} makes these null").ok(),
-            _ => write!(
-                err,
-                "; {option} makes it {}",
-                Wanted::of(kind, Notation::Plain)
-            )
-            .ok(),
+        match wanted {
+            Wanted::Text => write!(err, "; {option} makes these null").ok(),
+            _ => write!(err, "; {option} makes it {wanted}").ok(),
         }
+    }
+}
+
+// Writes which option reads the decimals or the dates of a column as ints.
+fn write_notation_option<E: Write>(name: &str, column: &Guess, err: &mut E) -> Option<()> {
+    let Some((notation, which)) = column.better_notation() else {
+        return Some(());
+    };
+    match NotationOption::of(name, notation) {
+        Some(option) => write!(err, "; {option} reads {which} as ints").ok(),
+        None => Some(()),
     }
 }
 
@@ -472,15 +496,21 @@ fn quoted(alloc: Global, text: &String) -> Result<String, Memory> {
 }
 
 // A source of one file with this header, of which no row is read.
-fn new_source(alloc: Global, file: u16, header: &ByteRecord) -> Result<Source, DraftFault>
+fn new_source(
+    alloc: Global,
+    named: &NamedNotations,
+    file: u16,
+    header: &ByteRecord,
+) -> Result<Source, DraftFault>
     ensures files { IfOk result (λ source. source.files ≡ 1) }
     ensures names { IfOk result (λ source. names_in source.columns.items ≡ fields_of header.now) }
-    ensures taken { IfOk result (λ source. (nulls : List (List ℕ)) → HasTaken nulls source []) }
+    ensures taken { IfOk result (λ source. (reading : ReadingValue) → reading.named ≡ named.now → HasTaken reading source []) }
 {
     let names = names_of(alloc, file, header)?;
     let mut columns = Vec::with_capacity(alloc, names.len())?;
     for name in names {
-        columns.push((name, Guess::new(alloc)))?;
+        let notation = named.of(name.as_str(), Kind::Whole);
+        columns.push((name, Guess::new(alloc, notation)))?;
     }
     Ok(Source {
         first: file,

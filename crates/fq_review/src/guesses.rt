@@ -1,13 +1,14 @@
 //! What the fields of a column are.
-ghost use Rattle.std.specs.Prelude.{◌≡◌, ◌∷◌, [], ℕ, List, OnOk, Some, false};
-ghost use Rattle.fq_review.specs.Drafted.{HasCounted, drafted_kind, is_int, kind_alone};
+ghost use Rattle.std.specs.Prelude.{◌≡◌, ◌+◌, ◌-◌, ◌^◌, ◌∷◌, [], ℕ, List, OnOk, Some, false, min};
+ghost use Rattle.fq_review.specs.Drafted.{HasCounted, drafted_kind, is_int, is_printed, kind_alone, kind_of_nulls};
 ghost use Rattle.fq_csv.specs.Field.{is_null};
 
+use crate::problems::{Places, Wanted};
 use crate::tallies::Seen;
-use crate::texts::Texts;
+use crate::texts::{Texts, width_of_whole};
 use fq_column::{Kind, Memory};
 use fq_csv::{NullValues, is_null, truth};
-use fq_notation::whole;
+use fq_notation::{Notation, Scale, whole};
 use fq_places::Quoted;
 use itoa::Buffer;
 use std::alloc::Global;
@@ -20,7 +21,7 @@ const NEARLY: u64 = 10;
 
 /// Whether a field is a whole number as one is printed: without a plus, and without zeros before its digits.
 pub fn is_printed_int(field: &[u8]) -> bool
-    ensures { result ≡ is_int field.now }
+    ensures { result ≡ is_printed field.now }
 {
     match whole(field) {
         Some(number) => Buffer::new().format(number).as_bytes() == field,
@@ -28,11 +29,21 @@ pub fn is_printed_int(field: &[u8]) -> bool
     }
 }
 
-// The kind of a column with this field alone, which is not null.
-fn kind_alone(field: &[u8]) -> Kind
-    ensures { (nulls : List (List ℕ)) → is_null nulls field.now ≡ false → kind_alone nulls field.now ≡ Some result }
+// Whether a field is an int as a column in this notation has them; one in digits is an int only as it is printed.
+fn is_int(notation: Notation, field: &[u8]) -> bool
+    ensures { result ≡ is_int notation field.now }
 {
-    if is_printed_int(field) {
+    match notation {
+        Notation::Plain => is_printed_int(field),
+        Notation::Decimal(_) | Notation::Date => notation.int(field).is_some(),
+    }
+}
+
+// The kind of a column in this notation with this field alone, which is not null.
+fn kind_alone(notation: Notation, field: &[u8]) -> Kind
+    ensures { (nulls : List (List ℕ)) → is_null nulls field.now ≡ false → kind_alone nulls notation field.now ≡ Some result }
+{
+    if is_int(notation, field) {
         Kind::Whole
     } else if truth(field).is_some() {
         Kind::Truth
@@ -41,21 +52,37 @@ fn kind_alone(field: &[u8]) -> Kind
     }
 }
 
-/// How many fields of a column are ints, bools and other texts; null ones do not count.
+// The kind of a column that is null throughout: a text, but of ints if a notation of ints was named for it.
+fn kind_of_nulls(notation: Notation) -> Kind
+    ensures { result ≡ kind_of_nulls notation }
+{
+    match notation {
+        Notation::Plain => Kind::Text,
+        Notation::Decimal(_) | Notation::Date => Kind::Whole,
+    }
+}
+
+/// How many fields of a column are ints in a notation, bools and other texts; null ones do not count.
 #[derive(Drop)]
 pub struct Guess {
+    notation: Notation,
     ints: u64,
+    // the most bytes that an int has before its point
+    width: u64,
     bools: u64,
     texts: Texts,
 }
 
 impl Guess {
-    /// A column without fields.
-    pub fn new(alloc: Global) -> Guess
-        ensures { (nulls : List (List ℕ)) → HasCounted nulls result [] }
+    /// A column without fields, whose ints are in this notation.
+    pub fn new(alloc: Global, notation: Notation) -> Guess
+        ensures notation { result.notation ≡ notation }
+        ensures counted { (nulls : List (List ℕ)) → HasCounted nulls result [] }
     {
         Guess {
+            notation,
             ints: 0,
+            width: 0,
             bools: 0,
             texts: Texts::new(alloc),
         }
@@ -69,24 +96,34 @@ impl Guess {
         nulls: &NullValues,
         place: (u16, u64),
     ) -> Result<(), Memory>
-        ensures { OnOk result ((fields : List (List ℕ)) → HasCounted nulls.now self.old fields → HasCounted nulls.now self.new (field.now ∷ fields)) }
+        ensures notation { OnOk result (self.new.notation ≡ self.old.notation) }
+        ensures counted { OnOk result ((fields : List (List ℕ)) → HasCounted nulls.now self.old fields → HasCounted nulls.now self.new (field.now ∷ fields)) }
     {
         if is_null(field, nulls) {
             return Ok(());
         }
-        match kind_alone(field) {
-            Kind::Whole => self.ints = self.ints.saturating_add(1),
+        match kind_alone(self.notation, field) {
+            Kind::Whole => self.add_int(field),
             Kind::Truth => self.bools = self.bools.saturating_add(1),
             Kind::Text => self.texts.add(alloc, field, place)?,
         }
         Ok(())
     }
 
-    /// The kind of the column: `int` or `bool` if all fields are, and else `text`.
+    // Counts an int.
+    fn add_int(&mut self, field: &[u8])
+        ensures { self.new ≡ record self.old { ints = min (self.old.ints + 1) (2 ^ 64 - 1); width = self.new.width } }
+    {
+        self.ints = self.ints.saturating_add(1);
+        self.width = self.width.max(width_of_whole(field));
+    }
+
+    /// The kind of the column: `int` or `bool` if all fields are, and else `text`; if all are null, `text`, or `int` if it is in a notation.
     pub fn kind(&self) -> Kind
-        ensures { (nulls fields : List (List ℕ)) → HasCounted nulls self.now fields → result ≡ drafted_kind nulls fields }
+        ensures { (nulls fields : List (List ℕ)) → HasCounted nulls self.now fields → result ≡ drafted_kind nulls self.now.notation fields }
     {
         match (self.ints, self.bools, self.texts.total()) {
+            (0, 0, 0) => kind_of_nulls(self.notation),
             (1.., 0, 0) => Kind::Whole,
             (0, 1.., 0) => Kind::Truth,
             _ => Kind::Text,
@@ -120,8 +157,13 @@ impl Guess {
 
     // How many fields are of the sort that most are of: numbers, bools or dates.
     fn most(&self) -> u64 {
-        let numbers = self.ints.saturating_add(count_of(self.texts.decimals()));
-        numbers.max(self.bools).max(count_of(self.texts.dates()))
+        let dates = count_of(self.texts.dates());
+        self.numbers().max(self.bools).max(dates)
+    }
+
+    // How many fields are ints or decimals.
+    fn numbers(&self) -> u64 {
+        self.ints.saturating_add(count_of(self.texts.decimals()))
     }
 
     // How many fields are of no such sort.
@@ -135,9 +177,9 @@ impl Guess {
         (seen.count > 1 && seen.count == self.others()).then_some(text)
     }
 
-    /// The text that all fields are but those of the sort that most are of, if it occurs more than once, and the kind of the column where
-    /// it is null.
-    pub fn null_text(&self) -> Option<(&[u8], Kind)> {
+    /// The text that all fields are but those of the sort that most are of, if it occurs more than once, and what the fields of the column
+    /// have to be where it is null.
+    pub fn null_text(&self) -> Option<(&[u8], Wanted)> {
         let text = self.lone_text()?;
         let forms = count_of(self.texts.decimals()).max(count_of(self.texts.dates()));
         let kind = match (self.ints, forms) {
@@ -145,20 +187,47 @@ impl Guess {
             (1.., _) => Kind::Whole,
             _ => Kind::Truth,
         };
-        Some((text, kind))
+        Some((text, Wanted::of(kind, self.notation)))
+    }
+
+    /// The notation in which those fields are ints that most are, if it is another than that of the column, and what they are: all of them,
+    /// or those but a few.
+    pub fn better_notation(&self) -> Option<(Notation, &'static str)> {
+        let (decimals, dates) = (self.texts.decimals(), self.texts.dates());
+        let is_of_dates = self.notation == Notation::Date;
+        let (notation, noun) = match (decimals, dates) {
+            (Some(_), _) if !is_of_dates && self.numbers() == self.most() => (
+                self.decimal()?,
+                "the decimals",
+            ),
+            (_, Some(dates)) if dates.count == self.most() => (Notation::Date, "the dates"),
+            _ => return None,
+        };
+        let which = if self.others() == 0 { "them" } else { noun };
+        Some((notation, which))
+    }
+
+    // The notation in which the decimals and the ints of the column are ints, if 64 bits hold each.
+    fn decimal(&self) -> Option<Notation> {
+        let places = match self.notation {
+            Notation::Decimal(scale) => self.texts.places().max(scale.places() as u64),
+            _ => self.texts.places(),
+        };
+        let width = self.width.max(self.texts.width());
+        if width.saturating_add(places) > u64::from(Scale::MAX) {
+            return None;
+        }
+        Scale::new(u8::try_from(places).ok()?).map(Notation::Decimal)
     }
 
     /// Writes what the fields are: `48740 ints, 248 "N/A", 29 others (first "85,3", line 195)`. Files are named if there are more than one.
     pub fn write<E: Write>(&self, names: &[&str], err: &mut E) -> Option<()> {
         let mut comma = "";
-        for (count, noun) in [(self.ints, "int"), (self.bools, "bool")] {
-            write_part(&mut comma, count, noun, err)?;
-        }
+        self.write_ints(&mut comma, err)?;
+        write_part(&mut comma, self.bools, "bool", err)?;
         if let Some(decimals) = self.texts.decimals() {
-            let places = self.texts.places();
-            let plural = if places == 1 { "" } else { "s" };
             write_part(&mut comma, decimals.count, "decimal", err)?;
-            write!(err, " to {places} place{plural}").ok()?;
+            write!(err, " to {}", Places(self.texts.places())).ok()?;
             self.write_few(decimals, names, err)?;
         }
         if let Some(dates) = self.texts.dates() {
@@ -166,6 +235,19 @@ impl Guess {
             self.write_few(dates, names, err)?;
         }
         self.write_others(comma, names, err)
+    }
+
+    // Writes how many fields are ints in the notation of the column.
+    fn write_ints<E: Write>(&self, comma: &mut &'static str, err: &mut E) -> Option<()> {
+        match self.notation {
+            Notation::Plain => write_part(comma, self.ints, "int", err),
+            Notation::Date => write_part(comma, self.ints, "date", err),
+            Notation::Decimal(scale) if self.ints > 0 => {
+                write_part(comma, self.ints, "decimal", err)?;
+                write!(err, " of at most {}", Places(scale.places() as u64)).ok()
+            }
+            Notation::Decimal(_) => Some(()),
+        }
     }
 
     // Writes the place of the first of these fields, if they are a tenth or fewer.

@@ -78,12 +78,26 @@ impl Display for Wanted {
     fn fmt<W: Write>(&self, f: &mut Formatter<W>) -> fmt::Result {
         match self {
             Wanted::Int => f.write_str("an int"),
-            Wanted::Decimal(1) => f.write_str("a decimal of at most 1 place"),
-            Wanted::Decimal(places) => write!(f, "a decimal of at most {places} places"),
+            Wanted::Decimal(places) => write!(
+                f,
+                "a decimal of at most {}",
+                Places(u64::from(*places))
+            ),
             Wanted::Date => f.write_str("a date, YYYY-MM-DD"),
             Wanted::Text => f.write_str("valid UTF-8"),
             Wanted::Truth => f.write_str("a bool"),
         }
+    }
+}
+
+/// How many places a decimal has behind its point.
+#[derive(Clone, Copy)]
+pub struct Places(pub u64);
+
+impl Display for Places {
+    fn fmt<W: Write>(&self, f: &mut Formatter<W>) -> fmt::Result {
+        let plural = if self.0 == 1 { "" } else { "s" };
+        write!(f, "{} place{plural}", self.0)
     }
 }
 

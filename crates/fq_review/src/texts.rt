@@ -3,6 +3,7 @@ ghost use Rattle.std.specs.Prelude.{◌≡◌, ◌+◌, ◌-◌, ◌^◌, min, O
 
 use crate::tallies::{Seen, Tally};
 use fq_column::Memory;
+use fq_notation::Notation;
 use std::alloc::Global;
 use std::str;
 
@@ -11,8 +12,9 @@ use std::str;
 pub struct Texts {
     total: u64,
     decimals: Option<Seen>,
-    // the most digits after a decimal point
+    // the most digits after a decimal point, and the most bytes before one
     places: u64,
+    width: u64,
     dates: Option<Seen>,
     // those of the others that are not valid UTF-8
     unreadable: Option<Seen>,
@@ -28,6 +30,7 @@ impl Texts {
             total: 0,
             decimals: None,
             places: 0,
+            width: 0,
             dates: None,
             unreadable: None,
             others: Tally::new(alloc),
@@ -42,9 +45,10 @@ impl Texts {
         if let Some(places) = decimal_places(text) {
             self.decimals = Some(Seen::after(self.decimals, place));
             self.places = self.places.max(places);
+            self.width = self.width.max(width_of_whole(text));
             return Ok(());
         }
-        if is_date(text) {
+        if Notation::Date.int(text).is_some() {
             self.dates = Some(Seen::after(self.dates, place));
             return Ok(());
         }
@@ -69,6 +73,11 @@ impl Texts {
     /// The most digits that one of the decimals has after its point.
     pub fn places(&self) -> u64 {
         self.places
+    }
+
+    /// The most bytes that one of the decimals has before its point.
+    pub fn width(&self) -> u64 {
+        self.width
     }
 
     /// The dates, such as `2024-02-29`, if there are any.
@@ -105,19 +114,8 @@ pub fn decimal_places(field: &[u8]) -> Option<u64> {
     places.filter(|count| *count > 0)
 }
 
-// Whether a field is a date as ISO 8601 writes one: a year of four digits, a month from 01 to 12 and a day from 01 to 31, with hyphens
-// between them.
-fn is_date(field: &[u8]) -> bool {
-    let [y0, y1, y2, y3, b'-', m0, m1, b'-', d0, d1] = field else {
-        return false;
-    };
-    let are_digits = [y0, y1, y2, y3, m0, m1, d0, d1]
-        .iter()
-        .all(|digit| digit.is_ascii_digit());
-    are_digits
-        && matches!((*m0, *m1), (b'0', b'1'..=b'9') | (b'1', b'0'..=b'2'))
-        && matches!(
-            (*d0, *d1),
-            (b'0', b'1'..=b'9') | (b'1' | b'2', _) | (b'3', b'0' | b'1')
-        )
+/// How many bytes a field has before its point, or in all if it has none.
+pub fn width_of_whole(field: &[u8]) -> u64 {
+    let point = field.iter().position(|byte| *byte == b'.');
+    point.unwrap_or(field.len()) as u64
 }

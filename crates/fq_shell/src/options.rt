@@ -275,8 +275,8 @@ fn with_run<'a>(alloc: Global, command: Command<'a>) -> Result<Command<'a>, Allo
     let command = command.arg(plan(alloc).required_unless_present("draft")?)?;
     let command = command.arg(batch(alloc).overrides_with("batch")?)?;
     let command = command.arg(workers(alloc).overrides_with("workers")?)?;
-    let command = command.arg(decimal(alloc).conflicts_with("draft")?)?;
-    let command = command.arg(date(alloc).conflicts_with("draft")?)?;
+    let command = command.arg(decimal(alloc))?;
+    let command = command.arg(date(alloc))?;
     let output = output(alloc).overrides_with("output")?;
     command.arg(output.conflicts_with("explain")?)
 }

@@ -1,4 +1,4 @@
-use Rattle.std.proofs.Common.{◌≡◌, ◌<◌, ◌^◌, ◌∙◌, ◌-ℤ◌, Bool, true, false, arith, refl, ℕ, ℤ, pos, neg_ℤ, suc, zero, to_z, of_z, w64}
+use Rattle.std.proofs.Common.{◌≡◌, ◌<◌, ◌^◌, ◌∙◌, ◌-ℤ◌, arith, refl, ℕ, ℤ, pos, neg_ℤ, suc, zero, to_z, of_z, w64}
 use Rattle.std.proofs.Math.IntN.{+ℤ_idl}
 use Rattle.std.proofs.lemmas.Int.{to_z-of_z, to_z_pos}
 use mir.Val.{SFits}

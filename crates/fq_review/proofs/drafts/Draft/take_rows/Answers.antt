@@ -20,7 +20,7 @@ returns-in_default-clause-taken g c rs marks left some rows h =
     let next = c.in_ok-line.ensures.reads kept.1 kept.2 kept.4 kept.5 in
     let end = rw c.in_default.is at next.2 in
     let all : rs ≡ kept.0 = kept.3 ∙ ap (λ more. kept.0 ++ more) end ∙ append-nil kept.0 in
-    subst (λ done. HasTaken c.args.self.now.nulls c.loop.source (reverse done ++ rows)) (sym all) (kept.6 rows h)
+    subst (λ done. HasTaken c.args.self.now.reading c.loop.source (reverse done ++ rows)) (sym all) (kept.6 rows h)
 
 pub loop-preserved : goal.loop-preserved
 loop-preserved g c = record {
@@ -39,7 +39,7 @@ loop-preserved g c = record {
         one-more-done rs kept.0 kept.1 row here.0 kept.3 here.1,
         here.2,
         next.1,
-        λ rows h. subst (λ all. HasTaken c.args.self.now.nulls c.take_row.new.self (all ++ rows)) (sym (reverse-append kept.0 (row ∷ [])))
+        λ rows h. subst (λ all. HasTaken c.args.self.now.reading c.take_row.new.self (all ++ rows)) (sym (reverse-append kept.0 (row ∷ [])))
             (c.in_ok-take_row.ensures.taken (reverse kept.0 ++ rows) (kept.6 rows h)),
       );
 }

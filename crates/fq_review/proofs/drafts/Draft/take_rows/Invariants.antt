@@ -15,5 +15,5 @@ invariant-loop g l = record {
   names : names_in l.source.columns.items ≡ names_in l.fn.source.columns.items;
   taken : (rs : List Record) (marks : List Mark) → HasLeft g.A.Read.remaining l.fn.records.records rs → HasMarks g.B.Read.remaining l.fn.records.marks marks →
       (done more : List Record) × (rest : List Mark) × (rs ≡ done ++ more) × HasLeft g.A.Read.remaining l.records.records more × HasMarks g.B.Read.remaining l.records.marks rest
-      × ((rows : List Record) → HasTaken l.self.nulls l.fn.source rows → HasTaken l.self.nulls l.source (reverse done ++ rows));
+      × ((rows : List Record) → HasTaken l.self.reading l.fn.source rows → HasTaken l.self.reading l.source (reverse done ++ rows));
 }

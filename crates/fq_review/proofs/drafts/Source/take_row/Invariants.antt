@@ -9,6 +9,6 @@ invariant-loop-at l = record {
   files : l.self.files ≡ l.fn.self.files;
   size : length l.self.columns.items ≡ length l.fn.self.columns.items;
   names : names_in l.self.columns.items ≡ names_in l.fn.self.columns.items;
-  first : FirstCounted l.nulls (fields_of l.row) l.fn.self.columns.items l.self.columns.items l.at;
-  others : OthersSame l.nulls (fields_of l.row) l.fn.self.columns.items l.self.columns.items l.at;
+  first : FirstCounted l.reading.nulls (fields_of l.row) l.fn.self.columns.items l.self.columns.items l.at;
+  others : OthersSame l.reading.nulls (fields_of l.row) l.fn.self.columns.items l.self.columns.items l.at;
 }

@@ -1,5 +1,6 @@
-//! The option that names null texts, as a reader of a note can type it.
+//! The options that a note names, as a reader of it can type them.
 use fq_csv::NullValues;
+use fq_notation::Notation;
 use std::fmt::{Display, Formatter, Write};
 use std::{fmt, str};
 
@@ -36,9 +37,51 @@ impl Display for NullOption<'_> {
     }
 }
 
+/// `--decimal` or `--date` with the name of a column, as a shell takes it.
+#[derive(Clone, Copy)]
+pub enum NotationOption<'a> {
+    Decimal(&'a str, usize),
+    Date(&'a str),
+}
+
+impl<'a> NotationOption<'a> {
+    /// The option. `None` for ints in digits, and if the name is empty, begins with a hyphen, or has a comma, an equals sign, a quote, or
+    /// another character than the printable ones of ASCII.
+    pub fn of(name: &'a str, notation: Notation) -> Option<NotationOption<'a>> {
+        if !can_be_quoted(name) || name.contains('=') || name.is_empty() || name.starts_with('-') {
+            return None;
+        }
+        match notation {
+            Notation::Plain => None,
+            Notation::Decimal(scale) => Some(NotationOption::Decimal(name, scale.places())),
+            Notation::Date => Some(NotationOption::Date(name)),
+        }
+    }
+}
+
+impl Display for NotationOption<'_> {
+    fn fmt<W: Write>(&self, f: &mut Formatter<W>) -> fmt::Result {
+        match self {
+            NotationOption::Decimal(name, scale) => {
+                let quote = quote_of(name);
+                write!(f, "--decimal {quote}{name}={scale}{quote}")
+            }
+            NotationOption::Date(name) => {
+                let quote = quote_of(name);
+                write!(f, "--date {quote}{name}{quote}")
+            }
+        }
+    }
+}
+
 // Whether a text may stand between single quotes, and has no comma.
 fn can_be_quoted(text: &str) -> bool {
     text.bytes().all(|byte| (b' '..=b'~').contains(&byte) && byte != b'\'' && byte != b',')
+}
+
+// What stands before a text and after it in a shell.
+fn quote_of(text: &str) -> &'static str {
+    if is_bare(text) { "" } else { "'" }
 }
 
 // Whether a text needs no quotes in a shell.
