@@ -353,9 +353,56 @@ fn columns_that_are_nearly_ints(rt: HostRuntime) -> Result<(), Fail> {
         (
             0,
             "{\n  \"version\": 2,\n  \"sources\": [\n    {\n      \"files\": 1,\n      \"columns\": [\n        [\"v\", \"text\"],\n        [\"u\", \"text\"],\n        [\"s\", \"text\"]\n      ]\n    }\n  ],\n  \"steps\": []\n}\n",
-            "\"v\" is text: 19 ints, 1 other (first \"x\", line 20)\n\"u\" is text: 18 ints, 2 \"z\"; --null-values z makes it an int\n\"s\" is text: 18 ints, 1 decimal to 1 place (first line 20)\n",
+            "\"v\" is text: 19 ints, 1 other (first \"x\", line 20)\n\"u\" is text: 18 ints, 2 \"z\"; --null-values z makes it an int\n\"s\" is text: 18 ints, 1 decimal to 1 place (first line 20); --decimal s=1 reads them as ints\n",
         ),
     )
+}
+
+#[test]
+fn a_draft_with_decimals_and_dates(rt: HostRuntime) -> Result<(), Fail> {
+    writes_by(
+        &rt,
+        rt.alloc(),
+        "--draft --decimal a=2,e=1 --date d 0",
+        "",
+        &["a,d,e,n,t\n12.5,2024-02-29,,,1\n-3,0001-01-01,,,2.5\n"],
+        "",
+        (
+            0,
+            "{\n  \"version\": 2,\n  \"sources\": [\n    {\n      \"files\": 1,\n      \"columns\": [\n        [\"a\", \"int\"],\n        [\"d\", \"int\"],\n        [\"e\", \"int\"],\n        [\"n\", \"text\"],\n        [\"t\", \"text\"]\n      ]\n    }\n  ],\n  \"steps\": []\n}\n",
+            "\"t\" is text: 1 int, 1 decimal to 1 place; --decimal t=1 reads them as ints\n",
+        ),
+    )
+}
+
+#[test]
+fn drafts_that_refuse_a_notation(rt: HostRuntime) -> Result<(), Fail> {
+    for (line, file, said) in [
+        (
+            "--draft --decimal a=1 0",
+            "a\n12.5\n.25\n",
+            "\"a\" is text: 1 decimal of at most 1 place, 1 decimal to 2 places; --decimal a=2 reads them as ints\nframeq: --decimal, --date: no such int column\n",
+        ),
+        (
+            "--draft --date a,b --details 0",
+            "a,b\n2024-02-29,2023-02-29\n",
+            "frameq: --decimal, --date: no such int column\n  \"b\" is not an int column\n  source 0: \"a\"\n  the frame: \"a\"\n",
+        ),
+        (
+            "--draft --date a --decimal a=1 0",
+            "a\n5\n",
+            "frameq: --decimal, --date: a name stands twice\n",
+        ),
+        (
+            "--draft --date a --decimal a=0 nowhere",
+            "",
+            "frameq: --decimal takes NAME=SCALE, with a scale from 1 to 18\n",
+        ),
+    ] {
+        let files = &[file];
+        writes_by(&rt, rt.alloc(), line, "", files, "", (2, "", said))?;
+    }
+    Ok(())
 }
 
 #[test]
