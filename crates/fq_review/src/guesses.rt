@@ -157,13 +157,24 @@ impl Guess {
 
     // How many fields are of the sort that most are of: numbers, bools or dates.
     fn most(&self) -> u64 {
-        let dates = count_of(self.texts.dates());
-        self.numbers().max(self.bools).max(dates)
+        self.numbers().max(self.bools).max(self.dates())
     }
 
-    // How many fields are ints or decimals.
+    // How many fields are ints or decimals; the ints of a column of dates are none.
     fn numbers(&self) -> u64 {
-        self.ints.saturating_add(count_of(self.texts.decimals()))
+        let decimals = count_of(self.texts.decimals());
+        match self.notation {
+            Notation::Date => decimals,
+            _ => self.ints.saturating_add(decimals),
+        }
+    }
+
+    // How many fields are dates, in whichever notation the column is.
+    fn dates(&self) -> u64 {
+        match self.notation {
+            Notation::Date => self.ints,
+            _ => count_of(self.texts.dates()),
+        }
     }
 
     // How many fields are of no such sort.
@@ -194,12 +205,8 @@ impl Guess {
     /// or those but a few.
     pub fn better_notation(&self) -> Option<(Notation, &'static str)> {
         let (decimals, dates) = (self.texts.decimals(), self.texts.dates());
-        let is_of_dates = self.notation == Notation::Date;
         let (notation, noun) = match (decimals, dates) {
-            (Some(_), _) if !is_of_dates && self.numbers() == self.most() => (
-                self.decimal()?,
-                "the decimals",
-            ),
+            (Some(_), _) if self.numbers() == self.most() => (self.decimal()?, "the decimals"),
             (_, Some(dates)) if dates.count == self.most() => (Notation::Date, "the dates"),
             _ => return None,
         };
@@ -213,7 +220,10 @@ impl Guess {
             Notation::Decimal(scale) => self.texts.places().max(scale.places() as u64),
             _ => self.texts.places(),
         };
-        let width = self.width.max(self.texts.width());
+        let width = match self.notation {
+            Notation::Date => self.texts.width(),
+            _ => self.width.max(self.texts.width()),
+        };
         if width.saturating_add(places) > u64::from(Scale::MAX) {
             return None;
         }
