@@ -211,15 +211,17 @@ def is_allowed(sort, answer, own):
 
 
 def refuse(run, library, sort, number):
-    """The answer of a run in which this call of a sort is refused, and whether it made that call."""
+    """The answer of a run in which this call of a sort is refused, and whether it made that call. It is no answer if a thread that was
+    started is not joined where the program says something."""
     reader, writer = os.pipe()
     try:
         answer = run(env={"LD_PRELOAD": library, "REFUSE": f"{sort} {number}", "REFUSE_TELL": str(writer)}, pass_fds=[writer])
         os.set_blocking(reader, False)
         try:
-            return answer, bool(os.read(reader, 1))
+            told = os.read(reader, 1000)
         except BlockingIOError:
-            return answer, False
+            told = b""
+        return answer._replace(status=None, err=f"a thread is not joined: {answer}") if b"T" in told else answer, b"!" in told
     finally:
         os.close(reader)
         os.close(writer)
@@ -394,7 +396,7 @@ def makes(run, library, sort, number):
 
 
 def try_setting(count, name, run, library, sort, least, most):
-    """Whether a run makes at least and at most so many calls of a sort."""
+    """Whether a run makes at least and at most so many calls of a sort, or has so many threads at once."""
     fits = makes(run, library, sort, least) and not makes(run, library, sort, most + 1)
     wrong = None if fits else f"{name}: not {least} to {most} calls, {sort}"
     count.add("program, settings", "as asked for" if fits else "otherwise", wrong)
@@ -426,13 +428,23 @@ def try_settings(count, program, library, room):
     try_setting(count, "standard input", run_alone, library, "memory", 1, 499)
 
 
-def try_printing(count, program, library):
-    """A run whose threads that print are refused prints the same."""
+def try_printing(count, program, library, room):
+    """A run whose threads that print are refused prints the same; no more of them print at once than there are workers; and they are joined
+    before the program says that a read has failed."""
     row = next(it for it in ROWS if it.name == "printed in parts")
     for number in (4, 5):
         answer, is_met = refuse(functools.partial(program.run_row, row), library, "thread", number)
         fits = is_met and answer == row.answer
         count.add("program, printing", "with the row's answer" if fits else "otherwise", None if fits else f"thread {number} that prints")
+    # 29 parts, and a file of several reads
+    rows, (_, steps, *_) = "12345\n" * 60_000, program.arguments[row.name]
+    path = write(f"{room}/long.csv", f"v\n{rows}")
+    long = lambda workers: functools.partial(program.run, ["--plan", steps, "--workers", str(workers), path])
+    # beside the thread of the file and those of the workers
+    for workers, threads in ((1, 2), (2, 5), (3, 7)):
+        try_setting(count, f"a long file in parts, {workers} workers", long(workers), library, "at-once", threads, threads)
+    own = frame("v,s\n" + rows.replace("12345", "12345,12345"))
+    try_sort(count, "a long file in parts", long(2), own, library, "read")
 
 
 def try_random_case(count, program, library, room, case, own, draw):

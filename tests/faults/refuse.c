@@ -13,8 +13,10 @@
        keep          fsync and rename answer EIO
        signal        open, openat, read, write, fsync and rename are made once the program was sent a signal,
                      whose number stands last, as in 'signal 7 15'
+       at-once       nothing is refused; it is told if so many threads have been started and not joined at a time
 
-   If a call is refused, a byte goes to the descriptor REFUSE_TELL. Needs no header. */
+   If a call is refused, a '!' goes to the descriptor REFUSE_TELL. In each run a 'T' goes there if the program writes to standard output or
+   standard error while a thread that it has started is not joined. Needs no header. */
 
 #define RTLD_NEXT ((void *)-1L)
 enum { EINTR = 4, EIO = 5, EAGAIN = 11, ENOMEM = 12, EMFILE = 24, READ = 0, WRITE = 1, GETPID = 39, KILL = 62, FSYNC = 74, RENAME = 82, OPENAT = 257, HERE = -100 };
@@ -33,7 +35,7 @@ long syscall(long, ...);
 int *__errno_location(void);
 
 static const char *sort = "";
-static long number, ends, tell, calls;
+static long number, ends, tell, calls, threads;
 
 __attribute__((constructor)) static void begin(void) {
     const char *refuse = getenv("REFUSE"), *descriptor = getenv("REFUSE_TELL");
@@ -46,13 +48,21 @@ __attribute__((constructor)) static void begin(void) {
     sort = refuse;
 }
 
+static int is_sort(const char *name) {
+    size_t length = strlen(name);
+    return !strncmp(sort, name, length) && sort[length] == ' ';
+}
+
 /* Whether this call, of this sort, is the one that is refused. */
 static int is_refused(const char *name) {
-    size_t length = strlen(name);
-    if (strncmp(sort, name, length) || sort[length] != ' ') return 0;
-    if (__atomic_add_fetch(&calls, 1, __ATOMIC_SEQ_CST) != number) return 0;
+    if (!is_sort(name) || __atomic_add_fetch(&calls, 1, __ATOMIC_SEQ_CST) != number) return 0;
     syscall(WRITE, tell, "!", 1L);
     return 1;
+}
+
+/* Tells if a thread is not joined while the program says something. */
+static void meet_threads(int file) {
+    if (*sort && (file == 1 || file == 2) && __atomic_load_n(&threads, __ATOMIC_SEQ_CST)) syscall(WRITE, tell, "T", 1L);
 }
 
 /* Sends the program the signal that is to end it before this call, if it is the one. */
@@ -91,6 +101,7 @@ long read(int file, void *buffer, size_t size) {
 
 long write(int file, const void *buffer, size_t size) {
     meet_signal();
+    meet_threads(file);
     if (is_refused("write")) return fails(EIO);
     if (size > 1 && is_refused("short-write")) size = 1;
     return syscall(WRITE, (long)file, buffer, size);
@@ -126,6 +137,19 @@ int rename(const char *from, const char *to) {
 
 int pthread_create(void *thread, const void *attributes, void *(*body)(void *), void *given) {
     static int (*create)(void *, const void *, void *(*)(void *), void *);
+    int answer;
     if (!create) *(void **)&create = dlsym(RTLD_NEXT, "pthread_create");
-    return is_refused("thread") ? EAGAIN : create(thread, attributes, body, given);
+    if (is_refused("thread")) return EAGAIN;
+    answer = create(thread, attributes, body, given);
+    if (!answer && __atomic_add_fetch(&threads, 1, __ATOMIC_SEQ_CST) == number && is_sort("at-once")) syscall(WRITE, tell, "!", 1L);
+    return answer;
+}
+
+int pthread_join(unsigned long thread, void **given) {
+    static int (*join)(unsigned long, void **);
+    int answer;
+    if (!join) *(void **)&join = dlsym(RTLD_NEXT, "pthread_join");
+    answer = join(thread, given);
+    if (!answer) __atomic_sub_fetch(&threads, 1, __ATOMIC_SEQ_CST);
+    return answer;
 }
