@@ -9,7 +9,7 @@ use Rattle.fq_csv.specs.declared.faults.ScanFault.{ScanFault}
 use Rattle.fq_csv.specs.declared.layouts.Layout.{Layout}
 use Rattle.fq_csv.specs.declared.faults.ScanFault.TheVariants.{Header, Width, BadCell, TooLong, Read, Memory}
 use Rattle.fq_csv.proofs.HandedOutLemmas.{pieces-more, pieces-none}
-use Rattle.fq_run.specs.Feeding.{AreTextItems, Feeding, MayCome, end_item, feeding_of, runs_from, scanned_items}
+use Rattle.fq_run.specs.Feeding.{AreTextItems, Feeding, MayCome, end_item, failure_in, feeding_of, runs_from, scanned_items}
 use Rattle.fq_run.specs.declared.file_feeds.FileItem.{FileItem}
 use Rattle.fq_run.specs.declared.file_feeds.FileItem.TheVariants.{Run, Ended}
 
@@ -72,23 +72,23 @@ no-run old new ended f v n out = (tt, same)
 
 pub next-fault : (old new : RecordScanning) (ended : Bool) (f : Feeding) (fault : ScanFault) (xs : List FileItem) → f ≡ feeding_of old ended → ended ≡ false
     → ((u : RecordStream) → old.upcoming ≡ Some u → HandsOutRun old.file old.run_size u (Err fault) new.upcoming)
-    → ((number : ℕ) → fault ≢ Read number) → fault ≢ Memory → xs ≡ [] → MayCome f (Ended fault ∷ xs)
-next-fault old new ended f fault xs v n out not_read not_memory none = ((text-fault fault not_read not_memory, subst AreTextItems (sym none) tt), same)
+    → failure_in fault ≡ None → xs ≡ [] → MayCome f (Ended fault ∷ xs)
+next-fault old new ended f fault xs v n out text none = ((text-fault fault text, subst AreTextItems (sym none) tt), same)
   where
-    text-fault : (fault : ScanFault) → ((number : ℕ) → fault ≢ Read number) → fault ≢ Memory → IsOfText (Some fault)
-    text-fault (Header file) r m = tt
-    text-fault (Width file row) r m = tt
-    text-fault (BadCell file row column) r m = tt
-    text-fault (TooLong file) r m = tt
-    text-fault (Read file) r m = absurd (r file refl)
-    text-fault Memory r m = absurd (m refl)
+    text-fault : (fault : ScanFault) → failure_in fault ≡ None → IsOfText (Some fault)
+    text-fault (Header file) e = tt
+    text-fault (Width file row) e = tt
+    text-fault (BadCell file row column) e = tt
+    text-fault (TooLong file) e = tt
+    text-fault (Read file) e = absurd (none-some _ (sym e))
+    text-fault Memory e = absurd (none-some _ (sym e))
 
     go : IsFailure old.file fault → ⊥
-    go (inl q) = not_read old.file q
-    go (inr q) = not_memory q
+    go (inl q) = none-some _ (sym text ∙ ap failure_in q)
+    go (inr q) = none-some _ (sym text ∙ ap failure_in q)
 
     same : (known : List FileItem) → f.items ≡ Some known → AreTextItems known → Ended fault ∷ xs ≡ known
-    same known e text =
+    same known e are_text =
         let told = comes old ended f known v n e in
         elim (out told.0 told.1) [
           | inl o ↦ ap (λ ys. Ended fault ∷ ys) none ∙ sym (scanned_items-over old.file old.layout old.run_size old.taken (Some fault)) ∙ ap (scanned_items old.file old.layout old.run_size old.taken) (sym o.0) ∙ told.2

@@ -10,6 +10,8 @@ use Rattle.fq_csv.specs.Taking.{RecordStream}
 use Rattle.fq_csv.specs.declared.faults.ScanFault.{ScanFault}
 use Rattle.fq_csv.specs.declared.faults.ScanFault.TheVariants as scan
 use Rattle.fq_csv.specs.declared.layouts.Layout.{Layout}
+use Rattle.fq_lanes.specs.declared.faults.FeedFault.{FeedFault}
+use Rattle.fq_lanes.specs.declared.faults.FeedFault.TheVariants as feed
 use Rattle.fq_run.specs.declared.file_feeds.FileItem.{FileItem}
 use Rattle.fq_run.specs.declared.file_feeds.FileItem.TheVariants.{Run, Ended}
 
@@ -36,6 +38,12 @@ pub record Feeding : Type 0 where
 abbrev pub feeding_of : RecordScanning → Bool → Feeding
 feeding_of s true = record { most = 0; items = Some [] }
 feeding_of s false = record { most = s.room + 1; items = option_map (scanned_items s.file s.layout s.run_size s.taken) s.upcoming }
+
+-- what the engine is told of where a scan could not go on: a failed read is a failed read, and a failed allocation is one
+abbrev pub failure_in : ScanFault → Option FeedFault
+failure_in (scan.Read file) = Some feed.Read
+failure_in scan.Memory = Some feed.Memory
+failure_in _ = None
 
 -- an item's fault is one of the file's text: a failed read is never an item
 abbrev pub IsTextItem : FileItem → Type 0

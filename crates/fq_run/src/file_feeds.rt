@@ -1,7 +1,7 @@
 //! The items of a file for the engine: its records in runs, and its fault as one item more.
 ghost use Rattle.std.specs.Prelude.{◌≡◌, ◌≤◌, IfOk, option_map};
 ghost use Rattle.fq_csv.specs.Taking.{record_stream};
-ghost use Rattle.fq_run.specs.Feeding.{MayCome, scanned_items, some_items};
+ghost use Rattle.fq_run.specs.Feeding.{MayCome, failure_in, scanned_items, some_items};
 ghost use Rattle.fq_csv.specs.Sources.{row_limit};
 
 use fq_column::Memory;
@@ -80,10 +80,9 @@ impl<R: Read> Feed for FileFeed<R> {
         match self.records.next_run() {
             Ok(Some(run)) => Ok(Some(FileItem::Run(run))),
             Ok(None) => Ok(None),
-            Err(fault) => match fault {
-                ScanFault::Read { .. } => Err(FeedFault::Read),
-                ScanFault::Memory => Err(FeedFault::Memory),
-                fault => {
+            Err(fault) => match failure_of(fault) {
+                Some(failure) => Err(failure),
+                None => {
                     self.ended = true;
                     Ok(Some(FileItem::Ended(fault)))
                 }
@@ -94,4 +93,15 @@ impl<R: Read> Feed for FileFeed<R> {
     ghost satisfiable = { some_items };
 
     ghost few = { λ _ few. few };
+}
+
+// The failure that the engine is told of where a scan could not go on; none of a fault of the file's text, which is an item.
+fn failure_of(fault: ScanFault) -> Option<FeedFault>
+    ensures { result ≡ failure_in fault }
+{
+    match fault {
+        ScanFault::Read { .. } => Some(FeedFault::Read),
+        ScanFault::Memory => Some(FeedFault::Memory),
+        _ => None,
+    }
 }

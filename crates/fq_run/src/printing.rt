@@ -1,8 +1,8 @@
 //! Printing beside the caller's thread.
-ghost use Rattle.std.specs.Prelude.{◌≡◌, ◌++◌, Ok, IfOk, OnOk};
+ghost use Rattle.std.specs.Prelude.{◌≡◌, ◌≤◌, ◌-◌, ◌++◌, [], Ok, IfOk, OnOk, length};
 ghost use Rattle.fq_csv.specs.Printed.{printed_names, printed_rows_in};
 ghost use Rattle.fq_run.specs.PrintedText.{rows_text, text_of};
-ghost use Rattle.fq_run.specs.Printing.{part_text, whole_text};
+ghost use Rattle.fq_run.specs.Printing.{HasFewParts, part_text, whole_text};
 
 use crate::printed_text::PrintedText;
 use crate::row_sinks::RowSink;
@@ -132,6 +132,7 @@ impl<'r, T: Threads> Printing<'r, T> {
     ) -> Result<Printing<'r, T>, Memory>
         ensures text { IfOk result (λ p. whole_text p ≡ printed_names schema.now) }
         ensures notations { IfOk result (λ p. p.press.notations.now ≡ press.entry.notations.now) }
+        ensures few { IfOk result (λ p. p.parts.items ≡ []) }
     {
         let alloc = press.alloc;
         let text = PrintedText::of_names(alloc, schema)?;
@@ -149,6 +150,7 @@ impl<'r, T: Threads> Printing<'r, T> {
     fn print(&mut self, batch: Batch) -> Result<(), Memory>
         ensures text { OnOk result (whole_text self.new ≡ whole_text self.old ++ printed_rows_in self.old.press.notations.now batch.rows) }
         ensures notations { self.new.press.notations.now ≡ self.old.press.notations.now }
+        ensures few { HasFewParts self.old → HasFewParts self.new }
     {
         if batch.rows() == 0 {
             return Ok(());
@@ -166,6 +168,7 @@ impl<'r, T: Threads> Printing<'r, T> {
     fn hand_on(&mut self) -> Result<(), Memory>
         ensures text { OnOk result (whole_text self.new ≡ whole_text self.old) }
         ensures notations { self.new.press.notations.now ≡ self.old.press.notations.now }
+        ensures few { HasFewParts self.old → HasFewParts self.new }
     {
         if self.parts.len() >= self.press.threads {
             self.settle_first()?;
@@ -186,6 +189,8 @@ impl<'r, T: Threads> Printing<'r, T> {
     fn settle_first(&mut self) -> Result<(), Memory>
         ensures text { OnOk result (whole_text self.new ≡ whole_text self.old) }
         ensures notations { self.new.press.notations.now ≡ self.old.press.notations.now }
+        ensures threads { self.new.press.threads ≡ self.old.press.threads }
+        ensures fewer { length self.new.parts.items ≤ length self.old.parts.items - 1 }
     {
         match self.parts.pop_front() {
             Some(part) => self.text.append(part.wait(self.press.rt)?),

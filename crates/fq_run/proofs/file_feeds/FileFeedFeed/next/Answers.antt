@@ -1,4 +1,4 @@
-use Rattle.std.proofs.Common.{Ok, Some, [], refl, subst, sym}
+use Rattle.std.proofs.Common.{Ok, Some, [], refl, subst, sym, ◌∙◌}
 use Rattle.fq_csv.specs.RecordScan.{HandsOutRun, HasRunForm}
 use Rattle.fq_csv.specs.Taking.{FieldRun, RecordStream}
 use Rattle.std.specs.Prelude.{◌≡◌, Option}
@@ -22,6 +22,6 @@ returns-in-Ok-None-clause-gives g c =
     no-run old new c.self.inside.ended c.args.self.now (sym c.self.view_is) c.if-self.false
     (subst (λ (o : Option FieldRun). (u : RecordStream) → old.upcoming ≡ Some u → HandsOutRun old.file old.run_size u (Ok o) new.upcoming) c.in-Ok-None.field-0-is c.in-Ok-None.ensures.stream)
 
-pub returns-in_default-clause-gives : goal.returns-in_default-clause-gives
-returns-in_default-clause-gives g c xs h =
-    next-fault c.self.inside.records c.next_run.new.self c.self.inside.ended c.args.self.now c.in-Err.fault xs (sym c.self.view_is) c.if-self.false c.in-Err.ensures.stream c.in_default.not-Read c.in_default.not-Memory (h.1 [] refl tt)
+pub returns-in-None-clause-gives : goal.returns-in-None-clause-gives
+returns-in-None-clause-gives g c xs h =
+    next-fault c.self.inside.records c.next_run.new.self c.self.inside.ended c.args.self.now c.in-Err.fault xs (sym c.self.view_is) c.if-self.false c.in-Err.ensures.stream (sym c.failure_of.ensures ∙ c.in-None.is) (h.1 [] refl tt)
