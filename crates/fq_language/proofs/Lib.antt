@@ -8,3 +8,4 @@ pub mod OnLiterals
 pub mod StepVersionLemmas
 pub mod VersionLemmas
 pub mod PlainLemmas
+pub mod RefusalLemmas

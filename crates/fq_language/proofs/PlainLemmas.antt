@@ -5,7 +5,7 @@ use Rattle.serde_json.specs.Data.{Data}
 use Rattle.fq_csv.specs.Sources.{Source}
 use Rattle.fq_csv.specs.declared.sources.TheConstants.{MAX_FILES}
 use Rattle.fq_expr.specs.declared.fronts.TheConstants.{MAX_STEPS}
-use Rattle.fq_language.specs.Parts.{each_of, given, has_members, member, only_if, with_length}
+use Rattle.fq_language.specs.Parts.{each_of, has_members, member, with_length}
 use Rattle.fq_language.specs.Plan.{PlanData}
 use Rattle.fq_language.specs.Spelling.{json_of, plan_of, read_as_plan, source_of, step_of, version_of}
 use Rattle.fq_language.specs.declared.faults.PlanFault.{PlanFault}

@@ -4,4 +4,5 @@ pub mod Spelling
 pub mod Reading
 pub mod View
 pub mod Judged
+pub mod Explained
 pub mod Versions

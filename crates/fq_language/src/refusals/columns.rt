@@ -1,4 +1,6 @@
 //! What refusals of columns are about.
+ghost use Rattle.std.specs.Prelude.{IsErr};
+
 use crate::reasons::{Explained, PartFault, bail};
 use fq_column::{Kind, MAX_COLUMNS, Schema, StepFault};
 use fq_csv::kind_word;
@@ -11,7 +13,9 @@ pub fn explain_columns<T>(
     names: &[&str],
     count: usize,
     fault: StepFault,
-) -> Explained<T> {
+) -> Explained<T>
+    ensures { IsErr result }
+{
     match fault {
         StepFault::TooMany => bail!(alloc, "{count} columns; at most {MAX_COLUMNS}"),
         StepFault::DoubleName => {
@@ -27,11 +31,10 @@ pub fn explain_columns<T>(
 }
 
 /// The fault itself, of which no more can be said.
-pub fn explain_fault<T>(alloc: Global, fault: StepFault) -> Explained<T> {
-    match fault {
-        StepFault::Memory => Err(PartFault::Memory),
-        _ => bail!(alloc, "{fault}"),
-    }
+pub fn explain_fault<T>(alloc: Global, fault: StepFault) -> Explained<T>
+    ensures { IsErr result }
+{
+    bail!(alloc, "{fault}")
 }
 
 /// Nothing if a schema has a column of this name.

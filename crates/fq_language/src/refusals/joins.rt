@@ -1,4 +1,6 @@
 //! What a refusal of a join is about.
+ghost use Rattle.std.specs.Prelude.{IsErr};
+
 use crate::reasons::{Explained, bail};
 use crate::refusals::columns::{explain_column, explain_columns};
 use fq_column::{Schema, StepFault, has_double};
@@ -13,7 +15,9 @@ pub fn explain_join<T>(
     right: &Schema,
     on: &[String],
     fault: StepFault,
-) -> Explained<T> {
+) -> Explained<T>
+    ensures { IsErr result }
+{
     if on.is_empty() {
         bail!(alloc, "on is empty")
     }

@@ -1,4 +1,10 @@
 //! What a refusal of a step is about.
+ghost use Rattle.std.specs.Prelude.{◌≡◌, Ok, IsErr, IfErr, IfOk, option_map};
+ghost use Rattle.fq_language.specs.Explained.{WrongOnlyIf};
+ghost use Rattle.fq_language.specs.Judged.{judged_step};
+ghost use Rattle.fq_language.specs.Plan.{item_at};
+ghost use Rattle.fq_language.specs.View.{plan_step_of};
+
 use crate::hints::Hint;
 use crate::plans::Step;
 use crate::reasons::{Explained, PartFault, bail};
@@ -18,10 +24,14 @@ pub fn schema_after(
     sides: &[Schema],
     schema: &Schema,
     step: &Step,
-) -> Explained<Schema> {
+) -> Explained<Schema>
+    ensures after { IfOk result (λ after. judged_step sides.now schema.now (plan_step_of step.now) ≡ Ok after) }
+    ensures wrong { IfErr result (WrongOnlyIf (IsErr (judged_step sides.now schema.now (plan_step_of step.now)))) }
+{
     match step {
         Step::Rows(step) => match step.schema(alloc, schema) {
             Ok(after) => Ok(after),
+            Err(StepFault::Memory) => Err(PartFault::Memory),
             Err(fault) => explain_rows(alloc, schema, step, fault),
         },
         Step::Join {
@@ -30,18 +40,19 @@ pub fn schema_after(
             how,
             ..
         } => {
-            let place = usize::try_from(*source).ok();
-            let Some(right) = place.and_then(|place| sides.get(place)) else {
+            let Some(right) = side_at(sides, *source) else {
                 return explain_source(alloc, *source, sides.len());
             };
             match join_schema(alloc, schema, right, on, *how) {
                 Ok(after) => Ok(after),
+                Err(StepFault::Memory) => Err(PartFault::Memory),
                 Err(fault) => explain_join(alloc, schema, right, on, fault),
             }
         }
         Step::GroupBy { keys, aggs } => {
             match group_schema(alloc, schema, keys, aggs) {
                 Ok(after) => Ok(after),
+                Err(StepFault::Memory) => Err(PartFault::Memory),
                 Err(fault) => explain_grouping(alloc, schema, keys, aggs, fault),
             }
         }
@@ -54,19 +65,25 @@ pub fn schema_after(
             let (column, window, samples) = (column.as_str(), *window, *min_samples);
             match roll_schema(alloc, schema, column, window, samples, name) {
                 Ok(after) => Ok(after),
+                Err(StepFault::Memory) => Err(PartFault::Memory),
                 Err(fault) => explain_roll(alloc, schema, column, window, samples, fault),
             }
         }
     }
 }
 
+// The schema of the source of a number, which may be no source's.
+fn side_at(sides: &[Schema], number: i64) -> Option<&Schema>
+    ensures { option_map (λ side. side.now) result ≡ item_at sides.now number }
+{
+    let place = usize::try_from(number).ok()?;
+    sides.get(place)
+}
+
 // What the refusal of a row-wise step is about.
-fn explain_rows<T>(
-    alloc: Global,
-    schema: &Schema,
-    step: &RowStep,
-    fault: StepFault,
-) -> Explained<T> {
+fn explain_rows<T>(alloc: Global, schema: &Schema, step: &RowStep, fault: StepFault) -> Explained<T>
+    ensures { IsErr result }
+{
     match step {
         RowStep::Filter(predicate) => {
             explain_kind(alloc, schema, predicate)?;
@@ -97,7 +114,9 @@ fn explain_outputs<T>(
     outputs: &[(String, Expr)],
     count: usize,
     fault: StepFault,
-) -> Explained<T> {
+) -> Explained<T>
+    ensures { IsErr result }
+{
     if outputs.is_empty() {
         bail!(alloc, "select has no outputs")
     }
@@ -113,7 +132,9 @@ fn explain_outputs<T>(
 }
 
 // Why the source of a number cannot be joined, if so many can be.
-fn explain_source<T>(alloc: Global, number: i64, count: usize) -> Explained<T> {
+fn explain_source<T>(alloc: Global, number: i64, count: usize) -> Explained<T>
+    ensures { IsErr result }
+{
     match count {
         0 => bail!(alloc, "{number}; there is no source before the last"),
         1 => bail!(alloc, "{number}; only source 0 can be joined"),
@@ -128,7 +149,9 @@ fn explain_grouping<T>(
     keys: &[String],
     aggs: &[Agg],
     fault: StepFault,
-) -> Explained<T> {
+) -> Explained<T>
+    ensures { IsErr result }
+{
     if keys.is_empty() {
         bail!(alloc, "keys is empty")
     }
@@ -173,7 +196,9 @@ fn explain_roll<T>(
     window: i64,
     samples: i64,
     fault: StepFault,
-) -> Explained<T> {
+) -> Explained<T>
+    ensures { IsErr result }
+{
     explain_sum(alloc, schema, column, "")?;
     let count = schema.len().saturating_add(1);
     match fault {
