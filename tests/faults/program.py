@@ -117,8 +117,8 @@ def draft(*columns):
     )
 
 
-# Files that are reviewed: the options, of the plan P and the file F, the plan, the file, the answer, what is said of the file before a
-# line, and what --details says after it.
+# Files that are reviewed: the options, of the plan P and the file F, the plan, the file, the answer, and what is said of the file before a
+# line.
 X_INT = plan([source(1, "x int")], "")
 REVIEWS = [
     ("a check", ("--plan", "P", "--check", "F"), X_INT, 'x\n\n1\nz\n2,3\n"4"5\nz\n', fault(4, "the files have problems"),
@@ -133,10 +133,9 @@ REVIEWS = [
         '"x" is text: 20 ints, 1 other (first "a longer text than others", line 22)\nF:23: a row of another width is left out\n'),
     ("a draft of amounts and dates", ("--draft", "--decimal", "x=2", "--date", "d", "F"), X_INT, "x,d,t\n1.5,2024-02-29,1\n.25,,2.5\n",
         frame(draft("x int", "d int", "t text")), '"t" is text: 1 int, 1 decimal to 1 place; --decimal t=1 reads them as ints\n'),
-    ("a draft whose names are refused", ("--draft", "--details", "--date", "d", "--decimal", "x=1", "F"), X_INT,
+    ("a draft whose names are refused", ("--draft", "--date", "d", "--decimal", "x=1", "F"), X_INT,
         "x,d\n1.5,2024-02-29\n.25,\n", fault(2, "--decimal, --date: no such int column"),
-        '"x" is text: 1 decimal of at most 1 place, 1 decimal to 2 places; --decimal x=2 reads them as ints\n',
-        '  "x" is not an int column\n  source 0: "d"\n  the frame: "d"\n'),
+        '"x" is text: 1 decimal of at most 1 place, 1 decimal to 2 places; --decimal x=2 reads them as ints\n'),
 ]
 
 
@@ -331,31 +330,30 @@ def is_part(part, whole):
 
 
 class Reviewed:
-    """A run with --check or --draft, in a folder of its own. Of its answer, what is said beside a line, or a part of that, is cut off."""
+    """A run with --check or --draft, in a folder of its own. Of its answer, what is said of the file, or a part of that, is cut off."""
 
-    def __init__(self, program, folder, options, own_plan, rows, own, said, details=""):
+    def __init__(self, program, folder, options, own_plan, rows, own, said):
         os.mkdir(folder)
         paths = {"P": write(f"{folder}/plan.json", own_plan), "F": write(f"{folder}/rows.csv", rows)}
         self.program, self.arguments, self.own = program, [paths.get(it, it) for it in options], own
-        self.said, self.details = with_names(said, paths), details
+        self.said = with_names(said, paths)
 
     def whole(self, **how):
         return self.program.run(self.arguments, **how)
 
     def __call__(self, **how):
         answer = self.whole(**how)
-        said, line, details = re.fullmatch(r"(.*?)(frameq: [^\n]*\n)?((?:  [^\n]*\n?)*)", answer.err, re.DOTALL).groups()
-        are_parts = is_part(said, self.said + self.own.err) and is_part(details, self.details)
-        return answer._replace(err=line or "") if are_parts else answer
+        said, line = re.fullmatch(r"(.*?)(frameq: [^\n]*\n)?", answer.err, re.DOTALL).groups()
+        return answer._replace(err=line or "") if is_part(said, self.said + self.own.err) else answer
 
 
 def try_reviews(count, pool, program, library, room):
     """What --check and --draft say, and that a call that is refused ends them with its own line."""
     runs = []
-    for name, options, own_plan, rows, own, *said in REVIEWS:
-        run = Reviewed(program, f"{room}/{name.replace(' ', '-')}", options, own_plan, rows, own, *said)
+    for name, options, own_plan, rows, own, said in REVIEWS:
+        run = Reviewed(program, f"{room}/{name.replace(' ', '-')}", options, own_plan, rows, own, said)
         answer = run.whole()
-        is_right = answer == own._replace(err=run.said + own.err + run.details)
+        is_right = answer == own._replace(err=run.said + own.err)
         count.add("program, reviews", f"status {own.status}", None if is_right else f"{name}: {answer}")
         runs.append((name, run, own))
     together(((try_sort, count, *it, library, sort) for it in runs for sort in SORTS), pool)
