@@ -7,7 +7,7 @@ import re
 
 ROOT = os.path.dirname(os.path.dirname(os.path.dirname(os.path.abspath(__file__))))
 
-# How many bytes frameq asks a file for at once (fq_csv/src/buffers.rt).
+# How many bytes frameq asks a file for at once (fq_csv/src/cutting/buffers.rt).
 CHUNK = 131_072
 
 MARK = b"\xef\xbb\xbf"

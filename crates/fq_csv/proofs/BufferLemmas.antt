@@ -13,9 +13,9 @@ use Rattle.fq_csv.proofs.RecordLemmas.{mapped, none-record}
 use Rattle.fq_csv.specs.Buffer.{HandsOn, Passes, TakesText, left_of, rest_of, unread_of}
 use Rattle.fq_csv.specs.File.{Record}
 use Rattle.fq_csv.specs.Records.{Takes, upcoming_of}
-use Rattle.fq_csv.specs.declared.buffers.Buffer.{Buffer}
+use Rattle.fq_csv.specs.declared.cutting.buffers.Buffer.{Buffer}
 use Rattle.fq_csv.specs.declared.cutting.Ends.{Ends}
-use Rattle.fq_csv.specs.declared.retrying.Retrying.{Retrying}
+use Rattle.fq_csv.specs.declared.cutting.retrying.Retrying.{Retrying}
 use Rattle.fq_csv.specs.Cutting.{AreLast, AreRecords, IsUpTo, next_of}
 use Rattle.std.specs.Io.KnownBytes.{Consumes, IsAtEnd, Keeps, prepend_known}
 

@@ -10,9 +10,9 @@ use Rattle.fq_csv.specs.Records.{IsOfText}
 use Rattle.fq_csv.specs.Taking.{FieldRun, ReadsRun}
 use Rattle.fq_csv.specs.TextRows.{HoldsRowsOf, run_fault}
 use Rattle.fq_csv.specs.declared.faults.ScanFault.{ScanFault}
-use Rattle.fq_csv.specs.declared.layouts.Layout.{Layout}
-use Rattle.fq_csv.specs.declared.text_rows.NoRow.{NoRow}
-use Rattle.fq_csv.specs.declared.scanners.TheConstants.{MAX_ROWS}
+use Rattle.fq_csv.specs.declared.cells.layouts.Layout.{Layout}
+use Rattle.fq_csv.specs.declared.cells.rows.NoRow.{NoRow}
+use Rattle.fq_csv.specs.declared.scanning.scanners.TheConstants.{MAX_ROWS}
 use Rattle.fq_csv.proofs.HeldRowLemmas.{frame-held}
 
 no-place : (file before : ℕ) (bad : Option (ℕ × NoRow)) → option_map (run_fault file before) bad ≡ None → bad ≡ None

@@ -1,17 +1,10 @@
 -- What std says of a field that it reads as text, as the tests of the definitions.
-use Rattle.std.proofs.Common.{◌≡◌, ◌<◌, ◌+◌, ◌^◌, ◌∙◌, length, map, take, get_or, sym, cond, neg_ℤ, Bool, false, ℕ, ℤ, pos, negsuc, List, [], ◌∷◌, true, Result, Ok, Err, zero, suc, None, refl, ap, arith, w64, inl, inr, Bor, Some}
-use Rattle.std.specs.Bool.{Decides}
-use Rattle.std.specs.Prelude.{◌&&◌, MatchResult, option_map}
+use Rattle.std.proofs.Common.{◌≡◌, ◌<◌, ◌+◌, ◌∙◌, length, map, take, get_or, sym, false, ℕ, List, [], ◌∷◌, true, Result, Ok, Err, zero, suc, refl, ap, arith, inl, inr, Bor, Some}
+use Rattle.std.specs.Prelude.{MatchResult, option_map}
 use Rattle.std.specs.Result.{result_ok}
-use Rattle.std.specs.Str.{IsAscii, IsUtf8, all_ascii_digits, bytes_eq, is_utf8}
-use Rattle.std.specs.Str.Parse.{IsNumeral, ParsesSigned, digits_value, starts_with_minus, signed_digits_value, without_leading_sign}
-use Rattle.std.proofs.lemmas.Bool.{cases_Bool, false_from_ne_true, lt-ltb, ltb-true}
-use Rattle.std.proofs.lemmas.Bool.Decides.{Decides-and, eqb_tells}
-use Rattle.std.proofs.lemmas.Fmt.{IsAscii-from_digits}
-use Rattle.std.proofs.lemmas.Str.{IsUtf8-from_ascii, IsUtf8-from_is_utf8, is_utf8-from_IsUtf8}
-use Rattle.std.proofs.lemmas.Str.Parse.{numerals_by_value, tells_all_ascii_digits}
-use mir.Val.{SFits}
-use Rattle.fq_column.specs.Cell.{fits}
+use Rattle.std.specs.Str.{IsUtf8, bytes_eq, is_utf8}
+use Rattle.std.proofs.lemmas.Bool.{cases_Bool, false_from_ne_true}
+use Rattle.std.proofs.lemmas.Str.{IsUtf8-from_is_utf8, is_utf8-from_IsUtf8}
 use Rattle.fq_csv.specs.Field.{is_one_of, text_of}
 
 -- a field that was read as text, or was found to be none

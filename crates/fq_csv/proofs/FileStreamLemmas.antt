@@ -8,13 +8,11 @@ use Rattle.std.proofs.lemmas.Bool.Decides.{nat_tests}
 use Rattle.fq_column.specs.declared.cells.Kind.{Kind}
 use Rattle.fq_column.specs.Column.{Cells}
 use Rattle.fq_column.specs.Frame.{Fields, Row, kinds_of}
-use Rattle.fq_column.specs.Lists.{zip_with, all_or_missing}
 use Rattle.fq_column.specs.Masked.{masked}
 use Rattle.fq_column.specs.Stream.{Stream, done, faulted, one_by_one, then_stream}
-use Rattle.fq_csv.specs.Field.{cell_under}
 use Rattle.fq_csv.specs.File.{Record, row_of, rows_after}
 use Rattle.fq_csv.specs.Rows.{Holds, row_by_kinds}
-use Rattle.fq_csv.specs.declared.layouts.Layout.{Layout}
+use Rattle.fq_csv.specs.declared.cells.layouts.Layout.{Layout}
 use Rattle.fq_csv.specs.declared.faults.ScanFault.{ScanFault}
 use Rattle.fq_csv.specs.declared.faults.ScanFault.TheVariants.{BadCell, Width}
 

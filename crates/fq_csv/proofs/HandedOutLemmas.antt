@@ -12,10 +12,10 @@ use Rattle.fq_csv.proofs.BlockLemmas.{le-or-lt}
 use Rattle.fq_csv.specs.HandedOut.{Follows, IsRun, answers, answers_from, framed}
 use Rattle.fq_csv.specs.Scan.{IsFailed, IsLastWord, IsNextBatch, Scanning}
 use Rattle.fq_csv.specs.Stage.{ended, without}
-use Rattle.fq_csv.specs.declared.layouts.Layout.{Layout}
+use Rattle.fq_csv.specs.declared.cells.layouts.Layout.{Layout}
 use Rattle.fq_csv.specs.declared.faults.ScanFault.{ScanFault}
-use Rattle.fq_csv.specs.declared.scans.Scan.{Scan}
-use Rattle.fq_csv.specs.declared.scans.Scan.TheVariants.{Batch, End}
+use Rattle.fq_csv.specs.declared.scanning.scans.Scan.{Scan}
+use Rattle.fq_csv.specs.declared.scanning.scans.Scan.TheVariants.{Batch, End}
 
 -- one run fewer
 fewer : (n b q r : ℕ) → 0 < b → 0 < n → n - b ≤ q * b → q * b < (n - b) + b → n ≤ r * b → r * b < n + b → r ≡ suc q

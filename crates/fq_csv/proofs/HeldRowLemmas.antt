@@ -1,8 +1,9 @@
 -- Columns to which rows are added.
-use Rattle.std.specs.Prelude.{slice_get, slice_index_or, All, replicate}
+use Rattle.std.specs.Prelude.{slice_get, slice_index_or, All, replicate, false}
 use Rattle.std.proofs.Common.{◌≡◌, ◌<◌, ◌≤◌, ◌+◌, ◌++◌, ℕ, zero, suc, Bool, true, List, [], ◌∷◌, Option, Some, None, Ok, Err, length, map, take, drop, get_or, set, refl, sym, ap, arith, ◌∙◌}
-use Rattle.std.proofs.lemmas.List.{length-append, set-get_or, take_all}
+use Rattle.std.proofs.lemmas.List.{get_or-map, length-append, set-get_or, take_all}
 use Rattle.fq_column.specs.declared.cells.Kind.{Kind}
+use Rattle.fq_column.specs.declared.cells.Kind.TheVariants as kind
 use Rattle.fq_column.specs.declared.cells.Cell.{Cell}
 use Rattle.fq_column.specs.Batch.{frame_of, height_of, without_cells}
 use Rattle.fq_column.specs.Column.{Cells}
@@ -13,13 +14,13 @@ use Rattle.fq_column.proofs.FaultLemmas.{kinds-without, none-in, rows-without}
 use Rattle.fq_column.proofs.ListLemmas.{zip_with-append, length-zip_with}
 use Rattle.fq_column.proofs.MaskedLemmas.{length-masked, masked-snoc}
 use Rattle.fq_notation.specs.declared.notations.Notation.{Notation}
-use Rattle.fq_notation.specs.declared.notations.Notation.TheVariants.{Plain}
+use Rattle.fq_notation.specs.declared.notations.Notation.TheVariants.{Plain, Decimal, Date}
 use Rattle.fq_csv.specs.Field.{cell_under}
 use Rattle.fq_csv.specs.File.{Record, cells_by}
-use Rattle.fq_csv.specs.Readings.{reading_at}
+use Rattle.fq_csv.specs.Readings.{cell_read, is_kept_by, kind_by, reading_at, reading_of}
 use Rattle.fq_csv.specs.Rows.{Holds, first_cells, kinds_in, row_by_kinds, with_cell, with_row}
-use Rattle.fq_csv.specs.declared.layouts.Layout.{Layout}
-use Rattle.fq_csv.specs.declared.readings.Reading.{Reading}
+use Rattle.fq_csv.specs.declared.cells.layouts.Layout.{Layout}
+use Rattle.fq_csv.specs.declared.cells.readings.Reading.{Reading}
 
 -- ---- a row, cell by cell
 
@@ -130,6 +131,34 @@ taken-back h (x ∷ xs) (suc i) (c ∷ cells) e a =
     ap (λ y. y ∷ map (first_cells h) (columns_after xs i cells)) (same-column x (take h (x.cells ++ c ∷ [])) (ap (λ n. take n (x.cells ++ c ∷ [])) (sym (a 0 x (omega arith))) ∙ first-with x.cells c))
     ∙ ap (λ ys. x ∷ ys) (taken-back h xs i cells (omega (arith, e)) (λ k d l. a (suc k) d (omega (arith, l))))
 
+-- ---- what a reading says of a column
+
+kind-by : (k : Kind) (n : Notation) (b : Bool) → kind_by (reading_of k n b) ≡ k
+kind-by k n false = refl
+kind-by kind.Whole Plain true = refl
+kind-by kind.Whole (Decimal scale) true = refl
+kind-by kind.Whole Date true = refl
+kind-by kind.Text n true = refl
+kind-by kind.Truth n true = refl
+
+kept-by : (k : Kind) (n : Notation) (b : Bool) → is_kept_by (reading_of k n b) ≡ b
+kept-by k n false = refl
+kept-by kind.Whole Plain true = refl
+kept-by kind.Whole (Decimal scale) true = refl
+kept-by kind.Whole Date true = refl
+kept-by kind.Text n true = refl
+kept-by kind.Truth n true = refl
+
+cell-by : (nulls : List (List ℕ)) (k : Kind) (n : Notation) (b : Bool) (f : List ℕ) → cell_read nulls (reading_of k n b) f ≡ cell_under nulls k n f
+cell-by nulls k n false f = refl
+cell-by nulls kind.Whole Plain true f = refl
+cell-by nulls kind.Whole (Decimal scale) true f = refl
+cell-by nulls kind.Whole Date true f = refl
+cell-by nulls kind.Text n true [] = refl
+cell-by nulls kind.Text n true (c ∷ cs) = refl
+cell-by nulls kind.Truth n true [] = refl
+cell-by nulls kind.Truth n true (c ∷ cs) = refl
+
 -- ---- one field of a record
 
 -- the columns that are being added to, and the cells that the fields were, of which those of the columns that are kept were added
@@ -148,7 +177,7 @@ module _ (layout : Layout) (columns : List Cells) (fs : Record) (i : ℕ) (now :
 
   -- how the fields of the next column are read
   abbrev next : Reading
-  next = reading_at layout i
+  next = reading_at (kinds_in columns) layout i
 
   -- as many cells were added
   size : length (masked marks a.0) ≡ i
@@ -157,26 +186,36 @@ module _ (layout : Layout) (columns : List Cells) (fs : Record) (i : ℕ) (now :
   same-at : (d : Cells) → i < length columns → get_or now i d ≡ get_or columns i d
   same-at d h = ap (λ ys. get_or ys i d) a.2 ∙ column-at columns i (masked marks a.0) d size h
 
-  option-at : (d : Cells) (f : List ℕ) → i < length columns → Some f ≡ slice_get fs i → slice_get (options nulls ns columns fs) i ≡ Some (cell_under nulls (get_or now i d).kind next.notation f)
-  option-at d f h e = cell-at nulls ns columns fs i d f h e ∙ ap (λ (y : Cells). Some (cell_under nulls y.kind next.notation f)) (sym (same-at d h))
+  next-kind : (d : Cells) → i < length columns → slice_index_or (kinds_in columns) i kind.Whole ≡ (get_or columns i d).kind
+  next-kind d h = get_or-map (λ (c : Cells). c.kind) columns i d kind.Whole h
+
+  -- it is read as one of its kind
+  pub Added-kind : (d : Cells) → i < length columns → (get_or now i d).kind ≡ kind_by next
+  Added-kind d h = ap (λ (c : Cells). c.kind) (same-at d h) ∙ sym (next-kind d h) ∙ sym (kind-by _ (slice_index_or ns i Plain) (slice_index_or marks i true))
+
+  option-at : (d : Cells) (f : List ℕ) → i < length columns → Some f ≡ slice_get fs i → slice_get (options nulls ns columns fs) i ≡ Some (cell_read nulls next f)
+  option-at d f h e =
+      let n = slice_index_or ns i Plain in
+      cell-at nulls ns columns fs i d f h e ∙ ap (λ k. Some (cell_under nulls k n f)) (sym (next-kind d h)) ∙ ap Some (sym (cell-by nulls _ n (slice_index_or marks i true) f))
 
   pub Added-more : (d new : Cells) (f : List ℕ) (cell : Cell) → i < length columns → Some f ≡ slice_get fs i
-      → cell_under nulls (get_or now i d).kind next.notation f ≡ Some cell → new ≡ with_cell (get_or now i d) (masked_cell next.is_kept cell) → Added layout columns fs (i + 1) (set now i new)
+      → cell_read nulls next f ≡ Some cell → new ≡ with_cell (get_or now i d) (masked_cell (is_kept_by next) cell) → Added layout columns fs (i + 1) (set now i new)
   Added-more d new f cell h e g n =
       let cells = a.0 in
       let kept = masked marks cells in
-      let here : Cell = masked_cell next.is_kept cell in
+      let mark = slice_index_or marks i true in
+      let here : Cell = masked_cell mark cell in
       let up : suc i ≡ i + 1 = omega arith in
       let all : kept ++ here ∷ [] ≡ masked marks (cells ++ cell ∷ []) = sym (masked-snoc marks cells cell ∙ ap (λ k. kept ++ masked_cell (slice_index_or marks k true) cell ∷ []) a.1.0) in
       let set_is : set now i new ≡ columns_after columns (suc i) (kept ++ here ∷ []) =
-      ap (set now i) (n ∙ ap (λ y. with_cell y here) (same-at d h)) ∙ ap (λ ys. set ys i (with_cell (get_or columns i d) here)) a.2 ∙ columns-step columns i kept here d size h in
+      ap (set now i) (n ∙ ap (λ b. with_cell (get_or now i d) (masked_cell b cell)) (kept-by _ (slice_index_or ns i Plain) mark) ∙ ap (λ y. with_cell y here) (same-at d h)) ∙ ap (λ ys. set ys i (with_cell (get_or columns i d) here)) a.2 ∙ columns-step columns i kept here d size h in
       let count : length (cells ++ cell ∷ []) ≡ i + 1 = simp length-append (omega (arith, a.1.0)) in
       let more = cells-step (options nulls ns columns fs) i cells cell a.1.1 (option-at d f h e ∙ ap Some g) in
       (cells ++ cell ∷ [], (count, more ∙ ap (λ n. take n (options nulls ns columns fs)) up), set_is ∙ (λ j. columns_after columns (up j) (all j)))
 
   -- a field that is not a cell
   pub Added-bad : (height : ℕ) (d new : Cells) (f : List ℕ) → i < length columns → Some f ≡ slice_get fs i
-      → cell_under nulls (get_or now i d).kind next.notation f ≡ None → new ≡ get_or now i d → All (λ (c : Cells). length c.cells ≡ height) columns
+      → cell_read nulls next f ≡ None → new ≡ get_or now i d → All (λ (c : Cells). length c.cells ≡ height) columns
       → (row_by_kinds nulls ns (kinds_in columns) fs ≡ Err i) × (map (first_cells height) (set now i new) ≡ columns)
   Added-bad height d new f h e g n lengths = (
     missing-at (options nulls ns columns fs) i a.0 a.1.1 (option-at d f h e ∙ ap Some g),

@@ -18,3 +18,4 @@ pub mod FrameLemmas
 pub mod HandedOutLemmas
 pub mod OnLiterals
 pub mod TextRowLemmas
+pub mod LastLemmas

@@ -9,10 +9,10 @@ use Rattle.fq_csv.specs.RecordScan.{GivesNoRun, GivesRun, records_left_at}
 use Rattle.fq_csv.specs.Records.{Unread}
 use Rattle.fq_csv.specs.Rows.{EndsAt}
 use Rattle.fq_csv.specs.Taking.{ReadsRecords, RecordStream, RecordsGoOn, records_after, then_records, without_records}
-use Rattle.fq_csv.specs.declared.layouts.Layout.{Layout}
-use Rattle.fq_csv.specs.declared.spans.Span.{Span}
-use Rattle.fq_csv.specs.declared.file_stages.Stage.{Stage}
-use Rattle.fq_csv.specs.declared.file_stages.Stage.TheVariants as stage
+use Rattle.fq_csv.specs.declared.cells.layouts.Layout.{Layout}
+use Rattle.fq_csv.specs.declared.scanning.spans.Span.{Span}
+use Rattle.fq_csv.specs.declared.scanning.stages.Stage.{Stage}
+use Rattle.fq_csv.specs.declared.scanning.stages.Stage.TheVariants as stage
 use Rattle.fq_csv.proofs.RecordLemmas.{mapped}
 use Rattle.fq_csv.proofs.TakingLemmas.{drop-first, take-first}
 

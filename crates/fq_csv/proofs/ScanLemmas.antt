@@ -15,7 +15,7 @@ use Rattle.fq_csv.specs.Scan.{Scanning, batches_left, rows_ending}
 use Rattle.fq_csv.specs.Stage.{ended, without}
 use Rattle.fq_csv.specs.Taking.{FieldRun, HasNoRow, ReadsRun, RecordStream, over, record_fault, records_after, record_stream, records_under_header, rows_of_records, without_records}
 use Rattle.fq_csv.specs.declared.faults.ScanFault.{ScanFault}
-use Rattle.fq_csv.specs.declared.layouts.Layout.{Layout}
+use Rattle.fq_csv.specs.declared.cells.layouts.Layout.{Layout}
 use Rattle.fq_csv.specs.declared.faults.ScanFault.TheVariants.{TooLong}
 use Rattle.fq_csv.proofs.RecordLemmas.{mapped}
 use Rattle.fq_csv.proofs.HeldRowLemmas.{no-item}

@@ -8,9 +8,9 @@ use Rattle.fq_csv.specs.Records.{IsOfText, Takes, Unread}
 use Rattle.fq_csv.specs.Taking.{EndsAtLimit, ReadsRecords, RecordStream, over, record_fault, records_after, then_records}
 use Rattle.fq_csv.specs.declared.faults.ScanFault.{ScanFault}
 use Rattle.fq_csv.specs.declared.faults.ScanFault.TheVariants.{TooLong}
-use Rattle.fq_csv.specs.declared.spans.Span.{Span}
-use Rattle.fq_csv.specs.declared.file_stages.Stage.{Stage}
-use Rattle.fq_csv.specs.declared.file_stages.Stage.TheVariants as stage
+use Rattle.fq_csv.specs.declared.scanning.spans.Span.{Span}
+use Rattle.fq_csv.specs.declared.scanning.stages.Stage.{Stage}
+use Rattle.fq_csv.specs.declared.scanning.stages.Stage.TheVariants as stage
 
 pub take-first : {X : Type 0} (xs ys : List X) → take (length xs) (xs ++ ys) ≡ xs
 take-first [] ys = refl

@@ -12,9 +12,9 @@ use Rattle.fq_csv.specs.File.{Record, row_of, rows_after}
 use Rattle.fq_csv.specs.Rows.{Holds, kinds_in, row_by_kinds, with_row}
 use Rattle.fq_csv.specs.TextRows.{HoldsRowsOf, IsNoRow, fault_by}
 use Rattle.fq_csv.specs.declared.faults.ScanFault.{ScanFault}
-use Rattle.fq_csv.specs.declared.layouts.Layout.{Layout}
-use Rattle.fq_csv.specs.declared.text_rows.NoRow.{NoRow}
-use Rattle.fq_csv.specs.declared.text_rows.NoRow.TheVariants as no
+use Rattle.fq_csv.specs.declared.cells.layouts.Layout.{Layout}
+use Rattle.fq_csv.specs.declared.cells.rows.NoRow.{NoRow}
+use Rattle.fq_csv.specs.declared.cells.rows.NoRow.TheVariants as no
 use Rattle.fq_csv.proofs.HeldRowLemmas.{Holds-more}
 use Rattle.fq_csv.proofs.FileStreamLemmas.{after-fault, after-row, length-columns, row-bad, row-good, row-width, then-end}
 use Rattle.fq_csv.proofs.ScanLemmas.{rows-split}

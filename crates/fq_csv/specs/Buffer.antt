@@ -4,7 +4,7 @@ use Rattle.std.specs.Io.KnownBytes.{IsAtEnd, Keeps, prepend_known}
 use Rattle.csv.specs.Reading.{default_config, records, strip_bom}
 use Rattle.fq_csv.specs.Cutting.{AreRecords}
 use Rattle.fq_csv.specs.File.{Record}
-use Rattle.fq_csv.specs.declared.buffers.Buffer.{Buffer}
+use Rattle.fq_csv.specs.declared.cutting.buffers.Buffer.{Buffer}
 use Rattle.fq_csv.specs.declared.cutting.Ends.{Ends}
 use Rattle.fq_csv.specs.declared.faults.ScanFault.{ScanFault}
 use Rattle.fq_csv.specs.declared.faults.ScanFault.TheVariants.{Read, Memory}

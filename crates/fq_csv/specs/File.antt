@@ -14,7 +14,7 @@ use Rattle.fq_notation.specs.declared.notations.Notation.TheVariants.{Plain}
 use Rattle.fq_csv.specs.Field.{cell_under}
 use Rattle.fq_csv.specs.declared.faults.ScanFault.{ScanFault}
 use Rattle.fq_csv.specs.declared.faults.ScanFault.TheVariants.{Header, Width, BadCell, TooLong}
-use Rattle.fq_csv.specs.declared.layouts.Layout.{Layout}
+use Rattle.fq_csv.specs.declared.cells.layouts.Layout.{Layout}
 use lib.Pointwise.{pointwise}
 
 -- a record, as its fields

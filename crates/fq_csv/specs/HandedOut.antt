@@ -5,8 +5,8 @@ use Rattle.fq_column.specs.Lists.{pieces}
 use Rattle.fq_column.specs.Stream.{Stream}
 use Rattle.fq_csv.specs.Scan.{HandsOut, HasForm, IsFailed, Scanning}
 use Rattle.fq_csv.specs.declared.faults.ScanFault.{ScanFault}
-use Rattle.fq_csv.specs.declared.scans.Scan.{Scan}
-use Rattle.fq_csv.specs.declared.scans.Scan.TheVariants.{Batch, End}
+use Rattle.fq_csv.specs.declared.scanning.scans.Scan.{Scan}
+use Rattle.fq_csv.specs.declared.scanning.scans.Scan.TheVariants.{Batch, End}
 
 abbrev pub framed : Fields → List Row → Frame
 framed fields rows = record { fields = fields; rows = rows }

@@ -8,7 +8,7 @@ use Rattle.csv.specs.declared.parser.State.{State}
 use Rattle.csv.specs.declared.reader.Trim.TheVariants as trim
 use Rattle.fq_csv.specs.File.{Record}
 use Rattle.fq_csv.specs.declared.readers.RecordReader.{RecordReader}
-use Rattle.fq_csv.specs.declared.retrying.Retrying.{Retrying}
+use Rattle.fq_csv.specs.declared.cutting.retrying.Retrying.{Retrying}
 
 -- the records of the bytes that are left, from a state of the parser
 abbrev pub records_left : State → List ℕ → List Record

@@ -8,11 +8,11 @@ use Rattle.fq_csv.specs.Stage.{ending_of}
 use Rattle.fq_csv.specs.Taking.{FieldRun, RecordStream, over, records_after, records_under_header, without_records}
 use Rattle.fq_csv.specs.declared.faults.ScanFault.{ScanFault}
 use Rattle.fq_csv.specs.declared.faults.ScanFault.TheVariants.{Header, Read, Memory}
-use Rattle.fq_csv.specs.declared.layouts.Layout.{Layout}
-use Rattle.fq_csv.specs.declared.spans.Span.{Span}
-use Rattle.fq_csv.specs.declared.file_stages.Stage.{Stage}
-use Rattle.fq_csv.specs.declared.file_stages.Stage.TheVariants as stage
-use Rattle.fq_csv.specs.declared.scanners.TheConstants.{MAX_ROWS}
+use Rattle.fq_csv.specs.declared.cells.layouts.Layout.{Layout}
+use Rattle.fq_csv.specs.declared.scanning.spans.Span.{Span}
+use Rattle.fq_csv.specs.declared.scanning.stages.Stage.{Stage}
+use Rattle.fq_csv.specs.declared.scanning.stages.Stage.TheVariants as stage
+use Rattle.fq_csv.specs.declared.scanning.scanners.TheConstants.{MAX_ROWS}
 
 -- ---- one step
 

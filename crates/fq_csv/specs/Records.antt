@@ -3,7 +3,7 @@ use Rattle.std.specs.Prelude.{◌≡◌, ◌<◌, ◌≤◌, ◌++◌, ◌⊎◌
 use Rattle.csv.specs.Reading.{default_config, records}
 use Rattle.fq_csv.specs.Buffer.{unread_of}
 use Rattle.fq_csv.specs.File.{Record}
-use Rattle.fq_csv.specs.declared.buffers.Buffer.{Buffer}
+use Rattle.fq_csv.specs.declared.cutting.buffers.Buffer.{Buffer}
 use Rattle.fq_csv.specs.declared.faults.ScanFault.{ScanFault}
 use Rattle.fq_csv.specs.declared.faults.ScanFault.TheVariants.{Header, Width, BadCell, TooLong, Read, Memory}
 

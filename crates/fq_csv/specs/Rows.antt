@@ -9,8 +9,8 @@ use Rattle.fq_notation.specs.declared.notations.Notation.{Notation}
 use Rattle.fq_csv.specs.Field.{cell_under}
 use Rattle.fq_csv.specs.File.{Record, cells_by}
 use Rattle.fq_csv.specs.Records.{IsOfText}
-use Rattle.fq_csv.specs.declared.file_stages.Stage.{Stage}
-use Rattle.fq_csv.specs.declared.file_stages.Stage.TheVariants as stage
+use Rattle.fq_csv.specs.declared.scanning.stages.Stage.{Stage}
+use Rattle.fq_csv.specs.declared.scanning.stages.Stage.TheVariants as stage
 
 abbrev pub kinds_in : List Cells → List Kind
 kinds_in columns = map (λ (c : Cells). c.kind) columns

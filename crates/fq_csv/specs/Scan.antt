@@ -8,9 +8,9 @@ use Rattle.fq_csv.specs.Stage.{ended, without}
 use Rattle.fq_csv.specs.Taking.{rows_of_records}
 use Rattle.fq_csv.specs.declared.faults.ScanFault.{ScanFault}
 use Rattle.fq_csv.specs.declared.faults.ScanFault.TheVariants.{Read, Memory}
-use Rattle.fq_csv.specs.declared.layouts.Layout.{Layout}
-use Rattle.fq_csv.specs.declared.scans.Scan.{Scan}
-use Rattle.fq_csv.specs.declared.scans.Scan.TheVariants.{Batch, End}
+use Rattle.fq_csv.specs.declared.cells.layouts.Layout.{Layout}
+use Rattle.fq_csv.specs.declared.scanning.scans.Scan.{Scan}
+use Rattle.fq_csv.specs.declared.scanning.scans.Scan.TheVariants.{Batch, End}
 
 -- the file and its layout, the size of a batch, how many batches went before, how many rows may still come,
 -- the stream still to come, if the reader tells its bytes and has not failed, the end, once it is known, and whether a read

@@ -7,8 +7,8 @@ use Rattle.fq_column.specs.Stream.{Stream}
 use Rattle.fq_notation.specs.declared.notations.Notation.{Notation}
 use Rattle.fq_csv.specs.File.{file_stream}
 use Rattle.fq_csv.specs.declared.faults.ScanFault.{ScanFault}
-use Rattle.fq_csv.specs.declared.layouts.Layout.{Layout}
-use Rattle.fq_csv.specs.declared.scanners.TheConstants.{MAX_ROWS}
+use Rattle.fq_csv.specs.declared.cells.layouts.Layout.{Layout}
+use Rattle.fq_csv.specs.declared.scanning.scanners.TheConstants.{MAX_ROWS}
 use Rattle.fq_csv.specs.declared.sources.SourceFiles.{SourceFiles}
 
 -- a source: the number of its files, its columns, the texts that are null in each of them, their notations, and marks of the columns that are kept

@@ -2,8 +2,8 @@
 use Rattle.std.specs.Prelude.{ℕ, [], drop, Option, Some, None}
 use Rattle.fq_column.specs.Stream.{Stream}
 use Rattle.fq_csv.specs.declared.faults.ScanFault.{ScanFault}
-use Rattle.fq_csv.specs.declared.file_stages.Stage.{Stage}
-use Rattle.fq_csv.specs.declared.file_stages.Stage.TheVariants as stage
+use Rattle.fq_csv.specs.declared.scanning.stages.Stage.{Stage}
+use Rattle.fq_csv.specs.declared.scanning.stages.Stage.TheVariants as stage
 
 -- no row, and this end
 abbrev pub ended : Option ScanFault → Stream ScanFault

@@ -6,9 +6,9 @@ use Rattle.fq_csv.specs.File.{Record, rows_after}
 use Rattle.fq_csv.specs.Rows.{Holds, kinds_in, row_by_kinds}
 use Rattle.fq_csv.specs.declared.faults.ScanFault.{ScanFault}
 use Rattle.fq_csv.specs.declared.faults.ScanFault.TheVariants.{Width, BadCell}
-use Rattle.fq_csv.specs.declared.layouts.Layout.{Layout}
-use Rattle.fq_csv.specs.declared.text_rows.NoRow.{NoRow}
-use Rattle.fq_csv.specs.declared.text_rows.NoRow.TheVariants as no
+use Rattle.fq_csv.specs.declared.cells.layouts.Layout.{Layout}
+use Rattle.fq_csv.specs.declared.cells.rows.NoRow.{NoRow}
+use Rattle.fq_csv.specs.declared.cells.rows.NoRow.TheVariants as no
 
 -- why a record is not a row under columns
 abbrev pub IsNoRow : Layout → List Cells → Record → NoRow → Type 0

@@ -3,7 +3,13 @@ ghost use Rattle.std.specs.Prelude.{◌≡◌, ◌≤◌, ◌<◌, ◌==◌, ◌
 ghost use Rattle.csv.specs.declared.parser.State.TheVariants.{InField, InQuoted};
 ghost use Rattle.fq_csv.specs.Cutting.{EndsBy, IsAt, IsBlank, IsIn, IsUpTo, NoQuote, NoneStops, begins, between, stops};
 
-use crate::blocks::{LANES, marks_of};
+mod blocks;
+pub(crate) mod buffers;
+pub(crate) mod pieces;
+pub(crate) mod records;
+pub(crate) mod retrying;
+
+use blocks::{LANES, marks_of};
 use memchr::memchr;
 use std::simd::prelude::*;
 

@@ -9,9 +9,9 @@ ghost use Rattle.fq_csv.specs.HandedOut.{Follows, IsRun, answers, framed};
 ghost use Rattle.fq_csv.specs.Scan.{Scanning};
 ghost use Rattle.fq_csv.specs.Stage.{ended, without};
 ghost use Rattle.fq_csv.specs.declared.faults.ScanFault.{ScanFault};
-ghost use Rattle.fq_csv.specs.declared.layouts.Layout.{Layout};
-ghost use Rattle.fq_csv.specs.declared.scans.Scan.{Scan as Answer};
-ghost use Rattle.fq_csv.specs.declared.scans.Scan.TheVariants.{Batch, End};
+ghost use Rattle.fq_csv.specs.declared.cells.layouts.Layout.{Layout};
+ghost use Rattle.fq_csv.specs.declared.scanning.scans.Scan.{Scan as Answer};
+ghost use Rattle.fq_csv.specs.declared.scanning.scans.Scan.TheVariants.{Batch, End};
 
 /// What a scanner hands out, call by call, is the pieces of its stream's rows with serials in order, and then their
 /// number and the stream's end; if a read or an allocation fails, it is the first of these. If no text is read as null

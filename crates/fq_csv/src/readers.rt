@@ -5,8 +5,8 @@ ghost use Rattle.csv.specs.Records.{fields_of};
 ghost use Rattle.fq_csv.specs.File.{Record};
 ghost use Rattle.fq_csv.specs.Readers.{HasLeft, IsPlain, TextHasLeft};
 
-use crate::pieces::Pieces;
-use crate::retrying::Retrying;
+use crate::cutting::pieces::Pieces;
+use crate::cutting::retrying::Retrying;
 use csv::{ByteRecord, Error, Reader, ReaderBuilder};
 use fq_column::Memory;
 use std::alloc::Global;

@@ -1,5 +1,5 @@
 //! The sources of a run.
-use crate::layouts::Layout;
+use crate::cells::layouts::Layout;
 
 /// The most files of a run.
 pub const MAX_FILES: u16 = 16;

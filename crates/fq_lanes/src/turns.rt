@@ -31,7 +31,7 @@ fn poll_feed<R: Wait, X: Drop, S: Tail>(
 where
     S::Out: Drop,
     requires file { file < length lanes.old.items }
-    requires worker { (d : Lanes X S.Out) × (slice_get workers.old.items worker ≡ Some d) × (length d.outstanding.items < MOST_OUTSTANDING) }
+    requires worker { (d : Lanes X S.Out) × (slice_get workers.old.items worker ≡ Some d) × (length d.outstanding.items < 4) }
     requires turn { (first : S) × (events : List (Event S.Out)) × InTurn S.takes first (feed_views lanes.old.items) (worker_views workers.old.items) hub.old events }
     ensures sizes { (length lanes.new.items ≡ length lanes.old.items) × (length workers.new.items ≡ length workers.old.items) }
     ensures lanes { feed_names lanes.new.items ≡ feed_names lanes.old.items }
@@ -85,10 +85,10 @@ where
 
 /// The worker with the fewest outstanding jobs, and the lowest of these, if it may have one more.
 fn free_worker<X, O>(workers: &Vec<WorkerLanes<'_, X, O>>) -> Option<usize>
-    ensures free { IfSome result (λ w. (d : Lanes X O) × (slice_get workers.now.items w ≡ Some d) × (length d.outstanding.items < MOST_OUTSTANDING)
+    ensures free { IfSome result (λ w. (d : Lanes X O) × (slice_get workers.now.items w ≡ Some d) × (length d.outstanding.items < 4)
         × All (λ e. length d.outstanding.items ≤ length e.outstanding.items) workers.now.items
         × ((j : ℕ) (e : Lanes X O) → j < w → slice_get workers.now.items j ≡ Some e → length d.outstanding.items < length e.outstanding.items)) }
-    ensures full { IfNone result (All (λ e. MOST_OUTSTANDING ≤ length e.outstanding.items) workers.now.items) }
+    ensures full { IfNone result (All (λ e. 4 ≤ length e.outstanding.items) workers.now.items) }
 {
     let mut free = None;
     let mut fewest = MOST_OUTSTANDING;

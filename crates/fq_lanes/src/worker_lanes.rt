@@ -50,7 +50,7 @@ impl<'s, X, O> WorkerLanes<'s, X, O> {
     pub(crate) fn give<R: Wait>(&mut self, rt: &R, job: Job<X>) -> Result<(), Memory>
     where
         X: Drop,
-        requires few { length self.old.outstanding.items < MOST_OUTSTANDING }
+        requires few { length self.old.outstanding.items < 4 }
         ensures name { worker_name self.new ≡ worker_name self.old }
         ensures answers { taken_items self.new.answers ≡ taken_items self.old.answers }
         ensures ok { OnOk result ((put_items self.new.jobs ≡ put_items self.old.jobs ++ Do job ∷ []) × (self.new.outstanding.items ≡ self.old.outstanding.items ++ (job.file, job.serial) ∷ [])) }

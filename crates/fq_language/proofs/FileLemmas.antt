@@ -4,7 +4,7 @@ use Rattle.std.specs.Prelude.{slice_get}
 use Rattle.std.proofs.Math.Seq.{drop-cons}
 use Rattle.std.proofs.lemmas.List.{drop-map, drop_all, length-append, length-map, length-replicate}
 use Rattle.std.proofs.lemmas.List.Sums.{sum_by-cons}
-use Rattle.fq_csv.specs.declared.layouts.Layout.{Layout}
+use Rattle.fq_csv.specs.declared.cells.layouts.Layout.{Layout}
 use Rattle.fq_csv.specs.Sources.{Source as SourceData, layout_of}
 use Rattle.fq_language.specs.View.{source_data}
 use Rattle.fq_language.specs.declared.plans.Source.{Source}

@@ -1,6 +1,6 @@
 -- What is told of a refusal is that of the check: sources one after another, then steps.
 use Rattle.std.proofs.Common.{◌≡◌, ℕ, ◌+◌, ◌-◌, List, [], ◌∷◌, ◌++◌, map, take, length, String, Global, string_bytes, Option, Some, None, Result, Ok, Err, refl, ap, sym, ◌∙◌, subst, arith, length-append}
-use Rattle.std.specs.Prelude.{IfErr, IfOk, IsErr, IsOk, IsSome, OnOk, slice_index_or}
+use Rattle.std.specs.Prelude.{IfErr, IfOk, IsErr, IsOk, IsSome, OnOk}
 use Rattle.std.specs.Result.{result_map_both}
 use Rattle.std.proofs.lemmas.List.{length-map, take-map}
 use Rattle.fq_column.specs.declared.cells.Kind.{Kind}
@@ -9,6 +9,7 @@ use Rattle.fq_column.specs.Frame.{Fields, Name, names_of}
 use Rattle.fq_column.specs.Refusal.{first_refusal}
 use Rattle.fq_column.specs.Schema.{fields_of, schema_checks}
 use Rattle.fq_csv.specs.Sources.{Source, but_last, last_or}
+use Rattle.fq_csv.proofs.LastLemmas.{but_last-snoc, last_or-snoc}
 use Rattle.fq_language.specs.Explained.{WrongOnlyIf}
 use Rattle.fq_language.specs.Judged.{judged, judged_step, judged_steps, refused_at, source_refusal}
 use Rattle.fq_language.specs.Plan.{PlanData, PlanStep, main_fields, side_fields}
@@ -69,7 +70,7 @@ names_of-columns cs ns e = names cs ∙ sym e
 
 -- ---- sources
 
-abbrev or_later : ℕ → Option StepFault → Option CheckFault → Option CheckFault
+abbrev pub or_later : ℕ → Option StepFault → Option CheckFault → Option CheckFault
 or_later n o later = elim o [ Some code ↦ Some (refused_at (place.Source n) code) | None ↦ later ]
 
 pub source-passed : (n : ℕ) (s : Source) (rest : List Source) → first_refusal (schema_checks (names_of s.fields)) ≡ None → source_refusal n (s ∷ rest) ≡ source_refusal (n + 1) rest
@@ -94,7 +95,7 @@ module _ {X E : Type 0} where
   err-mapped f (Err e) h = refl
 
 -- the steps that are left, after a step that was judged
-abbrev step_then : ℕ → Fields → Result Fields StepFault → (Fields → Result (List Fields) CheckFault) → Result (List Fields) CheckFault
+abbrev pub step_then : ℕ → Fields → Result Fields StepFault → (Fields → Result (List Fields) CheckFault) → Result (List Fields) CheckFault
 step_then n fields r later = elim r [ Err code ↦ Err (refused_at (place.Step n) code) | Ok after ↦ result_map_both (λ rest. fields ∷ rest) (λ e. e) (later after) ]
 
 -- below, `sides` are the columns of the sources before the last
@@ -116,24 +117,6 @@ module _ (sides : List Fields) (n : ℕ) (fields : Fields) (s : PlanStep) (rest 
       go (Err code) g = refl
 
 -- ---- the sources before the last, and the last
-
-module _ {X : Type 0} where
-  take-front : (xs ys : List X) → take (length xs) (xs ++ ys) ≡ xs
-  take-front [] ys = refl
-  take-front (x ∷ xs) ys = ap (λ zs. x ∷ zs) (take-front xs ys)
-
-  index-last : (xs : List X) (x d : X) → slice_index_or (xs ++ x ∷ []) (length xs) d ≡ x
-  index-last [] x d = refl
-  index-last (y ∷ xs) x d = index-last xs x d
-
-  length-last : (xs : List X) (x : X) → length (xs ++ x ∷ []) - 1 ≡ length xs
-  length-last xs x = omega (arith, length-append xs (x ∷ []))
-
-  but_last-snoc : (xs : List X) (x : X) → but_last (xs ++ x ∷ []) ≡ xs
-  but_last-snoc xs x = ap (λ n. take n (xs ++ x ∷ [])) (length-last xs x) ∙ take-front xs (x ∷ [])
-
-  last_or-snoc : (d : X) (xs : List X) (x : X) → last_or d (xs ++ x ∷ []) ≡ x
-  last_or-snoc d xs x = ap (λ n. slice_index_or (xs ++ x ∷ []) n d) (length-last xs x) ∙ index-last xs x d
 
 but_last-map : {X Y : Type 0} (f : X → Y) (xs : List X) → but_last (map f xs) ≡ map f (but_last xs)
 but_last-map f xs = ap (λ n. take (n - 1) (map f xs)) (length-map xs f) ∙ take-map f (length xs - 1) xs

@@ -19,7 +19,7 @@ use std::{fmt, io};
 /// What a run learns that its failure does not say.
 #[derive(Drop)]
 pub struct Learned {
-    /// The text of the plan; empty until all of it was read.
+    /// The text of the plan, or of the plan that was drafted; empty until there is all of it.
     pub plan: Vec<u8>,
     /// Why a write failed, if one did.
     pub write: Option<io::Error>,

@@ -9,7 +9,7 @@ use std::io;
 use std::io::{ErrorKind, Read};
 
 /// The most reads of one input.
-const MAX_READS: u64 = 4_294_967_296;
+pub const MAX_READS: u64 = 4_294_967_296;
 
 /// A reader of the file of this name. If it cannot be opened, the answer is `failure`.
 pub fn open<O: Opener>(files: &mut O, name: &str, failure: Failure) -> Result<O::Reader, Failure>

@@ -13,6 +13,6 @@ mod status;
 
 pub use details::{Learned, write_details};
 pub use failures::{Failure, report};
-pub use inputs::{open, read_whole, split_line};
+pub use inputs::{MAX_READS, open, read_whole, split_line};
 pub use reviews::{check_files, draft_of};
 pub use status::Status;

@@ -2,7 +2,7 @@
 ghost use Rattle.std.specs.Prelude.{◌≡◌, ◌^◌, ◌<◌, IfSome, IfNone, true};
 ghost use Rattle.std.specs.Option.{SomeIff};
 ghost use Rattle.std.specs.Str.{all_ascii_digits};
-ghost use Rattle.std.specs.Str.Parse.{digits_value_after, starts_with_minus, without_leading_sign};
+ghost use Rattle.std.specs.Str.Parse.{digits_value, digits_value_after, starts_with_minus, without_leading_sign};
 ghost use Rattle.fq_column.specs.Cell.{fits};
 ghost use Rattle.fq_notation.specs.Digits.{after_digits, leading_digits, signed, whole_of};
 
@@ -24,7 +24,7 @@ pub fn whole(field: &[u8]) -> Option<i64>
     if digits.len() > FEW_DIGITS {
         return with_sign(is_negative, number_after(0, digits)?);
     }
-    let (number, rest) = few_digits_after(0, digits);
+    let (number, rest) = few_digits(digits);
     if !rest.is_empty() {
         return None;
     }
@@ -65,13 +65,14 @@ pub fn digits_after(mut number: u64, bytes: &[u8]) -> Option<(u64, &[u8])>
     Some((number, rest))
 }
 
-/// The same of digits that write a number below 10^18, so that none of them has to be looked at for that.
+/// The number that leading digits write, and the bytes after them: a number below 10^18, so that no digit has to be looked at for that.
 #[inline]
-pub fn few_digits_after(mut number: u64, bytes: &[u8]) -> (u64, &[u8])
-    requires { digits_value_after 10 number (leading_digits bytes.now) < 10 ^ 18 }
-    ensures number { result.0 ≡ digits_value_after 10 number (leading_digits bytes.now) }
+pub fn few_digits(bytes: &[u8]) -> (u64, &[u8])
+    requires { digits_value 10 (leading_digits bytes.now) < 10 ^ 18 }
+    ensures number { result.0 ≡ digits_value 10 (leading_digits bytes.now) }
     ensures rest { result.1.now ≡ after_digits bytes.now }
 {
+    let mut number = 0;
     let mut rest = bytes;
     while let [byte, tail @ ..] = rest {
         if !byte.is_ascii_digit() {
@@ -97,8 +98,7 @@ pub fn number_after(number: u64, digits: &[u8]) -> Option<u64>
 #[inline]
 pub fn few_with_sign(is_negative: bool, number: u64) -> i64
     requires { number < 10 ^ 18 }
-    ensures value { result ≡ signed is_negative number }
-    ensures range { fits (signed is_negative number) ≡ true }
+    ensures { result ≡ signed is_negative number }
 {
     let number = number.cast_signed();
     if is_negative { -number } else { number }

@@ -1,13 +1,12 @@
 -- What the check has judged so far, and what is left to judge.
-use Rattle.std.proofs.Common.{◌≡◌, ℕ, suc, ◌+◌, List, [], ◌∷◌, ◌++◌, map, length, pos, String, Global, string_bytes, Option, Some, None, Result, Ok, Err, refl, ap, sym, ◌∙◌, subst, inl, inr, arith, append_assoc, append-nil, length-append}
+use Rattle.std.proofs.Common.{◌≡◌, ℕ, suc, ◌+◌, List, [], ◌∷◌, ◌++◌, map, length, pos, string_bytes, Option, Some, None, Result, Ok, Err, refl, ap, sym, ◌∙◌, subst, inl, inr, arith, append_assoc, append-nil, length-append}
 use Rattle.std.specs.Prelude.{IsOk}
 use Rattle.std.specs.Result.{result_map_both}
 use Rattle.std.proofs.lemmas.List.{length-map, map-append}
-use Rattle.fq_column.specs.declared.cells.Kind.{Kind}
 use Rattle.fq_column.specs.declared.faults.StepFault.{StepFault}
-use Rattle.fq_column.specs.Frame.{Fields, Name, names_of}
+use Rattle.fq_column.specs.Frame.{Fields, names_of}
 use Rattle.fq_column.specs.Refusal.{first_refusal, and_then, IsJudgement}
-use Rattle.fq_column.specs.Schema.{fields_of, schema_checks}
+use Rattle.fq_column.specs.Schema.{schema_checks}
 use Rattle.fq_expr.specs.Expression.{Step}
 use Rattle.fq_expr.specs.ExpressionData.{step_of}
 use Rattle.fq_expr.specs.Kinds.{step_schema, steps_schema}
@@ -17,13 +16,13 @@ use Rattle.fq_language.specs.Plan.{PlanStep, row_wise, join, group_by, rolling_s
 use Rattle.fq_csv.specs.Sources.{Source, last_or}
 use Rattle.fq_plan.specs.Stages.{columns_after, leading_stage, operator_steps, stage_steps, stages_of, Leads, LowersTo}
 use Rattle.fq_plan.specs.declared.checks.steps.PassedSteps.{PassedSteps}
-use Rattle.fq_language.specs.View.{field_of}
 use Rattle.fq_language.specs.declared.faults.CheckFault.{CheckFault}
 use Rattle.fq_language.specs.declared.faults.Place.TheVariants as place
 use Rattle.fq_run.specs.declared.operators.Operator.{Operator}
 use Rattle.fq_run.specs.declared.operators.Operator.TheVariants.{Rows, Join, GroupBy, RollingSum}
 use Rattle.fq_run.specs.declared.stages.Stage.{Stage}
-use Rattle.fq_run.proofs.LastLemmas.{last_or-snoc}
+use Rattle.fq_csv.proofs.LastLemmas.{last_or-snoc}
+use Rattle.fq_language.proofs.RefusalLemmas.{or_later, step_then}
 
 -- ---- judgements
 
@@ -34,28 +33,8 @@ module _ {X : Type 0} where
 
 -- ---- sources
 
-abbrev pub Columns : Type 0
-Columns = List (String Global × Kind)
-
-fields : (cs : Columns) → fields_of (map (λ c. string_bytes c.0) cs) (map (λ c. c.1) cs) ≡ map field_of cs
-fields [] = refl
-fields (c ∷ cs) = ap (λ fs. field_of c ∷ fs) (fields cs)
-
-names : (cs : Columns) → names_of (map field_of cs) ≡ map (λ c. string_bytes c.0) cs
-names [] = refl
-names (c ∷ cs) = ap (λ ns. string_bytes c.0 ∷ ns) (names cs)
-
-pub fields_of-columns : (cs : Columns) (ns : List Name) (ks : List Kind) → ns ≡ map (λ c. string_bytes c.0) cs → ks ≡ map (λ c. c.1) cs → fields_of ns ks ≡ map field_of cs
-fields_of-columns cs ns ks e f = (λ i. fields_of (e i) (f i)) ∙ fields cs
-
-pub names_of-columns : (cs : Columns) (ns : List Name) → ns ≡ map (λ c. string_bytes c.0) cs → names_of (map field_of cs) ≡ ns
-names_of-columns cs ns e = names cs ∙ sym e
-
 abbrev pub source_checks : Source → Option StepFault
 source_checks s = first_refusal (schema_checks (names_of s.fields))
-
-abbrev pub or_later : ℕ → Option StepFault → Option CheckFault → Option CheckFault
-or_later n o later = elim o [ Some code ↦ Some (refused_at (place.Source n) code) | None ↦ later ]
 
 -- if no source of the first ones is refused, the next ones are judged
 pub source_refusal-append : (n : ℕ) (xs ys : List Source) → source_refusal n xs ≡ None → source_refusal n (xs ++ ys) ≡ source_refusal (n + length xs) ys
@@ -110,10 +89,6 @@ module _ {X E : Type 0} where
   pub refusal-mapped : (f : X → X) (r : Result X E) → refusal_in (result_map_both f (λ e. e) r) ≡ refusal_in r
   refusal-mapped f (Ok x) = refl
   refusal-mapped f (Err e) = refl
-
--- the steps that are left, after a step that was judged
-abbrev pub step_then : ℕ → Fields → Result Fields StepFault → (Fields → Result (List Fields) CheckFault) → Result (List Fields) CheckFault
-step_then n fields r later = elim r [ Err code ↦ Err (refused_at (place.Step n) code) | Ok after ↦ result_map_both (λ rest. fields ∷ rest) (λ e. e) (later after) ]
 
 -- below, `sides` are the columns of the sources before the last
 module _ (sides : List Fields) where

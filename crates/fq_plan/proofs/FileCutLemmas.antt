@@ -12,7 +12,7 @@ use Rattle.fq_language.specs.Plan.{PlanStep, PlanData, files_wanted, side_files,
 use Rattle.fq_csv.specs.Sources.{Source, but_last, last_or}
 use Rattle.fq_run.specs.Sources.{concat_streams, first_fault, frames_of, scan_fault, source_streams}
 use Rattle.fq_run.specs.declared.faults.Fault.{Fault}
-use Rattle.fq_run.proofs.LastLemmas.{but_last-snoc, last_or-snoc}
+use Rattle.fq_csv.proofs.LastLemmas.{but_last-snoc, last_or-snoc}
 use Rattle.fq_run.proofs.SourceOfFileLemmas.{HasMain, has_main, wanted-main}
 
 -- a sum of files over the first source and the rest

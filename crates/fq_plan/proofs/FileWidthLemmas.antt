@@ -18,7 +18,7 @@ use Rattle.fq_column.proofs.ListLemmas.{length-zip_with}
 use Rattle.fq_column.proofs.MaskedLemmas.{length-masked}
 use Rattle.fq_csv.specs.declared.faults.ScanFault.{ScanFault}
 use Rattle.fq_csv.specs.declared.faults.ScanFault.TheVariants.{BadCell, Header, TooLong, Width}
-use Rattle.fq_csv.specs.declared.layouts.Layout.{Layout}
+use Rattle.fq_csv.specs.declared.cells.layouts.Layout.{Layout}
 use Rattle.fq_notation.specs.declared.notations.Notation.{Notation}
 use Rattle.fq_csv.specs.Field.{cell_under}
 use Rattle.fq_csv.specs.File.{Record, cells_by, file_stream, noted, row_by, rows_by, rows_under_header_by}

@@ -6,7 +6,7 @@ use Rattle.fq_csv.specs.declared.sources.SourceFiles.{SourceFiles}
 use Rattle.fq_language.specs.declared.plans.Source.{Source as Declared}
 use Rattle.fq_language.specs.View.{source_data}
 use Rattle.fq_plan.specs.Stages.{keeping, narrowed, whole_source}
-use Rattle.fq_run.proofs.LastLemmas.{but_last-snoc}
+use Rattle.fq_csv.proofs.LastLemmas.{but_last-snoc}
 
 drop-front : {X : Type 0} (xs ys : List X) → drop (length xs) (xs ++ ys) ≡ ys
 drop-front [] ys = refl

@@ -9,7 +9,7 @@ use Rattle.fq_column.specs.Lists.{numbers, pieces, zip_with}
 use Rattle.fq_column.specs.Masked.{masked, masked_stream}
 use Rattle.fq_column.specs.Stream.{Stream}
 use Rattle.fq_csv.specs.declared.faults.ScanFault.{ScanFault}
-use Rattle.fq_csv.specs.declared.layouts.Layout.{Layout}
+use Rattle.fq_csv.specs.declared.cells.layouts.Layout.{Layout}
 use Rattle.fq_csv.specs.File.{all_kept, file_stream}
 use Rattle.fq_csv.specs.Printed.{printed_in}
 use Rattle.fq_csv.specs.Sources.{Source, but_last, layout_of, row_limit}
@@ -28,7 +28,7 @@ use Rattle.fq_plan.proofs.WholeSourceLemmas.{wanted-whole}
 use Rattle.fq_run.specs.Physical as physical
 use Rattle.fq_run.specs.Run.{IsAnswer, IsOfMeaning, trace_of}
 use Rattle.fq_run.specs.declared.faults.Fault.{Fault}
-use Rattle.fq_run.proofs.LastLemmas.{but_last-snoc}
+use Rattle.fq_csv.proofs.LastLemmas.{but_last-snoc}
 use Rattle.fq_run.proofs.SourceOfFileLemmas.{has_main, layouts_of, length-layouts}
 
 -- ---- the streams of their files

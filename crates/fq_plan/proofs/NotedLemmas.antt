@@ -22,7 +22,8 @@ use Rattle.fq_plan.specs.Noted.{frame_fields, has_ints, last_judged, noted, note
 use Rattle.fq_plan.specs.declared.noted.NotationFault.{NotationFault}
 use Rattle.fq_plan.specs.declared.noted.NotationFault.TheVariants.{NoColumn, Twice}
 use Rattle.fq_plan.specs.Stages.{keeping, narrowed, plan_of, query_of, stage_steps, whole_source, IsChecked, Leads}
-use Rattle.fq_plan.proofs.CheckLemmas.{rows-passed, stages-passed, step_then}
+use Rattle.fq_language.proofs.RefusalLemmas.{step_then}
+use Rattle.fq_plan.proofs.CheckLemmas.{rows-passed, stages-passed}
 use Rattle.fq_plan.proofs.StageMeaning.{fits}
 use Rattle.fq_plan.proofs.WholeSourceLemmas.{judged-whole, refusal-same}
 use Rattle.fq_run.specs.Noted as run

@@ -16,7 +16,7 @@ use Rattle.fq_csv.specs.File.{Record, cells_by, file_stream, noted as noted_kind
 use Rattle.fq_csv.specs.Printed.{cell_text, printed, printed_in, printed_names, printed_rows_in, row_fields}
 use Rattle.fq_csv.specs.Sources.{Source, layout_of, row_limit, streams_of_files}
 use Rattle.fq_csv.specs.declared.faults.ScanFault.TheVariants.{Header, Width, BadCell, TooLong}
-use Rattle.fq_csv.specs.declared.layouts.Layout.{Layout}
+use Rattle.fq_csv.specs.declared.cells.layouts.Layout.{Layout}
 use Rattle.fq_language.specs.Plan.{PlanData, file_layouts, file_streams}
 use Rattle.fq_notation.specs.Notation.{notation_in}
 use Rattle.fq_notation.specs.declared.notations.Notation.{Notation}

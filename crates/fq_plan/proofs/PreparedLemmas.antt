@@ -24,7 +24,7 @@ use Rattle.fq_run.specs.declared.stages.Stage.{Stage}
 use Rattle.fq_plan.proofs.CheckLemmas.{refusal_in, no-refusal, rows-passed, stages-passed, step-passed}
 use Rattle.fq_plan.proofs.StageMeaning.{fits}
 use Rattle.fq_plan.proofs.WholeSourceLemmas.{judged-whole, wanted-whole}
-use Rattle.fq_run.proofs.LastLemmas.{but_last-snoc, last_or-snoc}
+use Rattle.fq_csv.proofs.LastLemmas.{but_last-snoc, last_or-snoc}
 use Rattle.fq_run.proofs.StageLemmas.{fields-after-all}
 
 -- ---- the judgement of a plan, by that of its sources and of its steps

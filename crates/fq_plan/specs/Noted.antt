@@ -3,7 +3,7 @@ use Rattle.std.specs.Prelude.{◌||◌, ◌++◌, Bool, List, [], ◌∷◌, len
 use Rattle.std.specs.List.{list_any}
 use Rattle.fq_column.specs.Frame.{Fields, Name, has_name}
 use Rattle.fq_csv.specs.Sources.{last_or}
-use Rattle.fq_csv.specs.declared.layouts.Layout.{Layout}
+use Rattle.fq_csv.specs.declared.cells.layouts.Layout.{Layout}
 use Rattle.fq_language.specs.Judged.{judged}
 use Rattle.fq_language.specs.Plan.{PlanData, file_layouts}
 use Rattle.fq_language.specs.declared.faults.CheckFault.{CheckFault}

@@ -17,8 +17,8 @@ use Rattle.fq_column.specs.Masked.{masked}
 use Rattle.fq_csv.specs.File.{Record, cells_by, noted, row_of, rows_after, rows_under_header}
 use Rattle.fq_csv.specs.declared.faults.ScanFault.{ScanFault}
 use Rattle.fq_csv.specs.declared.faults.ScanFault.TheVariants.{BadCell, TooLong, Width}
-use Rattle.fq_csv.specs.declared.layouts.Layout.{Layout}
-use Rattle.fq_csv.specs.declared.scanners.TheConstants.{MAX_ROWS}
+use Rattle.fq_csv.specs.declared.cells.layouts.Layout.{Layout}
+use Rattle.fq_csv.specs.declared.scanning.scanners.TheConstants.{MAX_ROWS}
 use Rattle.fq_csv.proofs.FileStreamLemmas.{after-fault, after-row}
 use Rattle.fq_places.specs.Marks.{marks_of}
 use Rattle.fq_places.specs.Records.{flaws_of}

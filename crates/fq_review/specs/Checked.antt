@@ -7,8 +7,8 @@ use Rattle.fq_column.specs.Frame.{Name, kinds_of}
 use Rattle.fq_notation.specs.declared.notations.Notation.{Notation}
 use Rattle.fq_csv.specs.Field.{cell_under}
 use Rattle.fq_csv.specs.File.{Record, file_stream, noted}
-use Rattle.fq_csv.specs.declared.layouts.Layout.{Layout}
-use Rattle.fq_csv.specs.declared.scanners.TheConstants.{MAX_ROWS}
+use Rattle.fq_csv.specs.declared.cells.layouts.Layout.{Layout}
+use Rattle.fq_csv.specs.declared.scanning.scanners.TheConstants.{MAX_ROWS}
 use Rattle.fq_places.specs.Marks.{marks_of}
 use Rattle.fq_places.specs.Records.{flaws_of}
 use Rattle.fq_places.specs.declared.marks.Mark.{Mark}

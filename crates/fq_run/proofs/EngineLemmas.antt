@@ -6,7 +6,7 @@ use Rattle.fq_column.specs.Lists.{pieces, zip_with}
 use Rattle.fq_column.specs.Stream.{Stream, rename_fault}
 use Rattle.fq_csv.specs.File.{Record, file_stream}
 use Rattle.fq_csv.specs.Taking.{FieldRun, RecordStream, record_stream, rows_of_records}
-use Rattle.fq_csv.specs.declared.layouts.Layout.{Layout}
+use Rattle.fq_csv.specs.declared.cells.layouts.Layout.{Layout}
 use Rattle.fq_csv.specs.declared.faults.ScanFault.{ScanFault}
 use Rattle.fq_csv.proofs.ScanLemmas.{rows-under-header}
 use Rattle.fq_expr.specs.Front.{NumberedSteps}

@@ -6,7 +6,7 @@ use Rattle.fq_csv.specs.RecordScan.{HandsOutRun, IsNextRun, RecordScanning}
 use Rattle.fq_csv.specs.Records.{IsFailure, IsOfText}
 use Rattle.fq_csv.specs.Taking.{FieldRun, RecordStream, over, without_records}
 use Rattle.fq_csv.specs.declared.faults.ScanFault.{ScanFault}
-use Rattle.fq_csv.specs.declared.layouts.Layout.{Layout}
+use Rattle.fq_csv.specs.declared.cells.layouts.Layout.{Layout}
 use Rattle.fq_csv.specs.declared.faults.ScanFault.TheVariants.{Header, Width, BadCell, TooLong, Read, Memory}
 use Rattle.fq_csv.proofs.HandedOutLemmas.{pieces-more, pieces-none}
 use Rattle.fq_run.specs.Feeding.{AreTextItems, Feeding, MayCome, end_item, failure_in, feeding_of, runs_from, scanned_items}

@@ -17,7 +17,7 @@ use Rattle.fq_csv.specs.File.{Record, cells_by, row_of, rows_after}
 use Rattle.fq_csv.specs.HandedOut.{framed}
 use Rattle.fq_csv.specs.Stage.{ended}
 use Rattle.fq_csv.specs.Taking.{FieldRun, RecordStream, rows_of_records}
-use Rattle.fq_csv.specs.declared.layouts.Layout.{Layout}
+use Rattle.fq_csv.specs.declared.cells.layouts.Layout.{Layout}
 use Rattle.fq_csv.specs.declared.faults.ScanFault.{ScanFault}
 use Rattle.fq_csv.specs.declared.faults.ScanFault.TheVariants.{BadCell, TooLong, Width}
 use Rattle.fq_csv.proofs.ScanLemmas.{rows-split}

@@ -1,4 +1,3 @@
-pub mod LastLemmas
 pub mod LeadingStepLemmas
 pub mod TailLemmas
 pub mod StageLemmas

@@ -5,7 +5,7 @@ use Rattle.std.proofs.lemmas.List.{length-map, take_all}
 use Rattle.std.proofs.lemmas.List.Sums.{sum_by-cons}
 use Rattle.fq_column.specs.Stream.{Stream, rename_fault}
 use Rattle.fq_csv.specs.Taking.{RecordStream}
-use Rattle.fq_csv.specs.declared.layouts.Layout.{Layout}
+use Rattle.fq_csv.specs.declared.cells.layouts.Layout.{Layout}
 use Rattle.fq_csv.specs.declared.faults.ScanFault.{ScanFault}
 use Rattle.fq_expr.specs.Front.{NumberedSteps}
 use Rattle.fq_lanes.specs.Numbering.{numbered, numbers}
@@ -24,7 +24,7 @@ use Rattle.fq_run.proofs.EndLemmas.{files-done}
 use Rattle.fq_run.proofs.GatheringLemmas.{Answer, all_joined-items, all_taken, all_taken-joined, items-frames, items-streams, with_items, with_items-append, head_of}
 use Rattle.fq_run.proofs.SourceOfFileLemmas.{HasMain, files-fit, has_main, length-layouts, main-fields, wanted-main}
 use Rattle.fq_run.proofs.EngineLemmas.{answer-streams, answers_in, answers_to, each-known, files-numbers, fit-files, length-rows, log-answers, log-numbers, took-all, worked-joined, worked_streams}
-use Rattle.fq_run.proofs.LastLemmas.{same-ends}
+use Rattle.fq_csv.proofs.LastLemmas.{same-ends}
 use Rattle.fq_run.proofs.TailLemmas.{flat, items_from-start, main-joined, sides-joined}
 
 length-worked : (p : Physical) (k : ℕ) (us : List (Stream Fault)) → length (worked_files p k us) ≡ length us

@@ -6,7 +6,7 @@ use Rattle.std.proofs.lemmas.List.Sums.{sum_by-cons, sum_by_push}
 use Rattle.fq_expr.specs.Front.{NumberedSteps}
 use Rattle.fq_expr.specs.Steps.{fields_after_all}
 use Rattle.fq_lanes.specs.Engine.{Finishes}
-use Rattle.fq_csv.specs.declared.layouts.Layout.{Layout}
+use Rattle.fq_csv.specs.declared.cells.layouts.Layout.{Layout}
 use Rattle.fq_run.specs.Feeding.{Feeding, MayCome}
 use Rattle.fq_run.specs.Kept.{Takes}
 use Rattle.fq_run.specs.Physical.{Physical, file_layouts, files_wanted, side_fields, side_files}
@@ -22,7 +22,7 @@ use Rattle.fq_run.proofs.TextItemLemmas.{files-text}
 use Rattle.fq_run.specs.declared.stages.Stage.{Stage}
 use Rattle.fq_run.proofs.SourceOfFileLemmas.{length-layouts}
 use Rattle.fq_run.proofs.EngineLemmas.{opened-told}
-use Rattle.fq_run.proofs.LastLemmas.{but_last-snoc, last_or-snoc}
+use Rattle.fq_csv.proofs.LastLemmas.{but_last-snoc, last_or-snoc}
 
 -- ---- feeds that were opened
 

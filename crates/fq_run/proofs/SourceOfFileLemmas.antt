@@ -5,7 +5,7 @@ use Rattle.std.proofs.lemmas.Bool.Decides.{nat_tests}
 use Rattle.std.proofs.lemmas.List.{length-replicate, map-append}
 use Rattle.std.proofs.lemmas.List.Sums.{sum_by-append, sum_by-cons}
 use Rattle.fq_column.specs.Frame.{Fields, Frame, Row}
-use Rattle.fq_csv.specs.declared.layouts.Layout.{Layout}
+use Rattle.fq_csv.specs.declared.cells.layouts.Layout.{Layout}
 use Rattle.fq_csv.specs.HandedOut.{framed}
 use Rattle.fq_csv.specs.declared.faults.ScanFault.{ScanFault}
 use Rattle.fq_expr.specs.declared.fronts.RowFault.{RowFault}
@@ -21,7 +21,7 @@ use Rattle.fq_column.specs.Schema.{same_fields}
 use Rattle.fq_column.specs.SchemaLaws.{same_fields_decides}
 use Rattle.fq_run.proofs.GatheringLemmas.{Fits, Head, fields_at, head_of}
 use Rattle.fq_run.proofs.EngineLemmas.{FilesFit, MainFields, RunsFit}
-use Rattle.fq_run.proofs.LastLemmas.{but_last-snoc, last_or-snoc}
+use Rattle.fq_csv.proofs.LastLemmas.{but_last-snoc, last_or-snoc}
 
 -- ---- a list that has a last item
 

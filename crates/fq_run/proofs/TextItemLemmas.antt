@@ -19,7 +19,7 @@ use Rattle.fq_csv.specs.Sources.{row_limit}
 use Rattle.fq_csv.specs.Taking.{FieldRun, RecordStream, over, record_stream, records_after, records_under_header, then_records}
 use Rattle.fq_csv.specs.declared.faults.ScanFault.{ScanFault}
 use Rattle.fq_csv.specs.declared.faults.ScanFault.TheVariants.{Header, Width, BadCell, TooLong}
-use Rattle.fq_csv.specs.declared.layouts.Layout.{Layout}
+use Rattle.fq_csv.specs.declared.cells.layouts.Layout.{Layout}
 use Rattle.fq_column.specs.declared.pieces.Piece.{Piece}
 use Rattle.fq_expr.specs.Front.{NumberedSteps}
 use Rattle.fq_expr.specs.declared.fronts.RowFault.{RowFault}

@@ -4,7 +4,7 @@ use Rattle.fq_column.specs.Frame.{Fields}
 use Rattle.fq_column.specs.Stream.{Stream}
 use Rattle.fq_csv.specs.Taking.{RecordStream, record_stream, rows_of_records}
 use Rattle.fq_csv.specs.declared.faults.ScanFault.{ScanFault}
-use Rattle.fq_csv.specs.declared.layouts.Layout.{Layout}
+use Rattle.fq_csv.specs.declared.cells.layouts.Layout.{Layout}
 use Rattle.fq_expr.specs.Front.{NumberedSteps}
 use Rattle.fq_lanes.specs.Engine.{Finishes}
 use Rattle.fq_run.specs.Feeding.{AllTextItems, Feeding, MayCome, scanned_items}

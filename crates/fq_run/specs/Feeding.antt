@@ -9,7 +9,7 @@ use Rattle.fq_csv.specs.Records.{IsOfText}
 use Rattle.fq_csv.specs.Taking.{RecordStream}
 use Rattle.fq_csv.specs.declared.faults.ScanFault.{ScanFault}
 use Rattle.fq_csv.specs.declared.faults.ScanFault.TheVariants as scan
-use Rattle.fq_csv.specs.declared.layouts.Layout.{Layout}
+use Rattle.fq_csv.specs.declared.cells.layouts.Layout.{Layout}
 use Rattle.fq_lanes.specs.declared.faults.FeedFault.{FeedFault}
 use Rattle.fq_lanes.specs.declared.faults.FeedFault.TheVariants as feed
 use Rattle.fq_run.specs.declared.file_feeds.FileItem.{FileItem}

@@ -5,7 +5,7 @@ use Rattle.fq_column.specs.Frame.{Fields, Name}
 use Rattle.fq_column.specs.Schema.{kind_named}
 use Rattle.fq_column.specs.declared.cells.Kind.TheVariants.{Whole, Text, Truth}
 use Rattle.fq_csv.specs.Sources.{Source}
-use Rattle.fq_csv.specs.declared.layouts.Layout.{Layout}
+use Rattle.fq_csv.specs.declared.cells.layouts.Layout.{Layout}
 use Rattle.fq_csv.specs.declared.sources.SourceFiles.{SourceFiles}
 use Rattle.fq_notation.specs.Notation.{Named, notation_in}
 use Rattle.fq_run.specs.Physical.{Physical, last_columns}

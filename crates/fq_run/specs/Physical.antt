@@ -4,7 +4,7 @@ use Rattle.std.specs.Prelude.{ℕ, List, [], map, drop, sum_by, flat_map, replic
 use Rattle.fq_column.specs.Frame.{Fields, Frame}
 use Rattle.fq_column.specs.Stream.{Stream, rename_fault}
 use Rattle.fq_csv.specs.declared.faults.ScanFault.{ScanFault}
-use Rattle.fq_csv.specs.declared.layouts.Layout.{Layout}
+use Rattle.fq_csv.specs.declared.cells.layouts.Layout.{Layout}
 use Rattle.fq_expr.specs.Expression.{Step}
 use Rattle.fq_expr.specs.Steps.{apply_steps, fields_after_all}
 use Rattle.fq_notation.specs.declared.notations.Notation.{Notation}

@@ -12,7 +12,7 @@ use Rattle.fq_lanes.specs.declared.faults.RunFault.TheVariants as engine
 use Rattle.fq_notation.specs.declared.notations.Notation.{Notation}
 use Rattle.fq_run.specs.declared.faults.Fault.{Fault}
 use Rattle.fq_run.specs.declared.faults.Fault.TheVariants.{Inputs, Setting, Memory, Read, Write}
-use Rattle.fq_csv.specs.declared.scanners.TheConstants.{MAX_BATCH_SIZE}
+use Rattle.fq_csv.specs.declared.scanning.scanners.TheConstants.{MAX_BATCH_SIZE}
 use Rattle.fq_lanes.specs.declared.work.TheConstants.{MAX_WORKERS}
 
 -- whether a number lies from low to high

@@ -5,7 +5,7 @@ use Rattle.std.proofs.Common.{◌≡◌, ◌∷◌, ◌++◌, ◌∙◌, List, O
 use Rattle.csv.specs.Reading.{is_flexible, names_headers, reader_config, reader_state, reader_trim, source_of, strip_bom}
 use Rattle.csv.specs.declared.reader.Reader.{Reader}
 use Rattle.fq_csv.specs.Readers.{TextSource, records_left, retried}
-use Rattle.fq_csv.specs.declared.retrying.Retrying.{Retrying}
+use Rattle.fq_csv.specs.declared.cutting.retrying.Retrying.{Retrying}
 use Rattle.fq_csv.proofs.BufferLemmas.{after-line, unmarked}
 use Rattle.fq_csv.proofs.readers.read_text.Goals as goal
 

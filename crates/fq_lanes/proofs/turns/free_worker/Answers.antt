@@ -3,7 +3,6 @@ use Rattle.std.specs.List.{slice_get}
 use Rattle.std.proofs.Common.{rules, arith, deque_len, ◌≡◌, ◌≤◌, ◌<◌, ◌+◌, ℕ, List, All, Option, Some, None, inl, inr, length, refl, sym, subst, ap, ◌∙◌}
 use Rattle.std.proofs.lemmas.Bool.{cases_lt}
 use Rattle.std.proofs.lemmas.Option.{same_Some, slice_get_within}
-use Rattle.fq_lanes.specs.declared.worker_lanes.TheConstants.{MOST_OUTSTANDING}
 use Rattle.fq_lanes.specs.declared.worker_lanes.WorkerLanes.{WorkerLanes}
 use Rattle.fq_lanes.proofs.BesideLemmas.{all_by_place, get_or_place}
 use Rattle.fq_lanes.proofs.turns.free_worker.Goals as goal
@@ -15,8 +14,8 @@ module _ {X O : Type 0} where
 
   -- the first of the workers with the fewest jobs, if these are fewer than the most
   abbrev Found : List (WorkerLanes X O) → ℕ → Option ℕ → Type 0
-  Found ds fewest free = MatchOption free (fewest ≡ MOST_OUTSTANDING) (λ w. (d : WorkerLanes X O) × (slice_get ds w ≡ Some d) × (jobs d ≡ fewest)
-      × (fewest < MOST_OUTSTANDING) × ((j : ℕ) (e : WorkerLanes X O) → j < w → slice_get ds j ≡ Some e → fewest < jobs e))
+  Found ds fewest free = MatchOption free (fewest ≡ 4) (λ w. (d : WorkerLanes X O) × (slice_get ds w ≡ Some d) × (jobs d ≡ fewest)
+      × (fewest < 4) × ((j : ℕ) (e : WorkerLanes X O) → j < w → slice_get ds j ≡ Some e → fewest < jobs e))
 
   least-next : (ds : List (WorkerLanes X O)) (w fewest next : ℕ) (d : WorkerLanes X O) → slice_get ds w ≡ Some d → next ≤ fewest → next ≤ jobs d
       → ((j : ℕ) (e : WorkerLanes X O) → j < w → slice_get ds j ≡ Some e → fewest ≤ jobs e) → (j : ℕ) (e : WorkerLanes X O) → j < w + 1 → slice_get ds j ≡ Some e → next ≤ jobs e
@@ -30,7 +29,7 @@ module _ {X O : Type 0} where
       ]
 
   is-free : (ds : List (WorkerLanes X O)) (fewest : ℕ) (free : Option ℕ) → ((j : ℕ) (e : WorkerLanes X O) → slice_get ds j ≡ Some e → fewest ≤ jobs e) → Found ds fewest free
-      → IfSome free (λ w. (d : WorkerLanes X O) × (slice_get ds w ≡ Some d) × (jobs d < MOST_OUTSTANDING) × All (λ e. jobs d ≤ jobs e) ds
+      → IfSome free (λ w. (d : WorkerLanes X O) × (slice_get ds w ≡ Some d) × (jobs d < 4) × All (λ e. jobs d ≤ jobs e) ds
       × ((j : ℕ) (e : WorkerLanes X O) → j < w → slice_get ds j ≡ Some e → jobs d < jobs e))
   is-free ds fewest None least found = tt
   is-free ds fewest (Some w) least found = (
@@ -42,8 +41,8 @@ module _ {X O : Type 0} where
   )
 
   are-full : (ds : List (WorkerLanes X O)) (fewest : ℕ) (free : Option ℕ) → ((j : ℕ) (e : WorkerLanes X O) → slice_get ds j ≡ Some e → fewest ≤ jobs e) → Found ds fewest free
-      → IfNone free (All (λ e. MOST_OUTSTANDING ≤ jobs e) ds)
-  are-full ds fewest None least found = all_by_place (λ e. MOST_OUTSTANDING ≤ jobs e) ds (λ j e there. omega (arith, found, least j e there))
+      → IfNone free (All (λ e. 4 ≤ jobs e) ds)
+  are-full ds fewest None least found = all_by_place (λ e. 4 ≤ jobs e) ds (λ j e there. omega (arith, found, least j e there))
   are-full ds fewest (Some w) least found = tt
 
 pub loop-worker-preserved : goal.loop-worker-preserved

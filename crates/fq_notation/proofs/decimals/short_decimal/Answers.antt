@@ -14,7 +14,7 @@ returns-in-Some c =
     (sym counted ∙ c.if-places-most.true ∙ c.places-most.ensures.value) (omega (arith, c.places-most.ensures.value, c.places-most.ensures.range.0)) in (
       found.0,
       rw (sym found.1) (fits-few c.args.is_negative c.in_ok-digits.digits c.in_ok-digits.ensures.few),
-      to_z-of_z w64 c.few_with_sign.result (record { sfits = c.few_with_sign.type_inv }) ∙ c.few_with_sign.ensures.value ∙ ap (signed c.args.is_negative) found.1,
+      to_z-of_z w64 c.few_with_sign.result (record { sfits = c.few_with_sign.type_inv }) ∙ c.few_with_sign.ensures ∙ ap (signed c.args.is_negative) found.1,
     )
 
 pub returns-in_ok-times_power-in-Some-2 : goal.returns-in_ok-times_power-in-Some-2

@@ -21,16 +21,10 @@ negated n l = let is : pos 0 -ℤ pos n ≡ neg_ℤ (pos n) = +ℤ_idl (neg_ℤ 
 pub overflow_sub-result : goal.overflow_sub-result
 overflow_sub-result c = rw (kept c.cast_signed-number.result c.args.number c.cast_signed-number.ensures c.requires) (negated c.args.number c.requires).0
 
-pub returns-then-is_negative-clause-value : goal.returns-then-is_negative-clause-value
-returns-then-is_negative-clause-value c =
+pub returns-then-is_negative : goal.returns-then-is_negative
+returns-then-is_negative c =
     let n = c.args.number in
     rw (kept c.cast_signed-number.result n c.cast_signed-number.ensures c.requires, to_z-of_z w64 (pos 0 -ℤ pos n) (negated n c.requires).0, c.if-is_negative.true) (negated n c.requires).1
 
-pub returns-then-is_negative-clause-range : goal.returns-then-is_negative-clause-range
-returns-then-is_negative-clause-range c = fits-few c.args.is_negative c.args.number c.requires
-
-pub returns-else-is_negative-clause-value : goal.returns-else-is_negative-clause-value
-returns-else-is_negative-clause-value c = rw (kept c.cast_signed-number.result c.args.number c.cast_signed-number.ensures c.requires, c.if-is_negative.false) refl
-
-pub returns-else-is_negative-clause-range : goal.returns-else-is_negative-clause-range
-returns-else-is_negative-clause-range c = fits-few c.args.is_negative c.args.number c.requires
+pub returns-else-is_negative : goal.returns-else-is_negative
+returns-else-is_negative c = rw (kept c.cast_signed-number.result c.args.number c.cast_signed-number.ensures c.requires, c.if-is_negative.false) refl

@@ -4,7 +4,7 @@ use Rattle.std.proofs.lemmas.Result.{err_from_is_err_and}
 use Rattle.fq_column.specs.Refusal.{first_refusal}
 use Rattle.fq_column.specs.Schema.{schema_checks}
 use Rattle.fq_csv.specs.Sources.{Source, source_of_files}
-use Rattle.fq_plan.proofs.CheckLemmas.{fields_of-columns, names_of-columns}
+use Rattle.fq_language.proofs.RefusalLemmas.{fields_of-columns, names_of-columns}
 use Rattle.fq_plan.proofs.checks.sources.add_source.Goals as goal
 
 pub returns-in_err-schema-clause-refused : goal.returns-in_err-schema-clause-refused

@@ -4,7 +4,7 @@ use Rattle.std.proofs.lemmas.List.Sums.{sum_by_push}
 use Rattle.fq_csv.specs.Sources.{Source, but_last, source_of_files}
 use Rattle.fq_csv.specs.declared.sources.SourceFiles.{SourceFiles}
 use Rattle.fq_run.specs.Stages.{IsRunnable}
-use Rattle.fq_run.proofs.LastLemmas.{but_last-snoc}
+use Rattle.fq_csv.proofs.LastLemmas.{but_last-snoc}
 use Rattle.fq_run.proofs.physical_plans.PhysicalPlan.new.Goals as goal
 
 -- the files of sources, and of those before the last
