@@ -388,7 +388,7 @@ def _value_of_literal(node: Node) -> Any:
     _, kind, value = node
     try:
         return value if isinstance(kind, Kind) else value_of_int(value, kind)
-    except ValueError:
+    except (ValueError, OverflowError):  # (the latter where the year is past 32 bits)
         return value
 
 

@@ -173,6 +173,7 @@ class Expressions(unittest.TestCase):
             (lambda: d > Decimal("1.5"), "Decimal(scale=1)"),
             (lambda: t.dt.year(), "dt.year is a part of a Date, and this is a String"),
             (lambda: a & a, "Boolean"),
+            (lambda: (d < 10**17) & n, "lt(col('d'), lit(100000000000000000))"),
             (lambda: fq.lit(DAY, dtype=INT), "no casts"),
             (lambda: fq.lit(20240305, dtype=DATE), "no casts"),
             (lambda: fq.lit(Decimal("1.005"), dtype=D2), "more than 2 places"),
