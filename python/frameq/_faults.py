@@ -194,11 +194,13 @@ def renumbered(said: str, files: Sequence[int], first_step: int) -> str:
 
 def fault(said: str, status: int, plan: Optional[dict], files: Sequence[str], calls: Sequence[str]) -> FrameqError:
     """The exception of a run that ended with this status and said this on standard error."""
+    # (a name in a line may have other characters at which Python's splitlines ends one)
+    lines = said.split("\n")
     # (the last such line: a program that is not built yet says so before)
-    line = next((it for it in reversed(said.splitlines()) if it.startswith(("frameq: ", "error: "))), said.strip())
+    line = next((it for it in reversed(lines) if it.startswith(("frameq: ", "error: "))), said.strip())
     if not line:
         line = f"the program was ended by signal {-status}" if status < 0 else f"the program ended with status {status}, and said nothing"
-    text = line[len("frameq: "):] if line.startswith("frameq: ") else line
+    text = line.removeprefix("frameq: ")
     for pattern, kind in _LINES:
         found = re.fullmatch(pattern, text)
         if found:
@@ -208,7 +210,7 @@ def fault(said: str, status: int, plan: Optional[dict], files: Sequence[str], ca
     groups = {name: int(value) for name, value in found.groupdict().items() if value is not None} if found else {}
     error = kind(text)
     error.line, error.status = line, status
-    error.details = tuple(it[2:] for it in said.splitlines() if it.startswith("  ")) if found else ()
+    error.details = tuple(it[2:] for it in lines if it.startswith("  ")) if found else ()
     error.row, error.step, error.item = groups.get("r"), groups.get("s"), groups.get("i")
     if "f" in groups and groups["f"] < len(files):
         error.file = files[groups["f"]]

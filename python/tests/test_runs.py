@@ -122,6 +122,14 @@ class Runs(unittest.TestCase):
         fault = self.faulted(fq.HeaderError, lambda: self.scan("m\n", n=INT).collect(program=program))
         self.assertEqual(fault.line, "frameq: file 0: header differs")
 
+    def test_details_are_whole_lines(self):
+        """A name of a file may have any character but a line feed at which Python ends a line."""
+        detail = "a\u2028b\x0c\x85.csv:1: column 0 is missing, the plan has \"n\""
+        program = self.file("frameq", f"#!/bin/sh\ncat >&2 << 'END'\nframeq: file 0: header differs\n  {detail}\nEND\nexit 4\n")
+        os.chmod(program, 0o755)
+        fault = self.faulted(fq.HeaderError, lambda: self.scan("", n=INT).collect(program=program))
+        self.assertEqual(fault.details, (detail,))
+
     def test_what_a_program_says(self):
         """What it says beside an answer is a warning; where it says nothing of its end, the exception does."""
         lazy = self.scan("n\n", n=INT)
