@@ -38,8 +38,11 @@ class Settings(NamedTuple):
 
 
 def find_program(program: Optional[Path] = None) -> str:
-    """The program: the one given, or that of the variable FRAMEQ, or that inside this package, or `frameq` on the path, or that of the
-    repository of this package."""
+    """The path of the program, from the root: the one given, or that of the variable FRAMEQ, or that inside this package, or `frameq` on
+    the path, or that of the repository of this package.
+
+    ProgramNotFoundError says that the one given, or that of FRAMEQ, is no program, or that there is none.
+    """
     given = program or os.environ.get("FRAMEQ")
     if given:
         if not os.access(given, os.X_OK) or os.path.isdir(given):
@@ -48,7 +51,7 @@ def find_program(program: Optional[Path] = None) -> str:
     built = os.path.join(_REPOSITORY, "crates", "frameq", "out", "frameq")
     for place in (_INSIDE, shutil.which("frameq"), built, os.path.join(_REPOSITORY, "frameq")):
         if place and os.access(place, os.X_OK) and os.path.isfile(place):
-            return place
+            return os.path.abspath(place)
     raise ProgramNotFoundError("there is no program frameq: install a package that has it, or set FRAMEQ to where it is")
 
 

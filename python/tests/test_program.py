@@ -44,6 +44,12 @@ class Programs(unittest.TestCase):
             os.remove(path)
         self.assertIn("ProgramNotFoundError", self.ran(FIND).stderr)
 
+    def test_folder_on_the_path(self):
+        """A program in a folder that the path names from here is found for a task that runs elsewhere, too."""
+        found = self.program("path/frameq")
+        code = f"import os; os.chdir({self.room!r})\n{FIND}"
+        self.assertEqual(self.ran(code, PATH="path").stdout, f"{found}\n")
+
     def test_command(self):
         """The command of a wheel is the program inside the package, whatever else there is."""
         self.program("python/frameq/bin/frameq")
