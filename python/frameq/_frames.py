@@ -89,9 +89,10 @@ def scan_csv(
     if others or not has_header or separator != ",":
         what = ", ".join(others) or ("has_header=False" if not has_header else "separator")
         raise UnsupportedError(f"scan_csv has no {what}: a file has a header, commas, and quotes as in CSV")
-    if isinstance(source, bytes) or hasattr(source, "read"):
+    is_one = isinstance(source, (str, bytes, os.PathLike)) or hasattr(source, "read")
+    files = [source] if is_one else list(source)
+    if not all(isinstance(file, (str, os.PathLike)) for file in files):
         raise UnsupportedError("scan_csv takes names of files, and no open file or bytes; the name - is standard input")
-    files = [source] if isinstance(source, (str, os.PathLike)) else list(source)
     nulls = [null_values] if isinstance(null_values, str) else list(null_values or [])
     if isinstance(null_values, Mapping):
         raise UnsupportedError("null_values are of all columns of a file: give a list")

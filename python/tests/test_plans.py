@@ -103,6 +103,9 @@ class Expressions(unittest.TestCase):
             (lambda: fq.concat, fq.UnsupportedError, "scan_csv"),
             (lambda: fq.when, fq.UnsupportedError, "filter"),
             (lambda: fq.scan_csv(io.StringIO("a\n"), schema={"a": int}), fq.UnsupportedError, "names"),
+            (lambda: fq.scan_csv(b"a.csv", schema={"a": int}), fq.UnsupportedError, "names"),
+            (lambda: fq.scan_csv(["a.csv", b"b.csv"], schema={"a": int}), fq.UnsupportedError, "names"),
+            (lambda: fq.scan_csv([io.StringIO("a\n")], schema={"a": int}), fq.UnsupportedError, "names"),
             (lambda: frame().group_by("a").sum(), fq.UnsupportedError, ".agg(all().sum())"),
             (lambda: frame().group_by("a").mean(), fq.UnsupportedError, "//"),
         ]:
