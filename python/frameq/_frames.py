@@ -285,6 +285,8 @@ class LazyFrame:
             raise UnsupportedError(f"a join has no {', '.join(others) or 'suffix'}: rename before it")
         if maintain_order not in (None, "none", "left", "left_right"):
             raise UnsupportedError(f"a join keeps the order of the left rows, and not {maintain_order!r}")
+        if not isinstance(other, LazyFrame):
+            raise TypeError(f"a join takes a scan, and not a {type(other).__name__}")
         if other._steps:
             raise UnsupportedError(
                 "the right side of a join is a scan: do its steps on the left, or write it to a file by sink_csv, and join "

@@ -231,6 +231,8 @@ class Steps(unittest.TestCase):
             (lambda: frame().join(right, on="a", maintain_order="right"), fq.UnsupportedError),
             (lambda: frame().join(right, on="a", maintain_order="up"), fq.UnsupportedError),
             (lambda: frame().join(right), fq.UnsupportedError),
+            (lambda: frame().join("right.csv", on="a"), TypeError),
+            (lambda: frame().join(fq.DataFrame({"a": INT, "w": TEXT}, []), on="a"), TypeError),
             (lambda: frame().join(right, on=()), fq.UnsupportedError),
             (lambda: frame().join(right, left_on="a"), fq.UnsupportedError),
             (lambda: frame().join(right, on="a", right_on="a"), fq.UnsupportedError),
