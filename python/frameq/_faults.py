@@ -129,13 +129,9 @@ class JoinRowsError(FrameqError, ValueError):
 class ReadError(FrameqError, OSError):
     """A file cannot be opened or read (status 5)."""
 
-    __str__ = Exception.__str__
-
 
 class WriteError(FrameqError, OSError):
     """The result cannot be written (status 5)."""
-
-    __str__ = Exception.__str__
 
 
 class MemoryError(FrameqError, builtins.MemoryError):
