@@ -1,6 +1,8 @@
 """Expressions, by Polars' names, and their form in a plan."""
 import datetime
 import decimal
+import functools
+import operator
 from typing import Any, Dict, FrozenSet, Iterable, Iterator, List, NoReturn, Optional, Tuple, Union
 
 from ._faults import ColumnNotFoundError, UnsupportedError, WrongKindError
@@ -165,17 +167,11 @@ class Expr:
 
     def and_(self, *others: Any) -> "Expr":
         """Whether this and all the others are true, by Kleene's logic."""
-        all_of = self
-        for other in others:
-            all_of = all_of & other
-        return all_of
+        return functools.reduce(operator.and_, others, self)
 
     def or_(self, *others: Any) -> "Expr":
         """Whether this or one of the others is true, by Kleene's logic."""
-        any_of = self
-        for other in others:
-            any_of = any_of | other
-        return any_of
+        return functools.reduce(operator.or_, others, self)
 
     def eq_missing(self, other: Any) -> "Expr":
         """Whether both are equal, with null as a value."""

@@ -11,6 +11,7 @@ from ._faults import DuplicateError, NoColumnError, UnsupportedError, WrongKindE
 from ._kinds import AnyKind, ColumnKind, Kind, Notations, Schema, schema_of
 from ._literals import settled
 from ._notations import notations_of, words_of
+from ._program import Path
 from ._results import DataFrame
 from ._sql import sql
 from ._sql_setup import sql_setup
@@ -18,7 +19,6 @@ from ._sql_setup import sql_setup
 if TYPE_CHECKING:
     from concurrent.futures import Executor
 
-Path = Union[str, "os.PathLike[str]"]
 Output = Tuple[str, Node]
 
 # How deep the arrays and objects of a plan may stand one in another, and how deep its steps do.
@@ -142,9 +142,7 @@ class LazyFrame:
         conditions += [named(name) == value for name, value in constraints.items()]
         if not conditions:
             return self
-        all_of = conditions[0]
-        for condition in conditions[1:]:
-            all_of = all_of & condition
+        all_of = conditions[0].and_(*conditions[1:])
         _no_aggregates(all_of, "filter")
         condition = settled(all_of._node, self._schema)
         if kind_of(condition, self._schema) != Kind.BOOL:
@@ -454,7 +452,7 @@ class GroupBy:
 
     def _with_keys(self, call: str) -> Tuple[LazyFrame, List[str]]:
         """The frame with a column for each key, and these columns: a computed key under its own name, if no column has it."""
-        frame, names = self._frame, []
+        frame = self._frame
         computed = [(name, node) for name, node in self._keys if node != ("col", name)]
         own = {name for name, _ in computed if name not in frame._schema}
         private = (name for name in frame._private(2 * len(computed)) if name not in own)
