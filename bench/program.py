@@ -16,7 +16,6 @@ import csv
 import multiprocessing
 import os
 import random
-import shutil
 import statistics
 import subprocess
 import sys
