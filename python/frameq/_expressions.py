@@ -47,7 +47,12 @@ Node = Tuple[Any, ...]
 
 
 class Expr:
-    """A column to be computed, as in Polars. It is made by `col`, `lit` and `len`, and by operators and methods on these."""
+    """A column to be computed, as in Polars. It is made by `col`, `lit` and `len`, and by operators and methods on these.
+
+    A run raises OverflowError where a value does not fit 64 bits. UnsupportedError says that the plan language does not have an operator,
+    a literal or a well-known method of Polars, or that operators stand too deep one in another; TypeError, that a truth value is asked
+    for. Whether columns are there and have the kinds that are needed, the step says that takes the expression.
+    """
 
     __slots__ = ("_node", "_alias")
     __hash__ = None  # type: ignore[assignment]
@@ -190,7 +195,10 @@ class Expr:
         return self._one("is_not_null")
 
     def is_between(self, lower_bound: Any, upper_bound: Any, closed: str = "both") -> "Expr":
-        """Whether it is between two bounds; a text is the name of a column, as in Polars."""
+        """Whether it is between two bounds; a text is the name of a column, as in Polars.
+
+        `closed` says which bounds belong to it: "both", "left", "right" or "none". ValueError says that it is another.
+        """
         if closed not in ("both", "left", "right", "none"):
             raise ValueError(f'closed is "both", "left", "right" or "none", not {closed!r}')
         lower, upper = named(lower_bound), named(upper_bound)
@@ -198,7 +206,7 @@ class Expr:
         return above & (self <= upper if closed in ("both", "right") else self < upper)
 
     def fill_null(self, value: Any = None, strategy: Optional[str] = None, limit: Optional[int] = None) -> "Expr":
-        """This, or the value where it is null."""
+        """This, or the value where it is null. UnsupportedError says that there is no value, or a strategy or a limit."""
         if strategy is not None or limit is not None or value is None:
             raise UnsupportedError("fill_null takes a value: there are no strategies")
         return self._two("fill_null", value)
@@ -206,7 +214,12 @@ class Expr:
     def rolling_sum(
         self, window_size: int, weights: Optional[List[float]] = None, *, min_samples: Optional[int] = None, center: bool = False
     ) -> "Expr":
-        """The sum of the last `window_size` rows, or null where fewer than `min_samples` of them have a value."""
+        """The sum of the last `window_size` rows, or null where fewer than `min_samples` of them have a value.
+
+        The window is 1 to 65,536 rows, and `min_samples` 1 to that, by default the same. A run raises WindowError or MinSamplesError of
+        another number, and RollingSumRangeError where a sum does not fit 64 bits. UnsupportedError says that there are weights, a window
+        that is centred, or one that is no number of rows.
+        """
         if weights is not None or center or not isinstance(window_size, int):
             raise UnsupportedError("a rolling sum has no weights, its window is a number of rows, and the last of them is the row itself")
         return Expr(("roll", self._node, window_size, window_size if min_samples is None else min_samples), self._alias)
@@ -220,7 +233,7 @@ class Expr:
         return Expr(("agg", function, self._node), self._alias)
 
     def sum(self) -> "Expr":
-        """The sum of a group; 0 of no values."""
+        """The sum of a group; 0 of no values. A run raises SumRangeError where it does not fit 64 bits."""
         return self._aggregate("sum")
 
     def min(self) -> "Expr":
@@ -293,6 +306,9 @@ def lit(value: Any, dtype: Optional[AnyKind] = None) -> Expr:
     """A value that stands in each row; a null needs its kind, as `lit(None, dtype=Int64)`.
 
     A whole number, or a `decimal.Decimal`, is a decimal of the scale that it meets, or of this `dtype`.
+
+    UnsupportedError says that the value is no whole number of 64 bits, `decimal.Decimal`, `datetime.date`, text or truth value, or that a
+    null has no kind; WrongKindError, that the value is not of `dtype`.
     """
     kind = None if dtype is None else kind_of_type(dtype)
     if value is None:

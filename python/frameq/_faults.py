@@ -9,8 +9,8 @@ class FrameqError(Exception):
 
     `line` is what the program said, `details` what it said more, and `status` its exit status. `file` is the path of the file that
     faulted, `row` its row after the header, from 1, and `column` the name of the column. `step` is the number of the plan's step, from
-    0, `item` that of its output, and `call` the call that made the step. What a fault does not name is None; so is all of this of what
-    the package raises itself, before a run.
+    0, `item` that of its output, and `call` the call that made the step. What a fault does not name is None; so is all of this, but for
+    `details`, which are empty, where the package raises by itself.
     """
 
     line: Optional[str] = None
@@ -33,7 +33,7 @@ class ProgramNotFoundError(FrameqError, FileNotFoundError):
 
 
 class ArgumentsError(FrameqError, ValueError):
-    """The program refused its arguments (status 2)."""
+    """The program refused its arguments (status 2), or a result has other columns than the schema that was given for it."""
 
 
 class InputsError(ArgumentsError):
@@ -59,11 +59,11 @@ class ColumnNotFoundError(PlanError, KeyError):
 
 
 class WrongKindError(PlanError, TypeError):
-    """An operand, a key or the column of a sum has another kind than it needs."""
+    """An operand, a key or the column of a sum has another kind than it needs, or a cell of a result than its schema says."""
 
 
 class DuplicateError(PlanError):
-    """Two columns of a frame have one name."""
+    """Two columns of a frame have one name, or a join has a key twice."""
 
 
 class NotBooleanError(PlanError, TypeError):

@@ -83,6 +83,8 @@ def scan_csv(
 
     Every file begins with a header, which has the names of `schema` in this order. A file may be `-`, which is standard input. An
     empty field is null, and so is one that is among `null_values`.
+
+    UnsupportedError says that there is no schema, or a kind or an argument that frameq does not have. Nothing is read yet.
     """
     if schema is None:
         raise UnsupportedError("nothing is guessed: name each column and its kind, as schema={'id': Int64, 'name': String}")
@@ -102,7 +104,12 @@ def scan_csv(
 
 
 class LazyFrame:
-    """Steps on the rows of a scan, not yet run, as Polars' LazyFrame. It does not change: each method gives another."""
+    """Steps on the rows of a scan, not yet run, as Polars' LazyFrame. It does not change: each method gives another.
+
+    Each step is judged where it is called. ColumnNotFoundError says that a column is not there, WrongKindError that an operand or a key
+    has another kind than it needs, DuplicateError that two columns have one name, NoColumnError that there is none, and UnsupportedError
+    that the plan language does not have the form.
+    """
 
     # The columns are those of the scan, and those after each step.
     __slots__ = ("_main", "_rights", "_steps", "_calls", "_schemas")
@@ -275,7 +282,8 @@ class LazyFrame:
     ) -> "LazyFrame":
         """A join with a scan, in the order of the left rows, and for each of them in that of the right ones.
 
-        `how` is "inner", "left", "semi" or "anti". Null keys match nothing unless `nulls_equal`.
+        `how` is "inner", "left", "semi" or "anti". Null keys match nothing unless `nulls_equal`. A column of the right side gets the end
+        `_right` where the left has its name. TypeError says that `other` is no lazy frame.
         """
         if how not in ("inner", "left", "semi", "anti"):
             raise UnsupportedError(f'there is no join {how!r}: "inner", "left", "semi" and "anti" are there')
@@ -339,7 +347,10 @@ class LazyFrame:
         return [file for source in (*self._rights, self._main) for file in source.files]
 
     def notations(self) -> Notations:
-        """The int columns of the plan that are decimals or dates in CSV: in each source, and in the result, that has one of the name."""
+        """The int columns of the plan that are decimals or dates in CSV: in each source, and in the result, that has one of the name.
+
+        UnsupportedError says that a name is written in two ways. What runs the plan, or writes it as SQL, raises it, too.
+        """
         return notations_of([dict(source.columns) for source in (*self._rights, self._main)], self._schema)
 
     def sql(self, dialect: str = "sqlite", tables: Optional[Sequence[Table]] = None) -> str:
@@ -348,15 +359,22 @@ class LazyFrame:
         The tables are source0, source1 and so on, or those named, in the order of the plan's sources; ("reports", "sales") is the table
         sales in the schema reports. Each has the columns of its source, and a column `row` that numbers its rows in the order of the
         files. The query gives the rows of the plan, in order, where no value leaves 64 bits.
+
+        ValueError says that there is no such dialect, that there are more or fewer tables than sources, or that the dialect has no way to
+        say something in the plan.
         """
         return sql(self.plan(), dialect, tables, self.notations())
 
     def sql_setup(self, dialect: str = "postgres", tables: Optional[Sequence[Table]] = None, *, program: Path = "frameq") -> str:
-        """A script of psql, for PostgreSQL, that makes these tables from the plan's files: the program reads each of them, as in a run."""
+        """A script of psql, for PostgreSQL, that makes these tables from the plan's files: the program reads each of them, as in a run.
+
+        ValueError says that another dialect has no such script, that there are more or fewer tables than sources, or that psql or
+        PostgreSQL cannot have a name; UnsupportedError, that no argument can say which column is a decimal or a date.
+        """
         return sql_setup(self.plan(), self.files(), dialect, tables, program, self.notations())
 
     def explain(self, *, program: Optional[Path] = None) -> str:
-        """What the program says of the plan: the columns after each step, and where it runs."""
+        """What the program says of the plan: the columns after each step, and where it runs. Raises as `collect`; no file is opened."""
         return _program.explain(self.plan(), words_of(self.notations()), self._calls, program)
 
     def collect(
@@ -372,6 +390,9 @@ class LazyFrame:
 
         `progress` shows how much of a file has been read, on standard error, if that is a terminal or a notebook's. With an executor, each
         file of the main source is a task of its own, and there may be any number of them.
+
+        Each fault of the run is a FrameqError by its name. ProgramNotFoundError says that there is no program to run. A task that does not
+        end well raises what its executor has for that.
         """
         settings = _program.Settings(batch, workers, program, progress)
         if executor is not None:
@@ -390,7 +411,7 @@ class LazyFrame:
     ) -> None:
         """Runs the plan, and writes its result to a file, whole or not at all. The path may be one of the plan's files.
 
-        The arguments are those of `collect`.
+        The arguments and the exceptions are those of `collect`. WriteError says that the file cannot be written.
         """
         settings = _program.Settings(batch, workers, program, progress)
         if executor is not None:
@@ -418,7 +439,7 @@ class GroupBy:
         raise AttributeError(f"groups have no {name!r}")
 
     def agg(self, *aggs: Any, **named_aggs: Any) -> LazyFrame:
-        """A row for each group: its keys and these aggregates, or what is computed of aggregates."""
+        """A row for each group: its keys and these aggregates, or what is computed of aggregates. Raises as the steps of a LazyFrame."""
         call = f"{self._call}.{_call('agg', aggs, named_aggs)}"
         schema, keys = self._frame._schema, dict(self._keys)
         rest = {name: kind for name, kind in schema.items() if name not in keys}  # which all() means here

@@ -22,7 +22,10 @@ class Kind(enum.Enum):
 
 
 class Decimal:
-    """Numbers with so many digits behind the point. The plan has each as an int, which is 10^scale times as large."""
+    """Numbers with `scale` digits behind the point, 1 to 18. The plan has each as an int of 64 bits, which is 10^scale times as large.
+
+    UnsupportedError says that there is another scale, or a precision.
+    """
 
     __slots__ = ("scale",)
     value = Kind.INT.value
@@ -45,7 +48,7 @@ class Decimal:
 
 
 class DateKind:
-    """Days of the Gregorian calendar. The plan has each as the int YYYYMMDD."""
+    """Days of the Gregorian calendar, of the years 1 to 9999. The plan has each as the int YYYYMMDD."""
 
     __slots__ = ()
     value = Kind.INT.value

@@ -170,7 +170,11 @@ def run_plan(
 ) -> DataFrame:
     """Runs a plan that exists, a file or its JSON object, over files. Without the schema of its result each column is a text.
 
-    `notations` says which int columns of its sources, or of its result, are a Decimal or a Date, beside those of the schema.
+    `notations` says which int columns of its sources, or of its result, are a Decimal or a Date, beside those of the schema. The other
+    arguments are those of `collect`.
+
+    Each fault of the run is a FrameqError by its name. ArgumentsError also says that the schema has other columns than the result,
+    WrongKindError that a cell of the result is not of its kind, and UnsupportedError that a name is written in two ways.
     """
     names = [os.fspath(file) for file in ([files] if isinstance(files, (str, os.PathLike)) else files)]
     columns = None if schema is None else schema_of(schema)

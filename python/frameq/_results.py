@@ -18,7 +18,10 @@ File = Union[str, "os.PathLike[str]", IO[str], IO[bytes]]
 
 
 class DataFrame:
-    """Rows and the names and kinds of their columns, by Polars' names. A null is None. It does not change: each method gives another."""
+    """Rows and the names and kinds of their columns, by Polars' names. A null is None. It does not change: each method gives another.
+
+    What the program printed is read where a value is first asked for: WrongKindError then says that a cell is not of its column's kind.
+    """
 
     # What the program printed is read when a value is first asked for, and rows are made then, too.
     __slots__ = ("_schema", "_text", "_columns", "_rows")
@@ -96,7 +99,10 @@ class DataFrame:
     __hash__ = None  # type: ignore[assignment]
 
     def equals(self, other: "DataFrame", *, null_equal: bool = True) -> bool:
-        """Whether both are the same. Unless `null_equal`, no frame with a null is the same as any."""
+        """Whether both are the same. Unless `null_equal`, no frame with a null is the same as any.
+
+        TypeError says that `other` is no frame.
+        """
         if not isinstance(other, DataFrame):
             raise TypeError(f"equals takes a frame, and not a {type(other).__name__}")
         return self == other and (null_equal or not any(None in values for values in self._values()))
@@ -116,7 +122,7 @@ class DataFrame:
         return iter([list(values) for values in self._values()])
 
     def get_column(self, name: str) -> Column:
-        """The values of a column, as `frame[name]`."""
+        """The values of a column, as `frame[name]`. ColumnNotFoundError says that there is none of that name."""
         return self[name]
 
     def get_columns(self) -> List[Column]:
@@ -168,6 +174,9 @@ class DataFrame:
 
         `descending` and `nulls_last` are of all the columns, or have a truth value for each. Rows that are equal by all of them stay in
         their order, whether that is asked for or not.
+
+        ColumnNotFoundError says that a column is not there, UnsupportedError that one is computed, and ValueError that there are more or
+        fewer truth values than columns.
         """
         names = plain_names((by, *more_by), self._schema, "sort")
         columns = [self._column(name) for name in names]
@@ -180,7 +189,8 @@ class DataFrame:
     def write_csv(self, file: Optional[File] = None, **others: Any) -> Optional[str]:
         """The CSV text of the frame, byte for byte as the program prints it, or None once it is in a file.
 
-        The file is a path, or a file that is open. At a path it is written whole or not at all, as by `sink_csv`.
+        The file is a path, or a file that is open. At a path it is written whole or not at all, as by `sink_csv`: WriteError says that it
+        cannot be. UnsupportedError says that there is another argument.
         """
         if others:
             raise UnsupportedError(f"write_csv has no {', '.join(others)}: there is a header, commas, and quotes where they are needed")
@@ -196,14 +206,14 @@ class DataFrame:
     def to_pandas(self) -> Any:
         """A frame of pandas, with nullable columns. What the program printed is read by pandas' own reader.
 
-        A decimal is a `decimal.Decimal`, in a column of objects, and a date a `datetime64`.
+        A decimal is a `decimal.Decimal`, in a column of objects, and a date a `datetime64`. ImportError says that there is no pandas.
         """
         if not self._text or b"\0" in self._text:
             return frame_of_columns(self._schema, self._values())
         return frame_of_text(self._schema, self._text, self._column)
 
     def to_polars(self) -> Any:
-        """A frame of Polars."""
+        """A frame of Polars. ImportError says that there is none."""
         import polars
 
         kinds = {Kind.INT: polars.Int64, Kind.TEXT: polars.String, Kind.BOOL: polars.Boolean, Date: polars.Date}
@@ -226,6 +236,7 @@ class DataFrame:
         """Prints a line for each column: its name, its kind and its first values.
 
         With `return_type="string"`, or `return_as_string`, the text is given and not printed; with "self", this frame is given, too.
+        UnsupportedError says that `return_type` is another.
         """
         if return_type not in (None, "self", "string"):
             raise UnsupportedError(f'a glimpse is a "string", or it gives "self", and not {return_type!r}: there are no lists')
