@@ -17,7 +17,7 @@ _SHORT: Dict[ColumnKind, str] = {Kind.INT: "<i64>", Kind.TEXT: "<str>", Kind.BOO
 def as_text(schema: Schema, height: int, rows: Rows) -> str:
     """A frame of this height, with its first rows."""
     kinds = schema.values()
-    table = [list(schema), [repr(kind) for kind in kinds], *([_cell(value) for value in row] for row in rows)]
+    table = [list(map(_in_a_line, schema)), [repr(kind) for kind in kinds], *([_cell(value) for value in row] for row in rows)]
     widths = [max(len(line[place]) for line in table) for place in range(len(schema))]
     lines = ["  ".join(map(_placed, line, widths, kinds)).rstrip() for line in table]
     return "\n".join([_shape(schema, height), *lines, *_rest(height, rows)])
@@ -37,7 +37,7 @@ def as_html(schema: Schema, height: int, rows: Rows) -> str:
 
 def as_glimpse(schema: Schema, height: int, firsts: Iterable[Column], name_length: int) -> str:
     """A frame of this height, with a line for each column and its first values."""
-    names = [name if len(name) <= name_length else name[: name_length - 1] + "…" for name in schema]
+    names = [name if len(name) <= name_length else name[: name_length - 1] + "…" for name in map(_in_a_line, schema)]
     kinds = [f"<decimal[*,{kind.scale}]>" if isinstance(kind, Decimal) else _SHORT[kind] for kind in schema.values()]
     of_names, of_kinds = max(map(len, names), default=0), max(map(len, kinds), default=0)
     values = [", ".join(map(_glimpsed, first)) for first in firsts]
@@ -63,9 +63,13 @@ def _plain(value: Value) -> str:
     return f"{value:f}" if isinstance(value, decimal.Decimal) else str(value)
 
 
+def _in_a_line(text: str) -> str:
+    """A text in which each character that is not printable, such as a line feed, is escaped."""
+    return "".join(it if it.isprintable() else repr(it)[1:-1] for it in text)
+
+
 def _cell(value: Value) -> str:
-    text = "null" if value is None else str(value).lower() if isinstance(value, bool) else _plain(value)
-    text = "".join(it if it.isprintable() else repr(it)[1:-1] for it in text)
+    text = _in_a_line("null" if value is None else str(value).lower() if isinstance(value, bool) else _plain(value))
     return text if len(text) <= _SHOWN_WIDTH else text[: _SHOWN_WIDTH - 2] + ".."
 
 

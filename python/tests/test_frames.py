@@ -373,6 +373,12 @@ class Shown(unittest.TestCase):
         with self.assertRaises(fq.UnsupportedError):
             result.glimpse(return_type="frame")
 
+    def test_names(self):
+        """A name with a line feed stands in one line, as a cell does."""
+        result = frame({"a\nb": TEXT, "é": INT}, ("x\ty", 1))
+        self.assertEqual(repr(result).splitlines(), ["shape: (1, 2)", "a\\nb        é", "String  Int64", "x\\ty        1"])
+        self.assertEqual(result.glimpse(return_type="string").splitlines()[2:], ["$ a\\nb <str> 'x\\ty'", "$ é    <i64> 1"])
+
 
 class Screen(io.StringIO):
     """A stream that is a terminal."""
