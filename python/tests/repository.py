@@ -11,8 +11,10 @@ from frameq._program import find_program  # noqa: E402
 
 
 def program() -> str:
-    """The program to test: that of FRAMEQ, or the one that is built here. Skips the test if there is none."""
+    """The program to test: that of FRAMEQ, which has to be there, or the one that is built here. Skips the test if that is not built."""
+    if os.environ.get("FRAMEQ"):
+        return find_program()
     try:
-        return find_program(os.environ.get("FRAMEQ") or os.path.join(ROOT, "crates", "frameq", "out", "frameq"))
+        return find_program(os.path.join(ROOT, "crates", "frameq", "out", "frameq"))
     except fq.ProgramNotFoundError as error:
         raise unittest.SkipTest(str(error)) from error
