@@ -49,9 +49,10 @@ Node = Tuple[Any, ...]
 class Expr:
     """A column to be computed, as in Polars. It is made by `col`, `lit` and `len`, and by operators and methods on these.
 
-    A run raises OverflowError where a value does not fit 64 bits. UnsupportedError says that the plan language does not have an operator,
-    a literal or a well-known method of Polars, or that operators stand too deep one in another; TypeError, that a truth value is asked
-    for. Whether columns are there and have the kinds that are needed, the step says that takes the expression.
+    Arithmetic and comparisons are null where an operand is, and a run raises OverflowError where a value does not fit 64 bits.
+    UnsupportedError says that the plan language does not have an operator, a literal or a well-known method of Polars, or that operators
+    stand too deep one in another; TypeError, that a truth value is asked for. Whether columns are there and have the kinds that are
+    needed, the step says that takes the expression.
     """
 
     __slots__ = ("_node", "_alias")
@@ -88,39 +89,46 @@ class Expr:
         return Expr((operation, self._node, right._node), self._alias)
 
     def __neg__(self) -> "Expr":
+        """Its negative."""
         return self._one("neg")
 
     def __pos__(self) -> "Expr":
         return self
 
     def __invert__(self) -> "Expr":
+        """Whether it is false."""
         return self._one("not")
 
     def __add__(self, other: Any) -> "Expr":
+        """The sum of both."""
         return self._two("add", other)
 
     def __radd__(self, other: Any) -> "Expr":
         return self._two("add", other, reverse=True)
 
     def __sub__(self, other: Any) -> "Expr":
+        """The difference of both."""
         return self._two("sub", other)
 
     def __rsub__(self, other: Any) -> "Expr":
         return self._two("sub", other, reverse=True)
 
     def __mul__(self, other: Any) -> "Expr":
+        """The product of both."""
         return self._two("mul", other)
 
     def __rmul__(self, other: Any) -> "Expr":
         return self._two("mul", other, reverse=True)
 
     def __floordiv__(self, other: Any) -> "Expr":
+        """The quotient of both, rounded down; null where the other is 0."""
         return self._two("floordiv", other)
 
     def __rfloordiv__(self, other: Any) -> "Expr":
         return self._two("floordiv", other, reverse=True)
 
     def __mod__(self, other: Any) -> "Expr":
+        """The rest of the quotient that is rounded down; null where the other is 0."""
         return self._two("mod", other)
 
     def __rmod__(self, other: Any) -> "Expr":
@@ -137,21 +145,27 @@ class Expr:
     __rpow__ = __pow__
 
     def __eq__(self, other: Any) -> "Expr":  # type: ignore[override]
+        """Whether both are equal."""
         return self._two("eq", other)
 
     def __ne__(self, other: Any) -> "Expr":  # type: ignore[override]
+        """Whether both differ."""
         return self._two("ne", other)
 
     def __lt__(self, other: Any) -> "Expr":
+        """Whether it is less than the other. Texts are compared by their bytes, and false is less than true."""
         return self._two("lt", other)
 
     def __le__(self, other: Any) -> "Expr":
+        """Whether it is at most the other."""
         return self._two("le", other)
 
     def __gt__(self, other: Any) -> "Expr":
+        """Whether it is greater than the other."""
         return self._two("gt", other)
 
     def __ge__(self, other: Any) -> "Expr":
+        """Whether it is at least the other."""
         return self._two("ge", other)
 
     def __and__(self, other: Any) -> "Expr":
