@@ -6,6 +6,8 @@ import unittest
 
 from repository import fq, program
 
+from frameq import _faults
+
 C, INT, TEXT, BOOL = fq.col, fq.Int64, fq.String, fq.Boolean
 MOST = 2**63 - 1
 
@@ -199,6 +201,55 @@ class Runs(unittest.TestCase):
         self.faulted(fq.InputsError, lambda: fq.run_plan(plan, [*lazy.files(), *lazy.files()], program=self.program))
         self.faulted(fq.PlanShapeError, lambda: fq.run_plan({**plan, "version": 3}, lazy.files(), program=self.program))
         self.faulted(fq.NoColumnError, lambda: fq.scan_csv(lazy.files(), schema={}).collect(program=self.program))
+
+
+class Lines(unittest.TestCase):
+    """The lines of docs/FAULTS.md, and what each is raised as. No program runs."""
+
+    def test_each(self):
+        """A line has an exception of its own, which is one of Python's, too."""
+        for status, line, error, kind in [
+            (2, "an argument is not valid UTF-8", fq.ArgumentsError, ValueError),
+            (2, "standard input (-) can be read only once", fq.ArgumentsError, ValueError),
+            (2, "inputs: wanted 2, got 1", fq.InputsError, fq.ArgumentsError),
+            (3, "plan: not JSON", fq.PlanJsonError, fq.PlanError),
+            (3, "plan: wrong shape", fq.PlanShapeError, fq.PlanError),
+            (3, "plan: step 1: no such column", fq.ColumnNotFoundError, KeyError),
+            (3, "plan: step 1: wrong kind", fq.WrongKindError, TypeError),
+            (3, "plan: step 1: double name", fq.DuplicateError, fq.PlanError),
+            (3, "plan: step 1: not a truth value", fq.NotBooleanError, TypeError),
+            (3, "plan: step 1: too many columns", fq.TooManyColumnsError, fq.PlanError),
+            (3, "plan: step 1: no column", fq.NoColumnError, fq.PlanError),
+            (3, "plan: step 1: no such source", fq.NoSuchSourceError, fq.PlanError),
+            (3, "plan: step 1: window out of range", fq.WindowError, fq.PlanError),
+            (3, "plan: step 1: min_samples out of range", fq.MinSamplesError, fq.PlanError),
+            (4, "file 1: header differs", fq.HeaderError, fq.FileError),
+            (4, "file 1, row 2: wrong number of fields", fq.WidthError, fq.FileError),
+            (4, "file 1, row 2, column 1: bad cell", fq.BadCellError, fq.FileError),
+            (4, "file 1: too many rows", fq.TooManyRowsError, fq.FileError),
+            (4, "step 1, item 2: overflow", fq.OverflowError, OverflowError),
+            (4, "step 1, item 2: sum out of range", fq.SumRangeError, OverflowError),
+            (4, "step 1: rolling sum out of range", fq.RollingSumRangeError, OverflowError),
+            (4, "step 1: too many joined rows", fq.JoinRowsError, ValueError),
+            (5, "cannot read plan", fq.ReadError, OSError),
+            (5, "read failed: file 1", fq.ReadError, OSError),
+            (5, "write failed", fq.WriteError, OSError),
+            (6, "out of memory", fq.MemoryError, MemoryError),
+        ]:
+            with self.subTest(line):
+                plan = {"sources": [{"files": 1, "columns": []}, {"files": 1, "columns": [["a", "int"], ["b", "int"]]}]}
+                raised = _faults.fault(f"frameq: {line}\n", status, plan, ["a.csv", "b.csv"], ["first()", "second()"])
+                self.assertIs(type(raised), error)
+                self.assertIsInstance(raised, kind)
+                self.assertIsInstance(raised, fq.FrameqError)
+                has = {
+                    "file": "b.csv" if "file 1" in line else None, "row": 2 if "row 2" in line else None,
+                    "column": "b" if "column 1" in line else None, "step": 1 if "step 1" in line else None,
+                    "item": 2 if "item 2" in line else None, "call": "second()" if "step 1" in line else None,
+                    "line": f"frameq: {line}", "status": status, "details": (),
+                }
+                self.assertEqual({name: getattr(raised, name) for name in has}, has)
+                self.assertTrue(str(raised).startswith(line))
 
 
 if __name__ == "__main__":
