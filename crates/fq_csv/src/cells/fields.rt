@@ -30,13 +30,24 @@ pub fn truth(field: &[u8]) -> Option<bool>
 }
 
 /// The text that a field is, if its bytes are UTF-8, which may be known.
+#[inline]
 fn text(field: &[u8], is_known: bool) -> Option<&str>
     requires { is_known ≡ true → IsUtf8 field.now }
     ensures { option_map (λ t. t.now) result ≡ text_of field.now }
 {
     if is_known {
         Some(unsafe { str::from_utf8_unchecked(field) })
-    } else if field.len() < LONG_FIELD {
+    } else {
+        judged_text(field)
+    }
+}
+
+/// The text that a field is, if its bytes are UTF-8.
+#[inline(never)]
+fn judged_text(field: &[u8]) -> Option<&str>
+    ensures { option_map (λ t. t.now) result ≡ text_of field.now }
+{
+    if field.len() < LONG_FIELD {
         str::from_utf8(field).ok()
     } else {
         simdutf8::compat::from_utf8(field).ok()
@@ -72,6 +83,7 @@ pub fn is_cell(field: &[u8], kind: Kind, notation: Notation, nulls: &NullValues)
 }
 
 /// Whether a field that is not empty is a cell of a column of this kind, whose ints are in this notation. It may be known to be UTF-8.
+#[inline(never)]
 fn is_value(field: &[u8], kind: Kind, notation: Notation, is_text: bool) -> bool
     requires some { ¬ (field.now ≡ []) }
     requires text { is_text ≡ true → IsUtf8 field.now }
