@@ -43,6 +43,15 @@ is_kept_by reading.Text = true
 is_kept_by reading.Truth = true
 is_kept_by (reading.Judged k n) = false
 
+-- whether the column is kept, and its ints are in digits
+abbrev pub is_plain : Reading → Bool
+is_plain reading.Whole = true
+is_plain (reading.Decimal scale) = false
+is_plain reading.Date = false
+is_plain reading.Text = true
+is_plain reading.Truth = true
+is_plain (reading.Judged k n) = false
+
 -- the cell that a field is by a reading, if it is one
 abbrev pub cell_read : List (List ℕ) → Reading → List ℕ → Option Cell
 cell_read nulls r field = cell_under nulls (kind_by r) (notation_by r) field

@@ -1,10 +1,11 @@
 //! The cells that fields are.
-ghost use Rattle.std.specs.Prelude.{◌≡◌, ℤ, Some, None, [], IfOk, IsUtf8, MatchBool, is_some, option_map, true};
+ghost use Rattle.std.specs.Prelude.{◌≡◌, ℕ, ℤ, Bool, List, Some, None, [], IfOk, IsUtf8, MatchBool, is_some, option_map, true};
 ghost use Rattle.fq_column.specs.declared.cells.Cell.{Cell};
 ghost use Rattle.fq_column.specs.Masked.{masked_cell};
 ghost use Rattle.fq_csv.specs.Field.{cell_of, cell_under, is_null, text_of, truth_of};
-ghost use Rattle.fq_csv.specs.Readings.{cell_read, is_kept_by, kind_by};
+ghost use Rattle.fq_csv.specs.Readings.{cell_read, is_kept_by, is_plain, kind_by};
 ghost use Rattle.fq_csv.specs.Rows.{with_cell};
+ghost use Rattle.fq_notation.specs.declared.notations.Notation.TheVariants.{Plain};
 ghost use Rattle.fq_csv.specs.Words.{kind_word as word_of_kind};
 
 use crate::cells::layouts::NullValues;
@@ -99,8 +100,9 @@ fn is_value(field: &[u8], kind: Kind, notation: Notation, is_text: bool) -> bool
 /// Appends the cell that a field is to a column that is read like this, with these texts as null, or null if the column is not kept, and
 /// says whether the field is a cell. The field may be known to be UTF-8.
 ///
-/// Allocates for a text that is kept, and if the column grows.
-pub(crate) fn push_field(
+/// Allocates for a text that is kept, and if the column grows. `IS_PLAIN` says that each reading is plain, so that none is looked at.
+#[inline]
+pub(crate) fn push_field<const IS_PLAIN: bool>(
     column: &mut Column,
     reading: &Reading,
     field: &[u8],
@@ -108,6 +110,7 @@ pub(crate) fn push_field(
     nulls: &NullValues,
 ) -> Result<bool, Memory>
     requires kind { column.old.kind ≡ kind_by reading.now }
+    requires plain { IS_PLAIN ≡ true → is_plain reading.now ≡ true }
     requires text { is_text ≡ true → IsUtf8 field.now }
     ensures good { IfOk result (λ good. MatchBool good
         ((cell : Cell) × (cell_read nulls.now reading.now field.now ≡ Some cell) × (column.new ≡ with_cell column.old (masked_cell (is_kept_by reading.now) cell)))
@@ -117,20 +120,17 @@ pub(crate) fn push_field(
         column.push_null()?;
         return Ok(true);
     }
+    if IS_PLAIN {
+        return push_plain(column, field, is_text);
+    }
     match reading {
         Reading::Whole => return push_int(column, Notation::Plain.int(field)),
         Reading::Decimal(scale) => {
             return push_int(column, Notation::Decimal(*scale).int(field));
         }
         Reading::Date => return push_int(column, Notation::Date.int(field)),
-        Reading::Text => match text(field, is_text) {
-            Some(value) => column.push_text(value)?,
-            None => return Ok(false),
-        },
-        Reading::Truth => match truth(field) {
-            Some(value) => column.push_truth(value)?,
-            None => return Ok(false),
-        },
+        Reading::Text => return push_text(column, text(field, is_text)),
+        Reading::Truth => return push_truth(column, truth(field)),
         Reading::Judged(kind, notation) => {
             if !is_value(field, *kind, *notation, is_text) {
                 return Ok(false);
@@ -139,6 +139,22 @@ pub(crate) fn push_field(
         }
     }
     Ok(true)
+}
+
+/// Appends the cell that a field is which is not empty, and whose column has its ints in digits, and says whether it is one.
+#[inline]
+fn push_plain(column: &mut Column, field: &[u8], is_text: bool) -> Result<bool, Memory>
+    requires some { ¬ (field.now ≡ []) }
+    requires text { is_text ≡ true → IsUtf8 field.now }
+    ensures good { IfOk result (λ good. MatchBool good
+        ((cell : Cell) × (cell_of column.old.kind Plain field.now ≡ Some cell) × (column.new ≡ with_cell column.old cell))
+        ((cell_of column.old.kind Plain field.now ≡ None) × (column.new ≡ column.old))) }
+{
+    match column.kind() {
+        Kind::Whole => push_int(column, Notation::Plain.int(field)),
+        Kind::Text => push_text(column, text(field, is_text)),
+        Kind::Truth => push_truth(column, truth(field)),
+    }
 }
 
 /// Appends an int, if there is one, and says whether there is.
@@ -153,5 +169,35 @@ fn push_int(column: &mut Column, value: Option<i64>) -> Result<bool, Memory>
         return Ok(false);
     };
     column.push_whole(value)?;
+    Ok(true)
+}
+
+/// Appends a text, if there is one, and says whether there is.
+#[inline]
+fn push_text(column: &mut Column, value: Option<&str>) -> Result<bool, Memory>
+    requires { column.old.kind ≡ Kind.Text }
+    ensures good { IfOk result (λ good. MatchBool good
+        ((t : List ℕ) × (option_map (λ t. t.now) value.entry ≡ Some t) × (column.new ≡ with_cell column.old (Cell.Text t)))
+        ((option_map (λ t. t.now) value.entry ≡ None) × (column.new ≡ column.old))) }
+{
+    let Some(value) = value else {
+        return Ok(false);
+    };
+    column.push_text(value)?;
+    Ok(true)
+}
+
+/// Appends a truth value, if there is one, and says whether there is.
+#[inline]
+fn push_truth(column: &mut Column, value: Option<bool>) -> Result<bool, Memory>
+    requires { column.old.kind ≡ Kind.Truth }
+    ensures good { IfOk result (λ good. MatchBool good
+        ((b : Bool) × (value ≡ Some b) × (column.new ≡ with_cell column.old (Cell.Truth b)))
+        ((value ≡ None) × (column.new ≡ column.old))) }
+{
+    let Some(value) = value else {
+        return Ok(false);
+    };
+    column.push_truth(value)?;
     Ok(true)
 }

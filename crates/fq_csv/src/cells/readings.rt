@@ -1,6 +1,6 @@
 //! How the fields of a column are read.
 ghost use Rattle.std.specs.Prelude.{◌≡◌};
-ghost use Rattle.fq_csv.specs.Readings.{reading_of};
+ghost use Rattle.fq_csv.specs.Readings.{is_plain, reading_of};
 
 use fq_column::Kind;
 use fq_notation::{Notation, Scale};
@@ -40,5 +40,12 @@ impl Reading {
             Kind::Text => Reading::Text,
             Kind::Truth => Reading::Truth,
         }
+    }
+
+    /// Whether the column is kept, and its ints are in digits.
+    pub(crate) fn is_plain(&self) -> bool
+        ensures { result ≡ is_plain self.now }
+    {
+        matches!(self, Reading::Whole | Reading::Text | Reading::Truth)
     }
 }

@@ -13,8 +13,8 @@ under-some : (nulls : List (List ℕ)) (k : Kind) (n : Notation) (f : List ℕ) 
 under-some nulls k n [] e = absurd (cc e)
 under-some nulls k n (b ∷ bs) e = rw e refl
 
-pub returns-in_ok-push_null-in-Judged : goal.returns-in_ok-push_null-in-Judged
-returns-in_ok-push_null-in-Judged c =
+pub returns : goal.returns
+returns g c =
     let field = c.args.field.now in
     let cell = the-cell (cell_of c.in-Judged.kind c.in-Judged.notation field) (sym c.is_value.ensures ∙ c.if-not-is_value.false) in
     rw c.in-Judged.is (record { good = (cell.0, under-some c.args.nulls.now c.in-Judged.kind c.in-Judged.notation field (sym c.is_null.ensures ∙ c.if-is_null.false) ∙ cell.1, c.in_ok-push_null-in-Judged.ensures.ok) })

@@ -3,4 +3,4 @@ use Rattle.fq_csv.proofs.HeldRowLemmas.{Added}
 use Rattle.fq_csv.proofs.cells.rows.push_record.Given as goal
 
 abbrev pub invariant-loop-i : goal.invariant-loop-i
-invariant-loop-i l = Added l.layout l.fn.columns (fields_of l.row) l.i l.columns
+invariant-loop-i g l = Added l.layout l.fn.columns (fields_of l.row) l.i l.columns

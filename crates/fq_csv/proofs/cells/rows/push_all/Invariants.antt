@@ -3,10 +3,10 @@ use Rattle.csv.specs.Reading.{default_config, records}
 use Rattle.fq_csv.specs.File.{Record}
 use Rattle.fq_csv.specs.Readers.{TextHasLeft, IsPlain}
 use Rattle.fq_csv.proofs.TextRowLemmas.{HasRows}
-use Rattle.fq_csv.proofs.cells.rows.push_records.Given as goal
+use Rattle.fq_csv.proofs.cells.rows.push_all.Given as goal
 
 abbrev pub invariant-loop-row : goal.invariant-loop-row
-invariant-loop-row l = record {
+invariant-loop-row g l = record {
   plain : IsPlain l.reader;
   before : List Record;
   rest : List Record;

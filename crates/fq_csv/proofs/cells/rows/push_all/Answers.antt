@@ -6,10 +6,10 @@ use Rattle.fq_csv.specs.File.{Record}
 use Rattle.fq_csv.specs.Readers.{TextHasLeft}
 use Rattle.fq_csv.specs.TextRows.{HoldsRowsOf}
 use Rattle.fq_csv.proofs.TextRowLemmas.{HasRows, HasRows-all, HasRows-bad, HasRows-more}
-use Rattle.fq_csv.proofs.cells.rows.push_records.Goals as goal
+use Rattle.fq_csv.proofs.cells.rows.push_all.Goals as goal
 
 pub loop-row-init : goal.loop-row-init
-loop-row-init c = record {
+loop-row-init g c = record {
   plain = c.in_ok-reader.ensures.plain;
   before = [];
   rest = records default_config c.args.text;
@@ -20,19 +20,19 @@ loop-row-init c = record {
 }
 
 pub unreachable-requires : goal.unreachable-requires
-unreachable-requires c =
+unreachable-requires g c =
     let inv = c.loop-row.invariant in
     let none : inv.rest ≡ [] = rw c.if-not-branch.true at (c.in_ok-next_record.ensures.reads inv.rest inv.left) in
     let all : length (records default_config c.args.text) ≡ length inv.before + length inv.rest = ap length inv.split ∙ length-append inv.before inv.rest in
     omega (arith, all, ap length none, inv.number, c.requires.count, c.loop-row-test.true)
 
 pub push_record-requires-clause-readings : goal.push_record-requires-clause-readings
-push_record-requires-clause-readings c =
+push_record-requires-clause-readings g c =
     let layout = c.args.layout.now in
-    rw (c.loop-row.invariant.rows.held.same_kinds, c.as_slice.ensures.value) c.readings-readings.ensures
+    rw (c.loop-row.invariant.rows.held.same_kinds) c.requires.readings
 
 pub returns-in-Some : goal.returns-in-Some
-returns-in-Some c =
+returns-in-Some g c =
     let inv = c.loop-row.invariant in
     let fs = fields_of c.next_record.new.row in
     let step : (rest : List Record) × (inv.rest ≡ fs ∷ rest) × TextHasLeft c.next_record.new.reader rest = rw c.if-not-branch.false at (c.in_ok-next_record.ensures.reads inv.rest inv.left) in
@@ -43,7 +43,7 @@ returns-in-Some c =
     (inv.split ∙ ap (λ rs. inv.before ++ rs) step.1) inv.number inv.rows bad.0)
 
 pub loop-row-preserved : goal.loop-row-preserved
-loop-row-preserved c =
+loop-row-preserved g c =
     let inv = c.loop-row.invariant in
     let fs = fields_of c.next_record.new.row in
     let step : (rest : List Record) × (inv.rest ≡ fs ∷ rest) × TextHasLeft c.next_record.new.reader rest = rw c.if-not-branch.false at (c.in_ok-next_record.ensures.reads inv.rest inv.left) in
@@ -61,7 +61,7 @@ loop-row-preserved c =
     }
 
 pub returns : goal.returns
-returns c =
+returns g c =
     let inv = c.loop-row.invariant in
     HasRows-all c.args.layout.now (records default_config c.args.text) inv.before inv.rest c.loop-row.columns inv.split
     (omega (arith, inv.number, c.loop-row-test.false, c.loop-row.auto.row-end, c.requires.count)) inv.rows
