@@ -1,11 +1,12 @@
 """The CSV text of a frame, as the program prints it: read into columns, and printed."""
 import datetime
 import decimal
+import json
 import re
 from itertools import islice
-from typing import Callable, Dict, Iterable, Iterator, List, Sequence
+from typing import Any, Callable, Dict, Iterable, Iterator, List, Sequence, Tuple
 
-from ._kinds import Column, ColumnKind, Date, Decimal, Kind, Schema, Value
+from ._kinds import LEAST, MOST, Column, ColumnKind, Date, Decimal, Kind, Schema, Value, value_of_int
 
 # How many bytes become cells at a time: few enough to stay in the caches meanwhile.
 _PIECE = 1 << 14
@@ -13,6 +14,9 @@ _PIECE = 1 << 14
 _NEEDS_QUOTES = re.compile('[,"\r\n]')
 _TRUTHS = {"": None, "true": True, "false": False}
 _OF_TRUTHS = {value: cell for cell, value in _TRUTHS.items()}
+
+# In the shape of a text each digit is a 0, and what is no digit, point, sign or comma is a question mark.
+_SHAPES = bytes(ord("0" if chr(byte) in "0123456789" else chr(byte) if chr(byte) in ".-," else "?") for byte in range(256))
 
 
 def names_of(text: bytes) -> List[str]:
@@ -26,13 +30,18 @@ def end_of_names(text: bytes) -> int:
 
 
 def columns_of(text: bytes, schema: Schema) -> List[Column]:
-    """The values of each column. KeyError or ValueError if a cell is not of its column's kind."""
-    readers = [_decimals_reader(kind.scale) if isinstance(kind, Decimal) else _READERS[kind] for kind in schema.values()]
+    """The values of each column. ValueError if a cell is none that the program prints of its column's kind."""
+    readers = [_numbers_reader(kind.scale) if isinstance(kind, Decimal) else _READERS[kind] for kind in schema.values()]
     columns: List[Column] = [[] for _ in readers]
     for piece in _pieces(text, end_of_names(text)):
         cells = _cells(piece)
         for place, (column, read) in enumerate(zip(columns, readers)):
-            column.extend(read(cells[place :: len(readers)]))
+            try:
+                column.extend(read(cells[place :: len(readers)]))
+            except (KeyError, ValueError):
+                wrong = next(cell for cell in cells[place :: len(readers)] if not _is_read(cell, read))
+                name, kind = list(schema.items())[place]
+                raise ValueError(f"{wrong!r} in the column {name!r} is no {kind!r}") from None
     return columns
 
 
@@ -81,11 +90,49 @@ def _cells(piece: str) -> List[str]:
     ]
 
 
-def _read_ints(cells: List[str]) -> List[Value]:
+def _is_read(cell: str, read: "_Reader") -> bool:
+    """Whether a reader takes a cell."""
     try:
-        return list(map(int, cells))
-    except ValueError:  # (of a null, too)
-        return [int(cell) if cell else None for cell in cells]
+        return bool(list(read([cell])))
+    except (KeyError, ValueError):
+        return False
+
+
+def _joined(cells: List[str]) -> Tuple[str, bytes]:
+    """Cells with a comma after each, and the shape of that text."""
+    text = ",".join([*cells, ""])
+    return text, text.encode().translate(_SHAPES)
+
+
+def _numbers_reader(scale: int) -> "_Reader":
+    """What reads numbers of 64 bits that are printed with so many places behind the point.
+
+    The reader of JSON is quick. In a text of this shape it takes what the program prints, and a 0 with a sign.
+    """
+    places = "." + "0" * scale if scale else ""
+    # (what each number ends with, but a whole number has no point at all)
+    end, signed_zero = f"{places},".encode() if scale else b".", f"-0{places},"
+    # (a number of fewer digits fits 64 bits)
+    many_digits = b"0" * (len(str(MOST)) - scale) + places[:1].encode()
+    least, most = (value_of_int(bound, Decimal(scale=scale)) if scale else bound for bound in (LEAST, MOST))
+    decode = json.JSONDecoder(parse_float=decimal.Decimal).decode
+
+    def read(cells: List[str]) -> List[Value]:
+        text, shape = _joined(cells)
+        nulls = cells.count("")
+        ends = len(cells) - nulls if scale else 0
+        if b"?" in shape or signed_zero in text or shape.count(end) != ends:
+            raise ValueError("not the numbers that are printed")
+        values: List[Any] = decode("[" + (",".join([cell or "null" for cell in cells]) if nulls else text[:-1]) + "]")
+        if len(values) != len(cells):
+            raise ValueError("a comma in a number")
+        if many_digits in shape:
+            present = [value for value in values if value is not None] if nulls else values
+            if min(present) < least or max(present) > most:
+                raise ValueError("not of 64 bits")
+        return values
+
+    return read
 
 
 def _read_texts(cells: List[str]) -> Sequence[Value]:
@@ -97,27 +144,16 @@ def _read_truths(cells: List[str]) -> Iterable[Value]:
 
 
 def _read_dates(cells: List[str]) -> List[Value]:
+    _, shape = _joined(cells)
+    if shape.replace(b"0000-00-00,", b"").strip(b","):
+        raise ValueError("not dates as they are printed")
     of_text = datetime.date.fromisoformat
     return [of_text(cell) if cell else None for cell in cells]
 
 
-def _decimals_reader(scale: int) -> Callable[[List[str]], List[Value]]:
-    """What reads decimals that are printed with so many places."""
-    point, of_text = -1 - scale, decimal.Decimal
-
-    def read(cells: List[str]) -> List[Value]:
-        if any(cell and cell[point : point + 1] != "." for cell in cells):
-            raise ValueError(f"a decimal has {scale} places")
-        try:
-            return [of_text(cell) if cell else None for cell in cells]
-        except decimal.InvalidOperation:
-            raise ValueError("not a decimal") from None
-
-    return read
-
-
-_READERS: Dict[ColumnKind, Callable[[List[str]], Iterable[Value]]] = {
-    Kind.INT: _read_ints, Kind.TEXT: _read_texts, Kind.BOOL: _read_truths, Date: _read_dates,
+_Reader = Callable[[List[str]], Iterable[Value]]
+_READERS: Dict[ColumnKind, _Reader] = {
+    Kind.INT: _numbers_reader(0), Kind.TEXT: _read_texts, Kind.BOOL: _read_truths, Date: _read_dates,
 }
 
 

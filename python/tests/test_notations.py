@@ -370,11 +370,37 @@ class Results(unittest.TestCase):
                 self.assertEqual((int_at(value, scale), value.as_tuple().exponent), (number, -scale))
 
     def test_refused(self):
-        """A cell that is no decimal of the scale, or no day: an int that is no day is printed in digits."""
-        for kind, cells in [(D2, ["12", "1.5", "x.yz", "1.500"]), (DATE, ["20240231", "0", "2024-02-31"]), (INT, ["1.50"])]:
+        """A cell that the program does not print of its column's kind. An int that is no day is printed in digits."""
+        d18 = fq.Decimal(scale=18)
+        for kind, cells in [
+            (INT, ["1.50", "1_000", " 12", "12 ", "\t1", "+5", "007", "00", "-0", "-01", "\u0661\u0662", "\uff11", "1e3", "-", "--1", "1-",
+                   "null", "NaN", "Infinity", "[1]", "1 2", '"1,2"', '","', '"\n1"', "x", str(MOST + 1), str(LEAST - 1), "1" * 5000]),
+            (D2, ["12", "1.5", "x.yz", "1.500", "1_0.50", "1e3", "1.5e1", "+1.50", " 1.50", "01.50", ".50", "-.50", "-0.00",
+                  "\u0661.50", "1.\u0665\u0660", "NaN", "-Infinity", "1.5.00", '"1.50,2.50"', "92233720368547758.08",
+                  "-92233720368547758.09", "100000000000000000.00"]),
+            (d18, ["9.223372036854775808", "-9.223372036854775809", "10.000000000000000000", "0", "-0.000000000000000000"]),
+            (DATE, ["20240231", "0", "-1", "2024-02-31", "20240305", "2024-W10-2", "2024W102", "2024-W10", "2024-3-05", "2024-03-5",
+                    "0000-01-01", "2024-03-05T00", " 2024-03-05", "\u0662024-03-05", "+024-03-05", '"2024-03-05,2024-03-06"',
+                    "2024-03-052024-03-06"]),
+            (BOOL, ["True", "FALSE", "1", " true"]),
+        ]:
             for cell in cells:
-                with self.subTest(cell), self.assertRaises(fq.WrongKindError):
-                    read_frame(f"a\n{cell}\n".encode(), {"a": kind}).rows()
+                for text in (f"a,t\n{cell},x\n", f"a,t\n,x\n{cell},y\n"):
+                    with self.subTest(text), self.assertRaises(fq.WrongKindError):
+                        read_frame(text.encode(), {"a": kind, "t": TEXT}).rows()
+        with self.assertRaises(fq.WrongKindError) as raised:
+            read_frame(b"t,a\nx,1\ny,1_000\n", {"t": TEXT, "a": INT}).rows()
+        self.assertIn("'1_000' in the column 'a' is no Int64", str(raised.exception))
+
+    def test_ends(self):
+        """The least and the greatest of each kind, beside a null and 0."""
+        for kind in (INT, *(fq.Decimal(scale=scale) for scale in (1, 2, 17, 18))):
+            numbers = [LEAST, MOST, None, 0, -1, 10**18]
+            values = numbers if kind == INT else [None if it is None else value_of_int(it, kind) for it in numbers]
+            with self.subTest(kind):
+                text = fq.DataFrame({"a": kind}, [(value,) for value in values]).write_csv()
+                self.assertEqual(read_frame(text.encode(), {"a": kind})["a"], values)
+                self.assertEqual(read_frame(b'a\n""\n', {"a": kind})["a"], [None])
 
     def test_shown(self):
         result = read_frame(self.TEXT.encode(), self.COLUMNS).head(2)
