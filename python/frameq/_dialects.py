@@ -2,9 +2,7 @@
 import re
 from typing import Callable, Dict, List, NamedTuple, Optional, Sequence, Tuple, Union
 
-from ._kinds import Decimal, Notation
-
-LEAST, GREATEST = -(2**63), 2**63 - 1
+from ._kinds import LEAST, Decimal, Notation
 
 # A table: its name, or the names of what it stands in, such as a schema, and its own.
 Table = Union[str, Sequence[str]]

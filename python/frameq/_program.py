@@ -84,9 +84,9 @@ def _plan_object(plan: Union[Path, dict]) -> Optional[dict]:
         return None
 
 
-def _words_of_files(files: Sequence[str]) -> List[str]:
-    """Files as arguments: a name that looks like an option is one below this folder."""
-    return [os.path.join(os.curdir, file) if file.startswith("-") and file != "-" else file for file in files]
+def word_of_file(file: str) -> str:
+    """A file as an argument: a name that looks like an option is one below this folder."""
+    return os.path.join(os.curdir, file) if file.startswith("-") and file != "-" else file
 
 
 def _run(
@@ -113,7 +113,7 @@ def _answer(
     """Runs the program: its exit status, what it wrote if that is not written elsewhere, and what it said."""
     program = find_program(settings.program)
     with _plan_file(plan) as path:
-        command = [program, "--plan", path, "--details", *settings.words(), *words, *_words_of_files(files)]
+        command = [program, "--plan", path, "--details", *settings.words(), *words, *map(word_of_file, files)]
         return _ran(command, out, settings.progress)
 
 

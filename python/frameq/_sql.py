@@ -1,8 +1,8 @@
 """Plans as SQL: one query that gives the rows that frameq gives, for SQLite, PostgreSQL, DuckDB or Spark."""
 from typing import Any, Dict, List, NamedTuple, Optional, Sequence, Set, Tuple
 
-from ._dialects import GREATEST, LEAST, Dialect, Table, dialect_named, names_of_table
-from ._kinds import Notations
+from ._dialects import Dialect, Table, dialect_named, names_of_table
+from ._kinds import Notations, fits
 
 # How deep operators stand one in another in a piece of SQL. SQLite's parser has little room, so deeper ones become columns.
 _MOST_NESTED = 8
@@ -533,7 +533,7 @@ class _Writer:
             return self.dialect.truths[value], "bool"
         if isinstance(value, str):
             return self.dialect.text(value), "text"
-        if isinstance(value, int) and LEAST <= value <= GREATEST:
+        if isinstance(value, int) and fits(value):
             return self.dialect.whole(value), "int"
         raise ValueError(f"not an expression: {value!r}")
 

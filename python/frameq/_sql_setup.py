@@ -7,6 +7,7 @@ from typing import Any, Dict, List, Optional, Sequence, Union
 from ._dialects import Dialect, Table, dialect_named, quoted_text
 from ._kinds import Notations
 from ._notations import words_of_run
+from ._program import word_of_file
 from ._sql import row_column, sources_of
 
 # The columns that each table of PostgreSQL has by itself.
@@ -81,7 +82,6 @@ def _printed(source: Dict[str, Any], file: str, program: str, notations: Notatio
     record of too many fields, which is an error."""
     if file == "-":
         raise ValueError("the script reads no standard input: name a file")
-    path = f"./{file}" if file.startswith("-") else file
     plan = {"version": 2, "sources": [{**source, "files": 1}], "steps": []}
-    words = " ".join(map(shlex.quote, [program, "--details", *words_of_run(notations, plan, {}), "--plan", "-", path]))
+    words = " ".join(map(shlex.quote, [program, "--details", *words_of_run(notations, plan, {}), "--plan", "-", word_of_file(file)]))
     return f"export LC_ALL=C; (printf %s {shlex.quote(json.dumps(plan))} | {words} || echo {',' * len(source['columns'])}) | {_FILTERS}"

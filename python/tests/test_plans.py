@@ -293,6 +293,7 @@ class Steps(unittest.TestCase):
         script = frame(a=INT).filter(C("a") > 1).sql_setup(tables=[("reports", "numbers")], program="bin/frameq")
         self.assertIn('CREATE TABLE "reports"."numbers" (', script)
         self.assertIn("| bin/frameq --details --plan - ", script)
+        self.assertIn("--plan - ./-a.csv || echo", fq.scan_csv("-a.csv", schema={"a": INT}).sql_setup())
 
     def test_unique(self):
         """Rows that are equal, in all columns or in some."""
