@@ -11,7 +11,7 @@ from ._faults import DuplicateError, NoColumnError, UnsupportedError, WrongKindE
 from ._kinds import AnyKind, ColumnKind, Kind, Notations, Schema, schema_of
 from ._literals import settled
 from ._notations import notations_of, words_of
-from ._program import Path
+from ._program import Path, names_of_files
 from ._results import DataFrame
 from ._sql import sql
 from ._sql_setup import sql_setup
@@ -91,15 +91,15 @@ def scan_csv(
     if others or not has_header or separator != ",":
         what = ", ".join(others) or ("has_header=False" if not has_header else "separator")
         raise UnsupportedError(f"scan_csv has no {what}: a file has a header, commas, and quotes as in CSV")
-    is_one = isinstance(source, (str, bytes, os.PathLike)) or hasattr(source, "read")
-    files = [source] if is_one else list(source)
-    if not all(isinstance(file, (str, os.PathLike)) for file in files):
-        raise UnsupportedError("scan_csv takes names of files, and no open file or bytes; the name - is standard input")
-    nulls = [null_values] if isinstance(null_values, str) else list(null_values or [])
+    files = names_of_files(source, "scan_csv")
     if isinstance(null_values, Mapping):
         raise UnsupportedError("null_values are of all columns of a file: give a list")
+    nulls = [null_values] if isinstance(null_values, str) else list(null_values or [])
+    for null in nulls:
+        if not isinstance(null, str):
+            raise UnsupportedError(f"null_values are texts, as they stand in a file, and {null!r} is none")
     columns = schema_of(schema)
-    scan = Source(tuple(os.fspath(file) for file in files), tuple(columns.items()), tuple(nulls))
+    scan = Source(tuple(files), tuple(columns.items()), tuple(nulls))
     return LazyFrame(scan, (), (), (), (columns,))
 
 

@@ -84,6 +84,15 @@ def _plan_object(plan: Union[Path, dict]) -> Optional[dict]:
         return None
 
 
+def names_of_files(given: Union[Path, Sequence[Path]], call: str) -> List[str]:
+    """The names of files, of one or of several. UnsupportedError says that one is no name."""
+    is_one = isinstance(given, (str, bytes, os.PathLike)) or hasattr(given, "read")
+    names = [os.fspath(file) if isinstance(file, os.PathLike) else file for file in ([given] if is_one else given)]
+    if not all(isinstance(name, str) for name in names):
+        raise UnsupportedError(f"{call} takes names of files, and no open file or bytes; the name - is standard input")
+    return names
+
+
 def word_of_file(file: str) -> str:
     """A file as an argument: a name that looks like an option is one below this folder."""
     return os.path.join(os.curdir, file) if file.startswith("-") and file != "-" else file
@@ -174,9 +183,10 @@ def run_plan(
     arguments are those of `collect`.
 
     Each fault of the run is a FrameqError by its name. ArgumentsError also says that the schema has other columns than the result,
-    WrongKindError that a cell of the result is not of its kind, and UnsupportedError that a name is written in two ways.
+    WrongKindError that a cell of the result is not of its kind, and UnsupportedError that a name is written in two ways, or that a file is
+    no name.
     """
-    names = [os.fspath(file) for file in ([files] if isinstance(files, (str, os.PathLike)) else files)]
+    names = names_of_files(files, "run_plan")
     columns = None if schema is None else schema_of(schema)
     words = words_of(_all_notations(columns or {}, notations or {}))
     frame = collect(plan, words, names, columns, (), Settings(batch, workers, program, progress))

@@ -1,11 +1,19 @@
 """What each call writes, beside the plan by hand; and what is refused."""
 import io
+import os
 import unittest
 
 from repository import fq
 
 C, INT, TEXT, BOOL = fq.col, fq.Int64, fq.String, fq.Boolean
 A, B = {"col": "a"}, {"col": "b"}
+
+
+class BytesPath(os.PathLike):
+    """A path whose name is bytes, as os.scandir gives them of a folder named so."""
+
+    def __fspath__(self):
+        return b"a.csv"
 
 
 def frame(**columns):
@@ -106,6 +114,13 @@ class Expressions(unittest.TestCase):
             (lambda: fq.scan_csv(b"a.csv", schema={"a": int}), fq.UnsupportedError, "names"),
             (lambda: fq.scan_csv(["a.csv", b"b.csv"], schema={"a": int}), fq.UnsupportedError, "names"),
             (lambda: fq.scan_csv([io.StringIO("a\n")], schema={"a": int}), fq.UnsupportedError, "names"),
+            (lambda: fq.scan_csv(BytesPath(), schema={"a": int}), fq.UnsupportedError, "names"),
+            (lambda: fq.run_plan({}, b"a.csv"), fq.UnsupportedError, "run_plan takes names"),
+            (lambda: fq.run_plan({}, ["a.csv", b"b.csv"]), fq.UnsupportedError, "run_plan takes names"),
+            (lambda: fq.run_plan({}, io.StringIO("a\n")), fq.UnsupportedError, "run_plan takes names"),
+            (lambda: fq.scan_csv("a.csv", schema={"a": int}, null_values=[1]), fq.UnsupportedError, "as they stand in a file, and 1"),
+            (lambda: fq.scan_csv("a.csv", schema={"a": int}, null_values=["-", None]), fq.UnsupportedError, "None is none"),
+            (lambda: fq.scan_csv("a.csv", schema={"a": int}, null_values={"a": "-"}), fq.UnsupportedError, "give a list"),
             (lambda: frame().group_by("a").sum(), fq.UnsupportedError, ".agg(all().sum())"),
             (lambda: frame().group_by("a").mean(), fq.UnsupportedError, "//"),
         ]:
