@@ -7,7 +7,7 @@ from typing import Any, Dict, FrozenSet, Iterable, Iterator, List, NoReturn, Opt
 
 from ._faults import ColumnNotFoundError, UnsupportedError, WrongKindError
 from ._kinds import MOST_PLACES, AnyKind, ColumnKind, Date, Decimal, Kind, Schema
-from ._kinds import fits, int_at, int_of_day, kind_of_type, places_of, value_of_int
+from ._kinds import check_unicode, fits, int_at, int_of_day, kind_of_type, places_of, value_of_int
 
 _ARITHMETIC = frozenset({"add", "sub", "mul", "floordiv", "mod"})
 FUNCTIONS = frozenset({"sum", "min", "max", "count", "first", "last", "n_unique"})
@@ -342,6 +342,7 @@ def _node_of_value(value: Any) -> Node:
     if isinstance(value, bool):
         return ("lit", Kind.BOOL, value)
     if isinstance(value, str):
+        check_unicode([value], "a literal")
         return ("lit", Kind.TEXT, value)
     if isinstance(value, int) and fits(value):
         return ("lit", Kind.INT, value)

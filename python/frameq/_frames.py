@@ -8,7 +8,7 @@ from ._dialects import Table
 from ._expressions import FUNCTIONS, TOO_DEEP, Expr, Node
 from ._expressions import columns_of, expanded, flat, has, kind_of, name_of, named, parts, plain_names, replaced, written
 from ._faults import DuplicateError, NoColumnError, UnsupportedError, WrongKindError
-from ._kinds import AnyKind, ColumnKind, Kind, Notations, Schema, schema_of
+from ._kinds import AnyKind, ColumnKind, Kind, Notations, Schema, check_unicode, schema_of
 from ._literals import settled
 from ._notations import notations_of, words_of
 from ._program import Path, names_of_files
@@ -98,6 +98,7 @@ def scan_csv(
     for null in nulls:
         if not isinstance(null, str):
             raise UnsupportedError(f"null_values are texts, as they stand in a file, and {null!r} is none")
+    check_unicode(nulls, "a null value")
     columns = schema_of(schema)
     scan = Source(tuple(files), tuple(columns.items()), tuple(nulls))
     return LazyFrame(scan, (), (), (), (columns,))
@@ -201,7 +202,7 @@ class LazyFrame:
             nodes.append(settled(expr._node, self._schema))
             kind_of(nodes[-1], self._schema)
         outputs = [(name_of(expr), node) for expr, node in zip(each, nodes)]
-        _no_doubles([name for name, _ in outputs], step)
+        _check_names([name for name, _ in outputs], step)
         return outputs
 
     def _with(self, outputs: Sequence[Output], call: str) -> "LazyFrame":
@@ -316,7 +317,7 @@ class LazyFrame:
         if how in ("semi", "anti"):
             return self._schema
         right = [(f"{name}_right" if name in self._schema else name, kind) for name, kind in other._schema.items() if name not in keys]
-        _no_doubles([*self._schema, *(name for name, _ in right)], "join")
+        _check_names([*self._schema, *(name for name, _ in right)], "join")
         return {**self._schema, **dict(right)}
 
     def group_by(self, *by: Any, maintain_order: bool = True, **named_by: Any) -> "GroupBy":
@@ -446,7 +447,7 @@ class GroupBy:
         each = [expr for given in flat(aggs) for expr in expanded(named(given), rest)]
         each += [it.alias(name) for name, given in named_aggs.items() for it in expanded(named(given), rest)]
         named_nodes = [(name_of(expr), expr._node) for expr in each]
-        _no_doubles([name for name, _ in (*self._keys, *named_nodes)], "group_by")
+        _check_names([name for name, _ in (*self._keys, *named_nodes)], "group_by")
         return self._grouped([(name, _settled_aggregate(name, node, schema)) for name, node in named_nodes], call)
 
     def len(self, name: str = "len") -> LazyFrame:
@@ -523,7 +524,9 @@ def _no_aggregates(expr: Expr, step: str) -> None:
         raise UnsupportedError(f"{step} has no aggregates: group first; for totals over all rows, group by a literal such as all=lit(True)")
 
 
-def _no_doubles(names: Sequence[str], step: str) -> None:
+def _check_names(names: Sequence[str], step: str) -> None:
+    """Raises if the columns of a step cannot have these names."""
+    check_unicode(names, "the name of a column")
     for name in names:
         if list(names).count(name) > 1:
             raise DuplicateError(f"{step} has two columns {name!r}: write .alias(..)")

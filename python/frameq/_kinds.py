@@ -2,7 +2,7 @@
 import datetime
 import decimal
 import enum
-from typing import Any, Dict, List, Mapping, Optional, Tuple, Union
+from typing import Any, Dict, Iterable, List, Mapping, Optional, Tuple, Union
 
 from ._faults import UnsupportedError
 
@@ -101,7 +101,25 @@ def kind_of_type(given: AnyKind) -> ColumnKind:
 
 def schema_of(given: Mapping[str, AnyKind]) -> Schema:
     """The schema with these names and kinds, in this order."""
-    return {str(name): kind_of_type(kind) for name, kind in given.items()}
+    schema = {str(name): kind_of_type(kind) for name, kind in given.items()}
+    check_unicode(schema, "the name of a column")
+    return schema
+
+
+def is_unicode(text: str) -> bool:
+    """Whether a text can be written. Half of a pair of surrogates cannot."""
+    try:
+        text.encode()
+    except UnicodeEncodeError:
+        return False
+    return True
+
+
+def check_unicode(texts: Iterable[str], what: str) -> None:
+    """Raises if one of these is no text, or cannot be written."""
+    for text in texts:
+        if not isinstance(text, str) or not is_unicode(text):
+            raise UnsupportedError(f"{what} is a Unicode text, without half of a surrogate pair, and not {text!r}")
 
 
 # ---- values and their ints

@@ -9,8 +9,8 @@ import tempfile
 import warnings
 from typing import IO, Iterator, List, Mapping, NamedTuple, NoReturn, Optional, Sequence, Tuple, Union
 
-from ._faults import ProgramNotFoundError, UnsupportedError, fault
-from ._kinds import AnyKind, Kind, Notation, Notations, Schema, kind_of_type, schema_of
+from ._faults import ArgumentsError, PlanJsonError, ProgramNotFoundError, UnsupportedError, fault
+from ._kinds import AnyKind, Kind, Notation, Notations, Schema, is_unicode, kind_of_type, schema_of
 from ._notations import words_of
 from ._progress import open_screen, run_shown
 from ._results import DataFrame, read_frame
@@ -45,7 +45,7 @@ def find_program(program: Optional[Path] = None) -> str:
     """
     given = program or os.environ.get("FRAMEQ")
     if given:
-        if not os.access(given, os.X_OK) or os.path.isdir(given):
+        if not _can_be_argument(os.fspath(given)) or not os.access(given, os.X_OK) or os.path.isdir(given):
             raise ProgramNotFoundError(f"there is no program {os.fspath(given)!r}")
         return os.path.abspath(given)
     built = os.path.join(_REPOSITORY, "crates", "frameq", "out", "frameq")
@@ -68,8 +68,11 @@ def _plan_file(plan: Union[Path, dict]) -> Iterator[str]:
         return
     with tempfile.TemporaryDirectory(prefix="frameq-") as room:
         path = os.path.join(room, "plan.json")
+        text = json.dumps(plan, ensure_ascii=False)
+        if not is_unicode(text):
+            raise PlanJsonError("plan: not JSON: a text has half of a surrogate pair")
         with open(path, "w", encoding="utf-8") as file:
-            json.dump(plan, file, ensure_ascii=False)
+            file.write(text)
         yield path
 
 
@@ -90,7 +93,18 @@ def names_of_files(given: Union[Path, Sequence[Path]], call: str) -> List[str]:
     names = [os.fspath(file) if isinstance(file, os.PathLike) else file for file in ([given] if is_one else given)]
     if not all(isinstance(name, str) for name in names):
         raise UnsupportedError(f"{call} takes names of files, and no open file or bytes; the name - is standard input")
+    for name in names:
+        if not _can_be_argument(name):
+            raise UnsupportedError(f"no file has the name {name!r}: it has half of a surrogate pair, or a character 0")
     return names
+
+
+def _can_be_argument(word: str) -> bool:
+    """Whether a program can be given a word. A byte of a file's name that is not UTF-8 can be: the program says what is wrong with it."""
+    try:
+        return b"\0" not in os.fsencode(word)
+    except UnicodeEncodeError:
+        return False
 
 
 def word_of_file(file: str) -> str:
@@ -123,6 +137,9 @@ def _answer(
     program = find_program(settings.program)
     with _plan_file(plan) as path:
         command = [program, "--plan", path, "--details", *settings.words(), *words, *map(word_of_file, files)]
+        for word in command:
+            if not _can_be_argument(word):
+                raise ArgumentsError(f"no argument can be {word!r}: it has half of a surrogate pair, or a character 0")
         return _ran(command, out, settings.progress)
 
 

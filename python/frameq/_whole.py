@@ -31,7 +31,7 @@ def check_place(path: str) -> None:
 def _write_errors() -> Iterator[None]:
     try:
         yield
-    except OSError as error:
+    except (OSError, ValueError) as error:  # (the latter where no path has such a character)
         raise WriteError(f"write failed: {error}") from None
 
 

@@ -1,6 +1,7 @@
 """What each call writes, beside the plan by hand; and what is refused."""
 import io
 import os
+import sys
 import unittest
 
 from repository import fq
@@ -143,6 +144,42 @@ class Steps(unittest.TestCase):
         for wrong in [{}, {"schema": {"a": float}}, {"schema": {"a": int}, "separator": ";"}, {"schema": {"a": int}, "skip_rows": 1}]:
             with self.subTest(wrong), self.assertRaises(fq.UnsupportedError):
                 fq.scan_csv("a.csv", **wrong)
+
+    def test_halves_of_pairs(self):
+        """Half of a surrogate pair is no text, wherever it stands; in a plan that exists it is what the program says of it."""
+        half, lazy = "a\ud800", frame(a=INT)
+        for wrong in [
+            lambda: fq.lit(half),
+            lambda: C("t") == half,
+            lambda: lazy.with_columns(**{half: C("a")}),
+            lambda: lazy.select(C("a").alias(half)),
+            lambda: lazy.rename({"a": half}),
+            lambda: lazy.group_by("a").len(half),
+            lambda: lazy.group_by(C("a").alias(half)),
+            lambda: frame(**{half: INT}),
+            lambda: fq.scan_csv("a.csv", schema={"a": INT}, null_values=half),
+            lambda: fq.scan_csv(["a.csv", half], schema={"a": INT}),
+            lambda: fq.run_plan(lazy.plan(), half, program=sys.executable),
+            lambda: fq.run_plan(lazy.plan(), "a.csv", schema={half: INT}, program=sys.executable),
+        ]:
+            with self.assertRaises(fq.UnsupportedError) as raised:
+                wrong()
+            self.assertIn(repr(half)[1:-1], str(raised.exception))
+        with self.assertRaisesRegex(fq.UnsupportedError, "the name of a column is a Unicode text, .* and not 5"):
+            lazy.select(C("a").alias(5))
+        plan = lazy.plan()
+        plan["steps"] = [{"select": [["a", half]]}]
+        for wrong, error in [
+            (lambda: fq.run_plan(plan, "a.csv", program=sys.executable), fq.PlanJsonError),
+            (lambda: fq.run_plan(half, "a.csv", program=sys.executable), fq.ArgumentsError),
+            (lambda: fq.run_plan(lazy.plan(), "a.csv", notations={half: fq.Date}, program=sys.executable), fq.ArgumentsError),
+            (lambda: lazy.sink_csv(half, program=sys.executable), fq.ArgumentsError),
+            (lambda: lazy.collect(program=half), fq.ProgramNotFoundError),
+            (lambda: fq.DataFrame({"a": INT}, []).write_csv(half), fq.WriteError),
+            (lambda: fq.scan_csv("a\0.csv", schema={"a": INT}), fq.UnsupportedError),
+        ]:
+            with self.subTest(error), self.assertRaises(error):
+                wrong()
 
     def test_own_plan(self):
         """A change of the object that a frame gives changes no frame."""
