@@ -1,5 +1,6 @@
 """Finds the program, and runs plans by it."""
 import contextlib
+import errno
 import json
 import os
 import shutil
@@ -21,6 +22,8 @@ _PACKAGE = os.path.dirname(os.path.abspath(__file__))
 _REPOSITORY = os.path.dirname(os.path.dirname(_PACKAGE))
 # The program of a wheel, which is inside the package.
 _INSIDE = os.path.join(_PACKAGE, "bin", "frameq")
+# What is said of an executable file that is no program, or one of another machine, or a script whose interpreter is not there or is none.
+_NO_PROGRAM = (errno.ENOEXEC, errno.ENOENT, errno.EACCES)
 
 
 class Settings(NamedTuple):
@@ -154,10 +157,15 @@ def printed(plan: Union[Path, dict], words: Sequence[str], files: Sequence[str],
 def _ran(command: List[str], out: Union[int, IO[bytes]], progress: bool) -> Tuple[int, bytes, str]:
     """The exit status of a run, what it wrote if that is not written elsewhere, and what it said."""
     screen = open_screen() if progress else None
-    if screen is not None:
-        status, said = run_shown(command, out, screen)
-        return status, b"", said.decode("utf-8", "replace")
-    ran = subprocess.run(command, stdout=out, stderr=subprocess.PIPE, check=False)
+    try:
+        if screen is not None:
+            status, said = run_shown(command, out, screen)
+            return status, b"", said.decode("utf-8", "replace")
+        ran = subprocess.run(command, stdout=out, stderr=subprocess.PIPE, check=False)
+    except OSError as error:
+        if error.errno not in _NO_PROGRAM:
+            raise
+        raise ProgramNotFoundError(f"{command[0]!r} is no program that runs on this machine: {error.strerror}") from None
     return ran.returncode, ran.stdout or b"", ran.stderr.decode("utf-8", "replace")
 
 

@@ -1,14 +1,24 @@
 """Which program the package runs, of those that are there. Scripts stand in for them."""
+import io
 import os
 import shutil
 import subprocess
 import sys
 import tempfile
 import unittest
+from concurrent.futures import ThreadPoolExecutor
+from unittest import mock
 
-from repository import ROOT
+from repository import ROOT, fq
 
 FIND = "import sys, frameq._program as p; print(p.find_program(*sys.argv[1:]))"
+
+
+class Terminal(io.StringIO):
+    """A stream that is a terminal."""
+
+    def isatty(self):
+        return True
 
 
 class Programs(unittest.TestCase):
@@ -49,6 +59,23 @@ class Programs(unittest.TestCase):
         found = self.program("path/frameq")
         code = f"import os; os.chdir({self.room!r})\n{FIND}"
         self.assertEqual(self.ran(code, PATH="path").stdout, f"{found}\n")
+
+    def test_no_program(self):
+        """An executable file that is no program, and a script whose interpreter is not there, with and without progress."""
+        path = self.program("frameq")
+        lazy = fq.scan_csv("main.csv", schema={"n": fq.Int64})
+        for text, words in [
+            ("", "Exec format error"), ("not a program\n", "Exec format error"),
+            ("#!/none/sh\n", "No such file"), ("#!/etc/passwd\n", "Permission denied"),
+        ]:
+            with open(path, "w", encoding="utf-8") as file:
+                file.write(text)
+            for progress in (False, True):
+                with self.subTest(text, progress=progress), mock.patch("sys.stderr", Terminal()):
+                    with self.assertRaisesRegex(fq.ProgramNotFoundError, f"{path}' is no program .*: {words}"):
+                        lazy.collect(program=path, progress=progress)
+        with ThreadPoolExecutor(1) as executor, self.assertRaises(fq.ProgramNotFoundError):
+            lazy.collect(program=path, executor=executor)
 
     def test_command(self):
         """The command of a wheel is the program inside the package, whatever else there is."""
