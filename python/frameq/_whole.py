@@ -1,5 +1,6 @@
 """Files that are written whole, or stay as they were."""
 import contextlib
+import errno
 import itertools
 import os
 import stat
@@ -25,6 +26,8 @@ def check_place(path: str) -> None:
             file, new = _file_beside(os.path.realpath(path))
             file.close()
             os.unlink(new)
+        elif os.path.isdir(path):
+            raise IsADirectoryError(errno.EISDIR, os.strerror(errno.EISDIR), path)
 
 
 @contextlib.contextmanager

@@ -12,6 +12,7 @@ import subprocess
 import sys
 import tempfile
 import unittest
+from concurrent.futures import ThreadPoolExecutor
 from unittest import mock
 
 from repository import ROOT, fq, program
@@ -170,6 +171,21 @@ class Files(unittest.TestCase):
                 FOO.write_csv(place)
         FOO.write_csv(os.devnull)
         self.assertEqual(os.listdir(self.room), ["dangling.csv"])
+
+    def test_folder(self):
+        """A folder is refused as the place of a result in parts before a part runs. A script stands in for the program."""
+        program, runs = os.path.join(self.room, "frameq"), os.path.join(self.room, "runs")
+        with open(program, "w", encoding="utf-8") as file:
+            file.write(f'#!/bin/sh\necho "$@" >> {runs}\necho n\n')
+        os.chmod(program, 0o755)
+        with open(self.path, "w", encoding="utf-8") as file:
+            file.write("n\n")
+        lazy = fq.scan_csv(self.path, schema={"n": INT})
+        with ThreadPoolExecutor(1) as executor, self.assertRaisesRegex(fq.WriteError, "^write failed: .*directory"):
+            lazy.sink_csv(self.room, program=program, executor=executor)
+        with open(runs, encoding="utf-8") as file:
+            self.assertNotIn("result.csv", file.read())
+        self.assertEqual(sorted(os.listdir(self.room)), ["frameq", "result.csv", "runs"])
 
 
 class Order(unittest.TestCase):

@@ -482,10 +482,10 @@ class Parts(unittest.TestCase):
         frame.filter(C("k") > 1).sink_csv(frame.files()[0], program=self.program, executor=self.pool)
         with open(frame.files()[0], encoding="utf-8") as file:
             self.assertEqual(file.read(), "k\n2\n")
-        nowhere = os.path.join(self.room, "nowhere", "result.csv")
-        with steps_of_tasks() as counts, self.assertRaises(fq.WriteError):
-            frame.sink_csv(nowhere, program=self.program, executor=self.pool)
-        self.assertEqual(counts, [])
+        for place in (os.path.join(self.room, "nowhere", "result.csv"), self.room):
+            with self.subTest(place), steps_of_tasks() as counts, self.assertRaises(fq.WriteError):
+                frame.sink_csv(place, program=self.program, executor=self.pool)
+            self.assertEqual(counts, [])
         frame.sink_csv(os.devnull, program=self.program, executor=self.pool)
 
     def test_refused(self):
