@@ -84,7 +84,8 @@ def scan_csv(
     Every file begins with a header, which has the names of `schema` in this order. A file may be `-`, which is standard input. An
     empty field is null, and so is one that is among `null_values`.
 
-    UnsupportedError says that there is no schema, or a kind or an argument that frameq does not have. Nothing is read yet.
+    UnsupportedError says that there is no schema, or a kind or an argument that frameq does not have, and TypeError that the schema is no
+    mapping. Nothing is read yet.
     """
     if schema is None:
         raise UnsupportedError("nothing is guessed: name each column and its kind, as schema={'id': Int64, 'name': String}")

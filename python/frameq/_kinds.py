@@ -100,7 +100,9 @@ def kind_of_type(given: AnyKind) -> ColumnKind:
 
 
 def schema_of(given: Mapping[str, AnyKind]) -> Schema:
-    """The schema with these names and kinds, in this order."""
+    """The schema with these names and kinds, in this order. TypeError says that it is no mapping."""
+    if not isinstance(given, Mapping):
+        raise TypeError(f"a schema is a mapping of names to kinds, as {{'id': Int64, 'name': String}}, and not a {type(given).__name__}")
     schema = {str(name): kind_of_type(kind) for name, kind in given.items()}
     check_unicode(schema, "the name of a column")
     return schema

@@ -209,7 +209,7 @@ def run_plan(
 
     Each fault of the run is a FrameqError by its name. ArgumentsError also says that the schema has other columns than the result,
     WrongKindError that a cell of the result is not of its kind, and UnsupportedError that a name is written in two ways, or that a file is
-    no name.
+    no name. TypeError says that the schema, or `notations`, is no mapping.
     """
     names = names_of_files(files, "run_plan")
     columns = None if schema is None else schema_of(schema)
@@ -222,6 +222,8 @@ def run_plan(
 
 def _all_notations(schema: Schema, given: Mapping[str, Notation]) -> Notations:
     """The notations that are given, and those of the columns of a result."""
+    if not isinstance(given, Mapping):
+        raise TypeError(f"notations are a mapping of names to a Decimal or a Date, and not a {type(given).__name__}")
     notations: Notations = {}
     for name, kind in [*given.items(), *schema.items()]:
         kind = kind_of_type(kind)
