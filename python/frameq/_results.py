@@ -1,11 +1,11 @@
 """The result of a run, as a small frame."""
 import os
 from itertools import islice
-from typing import IO, Any, Dict, Iterator, List, Optional, Sequence, Tuple, Union
+from typing import IO, Any, Dict, Iterable, Iterator, List, Mapping, Optional, Sequence, Tuple, Union
 
 from ._expressions import kind_of, plain_names
 from ._faults import ArgumentsError, UnsupportedError, WrongKindError
-from ._kinds import Column, ColumnKind, Date, Decimal, Kind, Schema, Value
+from ._kinds import AnyKind, Column, ColumnKind, Date, Decimal, Kind, Schema, Value, schema_of
 from ._order import SortKey, each_of, order_of
 from ._pandas import frame_of_columns, frame_of_text
 from ._printed import columns_of, names_of, text_of
@@ -20,17 +20,24 @@ File = Union[str, "os.PathLike[str]", IO[str], IO[bytes]]
 class DataFrame:
     """Rows and the names and kinds of their columns, by Polars' names. A null is None. It does not change: each method gives another.
 
+    `DataFrame(schema, rows)` is one that no run gave: a mapping of names to kinds, and a tuple of values for each row, whose kinds are
+    taken as right. ValueError names the first row that has more or fewer values than there are columns, from 1; TypeError says that the
+    schema is no mapping, and UnsupportedError that there is no such kind.
+
     What the program printed is read where a value is first asked for: WrongKindError then says that a cell is not of its column's kind.
     """
 
     # What the program printed is read when a value is first asked for, and rows are made then, too.
     __slots__ = ("_schema", "_text", "_columns", "_rows")
 
-    def __init__(self, schema: Schema, rows: List[Row]) -> None:
-        self._schema: Schema = schema
+    def __init__(self, schema: Mapping[str, AnyKind], rows: Iterable[Sequence[Value]]) -> None:
+        self._schema: Schema = schema_of(schema)
         self._text: Optional[bytes] = None
-        self._columns: Optional[List[Column]] = [list(values) for values in zip(*rows)] or [[] for _ in schema]
-        self._rows: Optional[List[Row]] = rows
+        self._rows: Optional[List[Row]] = [tuple(row) for row in rows]
+        for number, row in enumerate(self._rows, 1):
+            if len(row) != len(self._schema):
+                raise ValueError(f"row {number} has {len(row)} values, and there are {len(self._schema)} columns")
+        self._columns: Optional[List[Column]] = [list(values) for values in zip(*self._rows)] or [[] for _ in self._schema]
 
     @classmethod
     def _of(cls, schema: Schema, *, text: Optional[bytes] = None, columns: Optional[List[Column]] = None) -> "DataFrame":

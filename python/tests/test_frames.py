@@ -119,6 +119,42 @@ class Texts(unittest.TestCase):
                     self.assertEqual(collected.head(len(rows)).write_csv(), collected.write_csv())
 
 
+class Made(unittest.TestCase):
+    """Frames that no run gave."""
+
+    def test_rows(self):
+        """Kinds by Python's types too, and rows of any kind; a frame has both to itself."""
+        columns, rows = {"n": int, "t": TEXT}, [[1, "x"], (2, None)]
+        made = fq.DataFrame(columns, rows)
+        columns["p"] = BOOL
+        rows.pop()
+        self.assertEqual((made.schema, made.rows(), made["t"]), ({"n": INT, "t": TEXT}, [(1, "x"), (2, None)], ["x", None]))
+        self.assertEqual((made.width, made.height, made.shape), (2, 2, (2, 2)))
+        self.assertEqual(fq.DataFrame({"n": INT}, ((number,) for number in range(3)))["n"], [0, 1, 2])
+        self.assertEqual((fq.DataFrame({"n": INT, "t": TEXT}, []).width, fq.DataFrame({}, []).width), (2, 0))
+
+    def test_named_rows(self):
+        """Rows by their names, one after another."""
+        named = FOO.iter_rows(named=True)
+        self.assertEqual(next(named), {"foo": 1, "bar": 6, "ham": "a"})
+        self.assertEqual(list(named), FOO.to_dicts()[1:])
+        self.assertEqual(list(FOO.iter_rows()), FOO.rows())
+
+    def test_refused(self):
+        """Rows of another width, no mapping, and no kind."""
+        for wrong, error, words in [
+            (lambda: frame({"a": INT, "b": INT}, (1, 2), (3,)), ValueError, "row 2 has 1 values, and there are 2 columns"),
+            (lambda: frame({"a": INT}, (1, 2)), ValueError, "row 1 has 2 values"),
+            (lambda: frame({"a": INT}, (1,), (2,), ()), ValueError, "row 3 has 0 values"),
+            (lambda: frame({}, (1,)), ValueError, "row 1"),
+            (lambda: fq.DataFrame(["a"], [(1,)]), TypeError, "a mapping of names to kinds"),
+            (lambda: fq.DataFrame({"a": float}, [(1,)]), fq.UnsupportedError, "there is no kind"),
+        ]:
+            with self.subTest(words), self.assertRaises(error) as raised:
+                wrong()
+            self.assertIn(words, str(raised.exception))
+
+
 class Files(unittest.TestCase):
     """Where write_csv writes."""
 
