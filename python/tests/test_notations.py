@@ -270,6 +270,8 @@ class Arguments(unittest.TestCase):
         for call, words in [
             (lambda: lazy.collect(program=self.program), ["--details", *noted, *files]),
             (lambda: lazy.collect(program=self.program, batch=7), ["--details", "--batch", "7", *noted, *files]),
+            (lambda: fq.run_plan(lazy.plan(), lazy.files(), notations=lazy.notations(), program=self.program, batch=7, workers=2),
+             ["--details", "--batch", "7", "--workers", "2", *noted, *files]),
             (lambda: lazy.explain(program=self.program), ["--details", "--explain", *noted]),
             (lambda: lazy.sink_csv("x", program=self.program), ["--details", "--output", os.path.abspath("x"), *noted, *files]),
         ]:

@@ -6,6 +6,8 @@ import unittest
 
 from repository import fq
 
+from frameq import _expressions, _frames
+
 C, INT, TEXT, BOOL = fq.col, fq.Int64, fq.String, fq.Boolean
 A, B = {"col": "a"}, {"col": "b"}
 
@@ -133,6 +135,48 @@ class Expressions(unittest.TestCase):
             with self.subTest(words), self.assertRaises(error) as raised:
                 wrong()
             self.assertIn(words, str(raised.exception))
+
+
+class Instead(unittest.TestCase):
+    """What Polars has and frameq has not is refused by its name, and what is said names the way instead."""
+
+    def refused(self, call, words):
+        with self.subTest(words), self.assertRaises(fq.UnsupportedError) as raised:
+            call()
+        self.assertIn(words, str(raised.exception))
+
+    def test_page(self):
+        """What the page says of some calls."""
+        lazy = frame()
+        for call, words in [
+            (lambda: C("a").is_in([1, 2]), '(col("a") == x) | (col("a") == y), or join many values from a file by how="semi"'),
+            (lambda: lazy.sort("a"), "collect().sort(..)"),
+            (lambda: lazy.head(5), "collect().head(..)"),
+            (lambda: lazy.limit(5), "collect().limit(..)"),
+            (lambda: lazy.tail(5), "collect().tail(..)"),
+            (lambda: C("a").mean(), "sum() // count()"),
+            (lambda: lazy.group_by("t").mean(), "sum() // count()"),
+            (lambda: C("a").str.len_chars(), "no text functions"),
+            (lambda: fq.concat([lazy, lazy]), "name all the files in one scan_csv"),
+            (lambda: fq.when(C("p")), "filter each case"),
+            (lambda: lazy.unique(keep="last"), 'keep="first"'),
+            (lambda: lazy.unique("a", keep="none"), 'keep="first"'),
+            (lambda: fq.scan_csv("a.csv", schema={"a": INT}, has_header=False), "has_header=False: a file has a header"),
+        ]:
+            self.refused(call, words)
+
+    def test_each(self):
+        """Each name that there are words for."""
+        for owner, table in [
+            (fq, fq._INSTEAD),
+            (C("a"), _expressions._INSTEAD),
+            (frame(), _frames._INSTEAD),
+            (frame().group_by("t"), _frames._INSTEAD_OF_GROUPS),
+        ]:
+            for name, words in table.items():
+                self.refused(lambda owner=owner, name=name: getattr(owner, name), f"no {name}(): {words}")
+        for name in _expressions.FUNCTIONS:
+            self.refused(lambda name=name: getattr(frame().group_by("t"), name), f".agg(all().{name}())")
 
 
 class Steps(unittest.TestCase):

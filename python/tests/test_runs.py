@@ -68,6 +68,13 @@ class Runs(unittest.TestCase):
         self.assertEqual(answers[0], answers[2])
         with self.assertRaises(fq.ArgumentsError):
             frame.collect(workers=17, program=self.program)
+        for settings in ({"batch": 1}, {"workers": 3}, {"batch": 7, "workers": 16}):
+            with self.subTest(settings):
+                answer = fq.run_plan(frame.plan(), frame.files(), schema=frame.collect_schema(), **settings, program=self.program)
+                self.assertEqual(answer, answers[0])
+        for settings in ({"batch": 0}, {"workers": 17}):
+            with self.subTest(settings), self.assertRaises(fq.ArgumentsError):
+                fq.run_plan(frame.plan(), frame.files(), **settings, program=self.program)
 
     def test_sink(self):
         """A file is written whole, over one of the inputs too, and keeps its bytes and mode at a fault."""
