@@ -192,12 +192,18 @@ def function_at(crate, path, text):
     source = read(f"{ROOT}/crates/{crate}/{path}")
     lines, at, owner = source.split("\n"), source[: source.find(text)].count("\n"), ""
     for number, line in enumerate(lines[: at + 1]):
-        owner = "" if line.startswith("}") else owner_at(line) or owner
+        owner = "" if line.startswith("}") else owner_at(header(lines[number:])) or owner
         function = re.match(r"( *)(?:pub(?:\(\w+\))? )?(?:const )?fn (\w+)", line)
         if function and at <= number + length(lines[number:], function[1]):
             module = os.path.basename(path)[: -len(".rt")]
             return function[2] if not owner and module in ("lib", "main") else f"{owner or module}::{function[2]}"
     return None
+
+
+def header(lines):
+    """The first of some lines; if an impl begins there, all of its header, as one line."""
+    end = next((number for number, line in enumerate(lines) if "{" in line), 0) if lines[0].startswith("impl") else 0
+    return " ".join(line.strip() for line in lines[: end + 1]) if end else lines[0]
 
 
 def length(lines, indent):
