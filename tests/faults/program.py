@@ -45,6 +45,7 @@ WRITE_LINE = "frameq: write failed\n"
 SUMS = '{"group_by":{"keys":["g"],"aggs":[["s","sum","v"]]}}'
 LEFT = '{"join":{"source":0,"on":["k"],"how":"left"}}'
 INNER = '{"join":{"source":0,"on":["k"],"how":"inner"}}'
+COUNTED = '{"group_by":{"keys":["k"],"aggs":[["n","len"]]}}'
 ROLLED = '{"rolling_sum":{"column":"v","window":3,"min_samples":2,"name":"r"}}'
 OVER_TEN = '{"filter":["gt",{"col":"v"},10]}'
 JOINED = ["k,w\n1,a\n,b\n1,c\n", "k,v\n2,10\n1,20\n,30\n"]
@@ -161,11 +162,11 @@ class Program:
 
     def run(self, arguments, under=(), **how):
         """The answer of a run, under another command if one is given; or why there is none."""
-        how = {"stdin": subprocess.DEVNULL, "stdout": subprocess.PIPE, "stderr": subprocess.PIPE, **how}
+        how = {"stdin": subprocess.DEVNULL, "stdout": subprocess.PIPE, "stderr": subprocess.PIPE, "timeout": LONGEST_RUN, **how}
         try:
-            ran = subprocess.run([*under, self.path, *arguments], timeout=LONGEST_RUN, **how)
+            ran = subprocess.run([*under, self.path, *arguments], **how)
         except subprocess.TimeoutExpired:
-            return Answer(None, "", f"it did not end in {LONGEST_RUN} s")
+            return Answer(None, "", f"it did not end in {how['timeout']} s")
         text = lambda them: (them or b"").decode(errors="replace")
         return Answer(ran.returncode, text(ran.stdout), text(ran.stderr))
 
@@ -443,6 +444,19 @@ def try_printing(count, program, library, room):
         try_setting(count, f"a long file in parts, {workers} workers", long(workers), library, "at-once", threads, threads)
     own = frame("v,s\n" + rows.replace("12345", "12345,12345"))
     try_sort(count, "a long file in parts", long(2), own, library, "read")
+
+
+def try_large_batches(count, program, library, room):
+    """A batch of 1,024 rows, of which each byte is a read, and one of which a join makes 102 parts: 6,656,000 rows, at most 65,536 a part."""
+    ones = lambda rows: write(f"{room}/{rows}-ones.csv", "k\n" + "1\n" * rows)
+    counted = ["--plan", write(f"{room}/counted.json", plan([source(1, "k int")], COUNTED)), ones(1024)]
+    joined = ["--plan", write(f"{room}/joined-ones.json", plan([source(1, "k int")] * 2, f"{INNER},{COUNTED}")), ones(6500), ones(1024)]
+    # (a program with run-time checks takes minutes)
+    answer, is_met = refuse(functools.partial(program.run, counted, timeout=20 * LONGEST_RUN), library, "short-reads", 2 * 1024)
+    is_right = is_met and answer == frame("k,n\n1,1024\n")
+    count.add("program, large batches", f"status {answer.status}", None if is_right else f"a byte a read: {answer}, {is_met}")
+    answer = program.run(joined, timeout=20 * LONGEST_RUN)
+    count.add("program, large batches", f"status {answer.status}", None if answer == frame("k,n\n1,6656000\n") else f"joined: {answer}")
 
 
 def try_random_case(count, program, library, room, case, own, draw):

@@ -8,6 +8,7 @@
        read          read answers EIO
        interrupt     read answers EINTR
        short-read    read asks for one byte
+       short-reads   each read asks for one byte; it is told if there are so many
        write         write answers EIO
        short-write   write takes one byte
        keep          fsync and rename answer EIO
@@ -95,7 +96,7 @@ long read(int file, void *buffer, size_t size) {
     meet_signal();
     if (is_refused("read")) return fails(EIO);
     if (is_refused("interrupt")) return fails(EINTR);
-    if (size > 1 && is_refused("short-read")) size = 1;
+    if (size > 1 && (is_refused("short-read") || is_refused("short-reads") || is_sort("short-reads"))) size = 1;
     return syscall(READ, (long)file, buffer, size);
 }
 
