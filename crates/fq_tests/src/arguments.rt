@@ -365,10 +365,10 @@ fn a_plan_that_is_explained(rt: HostRuntime) -> Result<(), Fail> {
         &rt,
         rt.alloc(),
         "--plan plan --explain",
-        r#"{"version":1,"sources":[{"files":1,"columns":[["customer","int"],["na\"me","text"]]},{"files":2,"columns":[["id","int"],["customer","int"],["paid","bool"]]}],"steps":[{"filter":{"col":"paid"}},{"with_columns":[["twice",["add",{"col":"id"},{"col":"id"}]]]},{"join":{"source":0,"on":["customer"],"how":"left"}},{"select":[["na\"me",{"col":"na\"me"}],["id",{"col":"id"}]]},{"group_by":{"keys":["na\"me"],"aggs":[["orders","len"]]}},{"rolling_sum":{"column":"orders","window":2,"min_samples":1,"name":"sum"}}]}"#,
+        r#"{"version":1,"sources":[{"files":1,"columns":[["customer","int"],["na\"me","text"]]},{"files":2,"columns":[["id","int"],["customer","int"],["paid","bool"]]}],"steps":[{"filter":{"col":"paid"}},{"with_columns":[["twice",["add",{"col":"id"},{"col":"id"}]]]},{"join":{"source":0,"on":["customer"],"how":"left"}},{"select":[["na\"me",{"col":"na\"me"}],["id",{"col":"paid"}]]},{"group_by":{"keys":["na\"me"],"aggs":[["orders","len"]]}},{"rolling_sum":{"column":"orders","window":2,"min_samples":1,"name":"sum"}}]}"#,
         &[],
         "",
-        "source 0, 1 file: \"customer\" int, \"na\\\"me\" text\nsource 1, 2 files: \"id\" int, \"customer\" int, \"paid\" bool\nstep 0, filter, in the workers: \"id\" int, \"customer\" int, \"paid\" bool\nstep 1, with_columns, in the workers: \"id\" int, \"customer\" int, \"paid\" bool, + \"twice\" int\nstep 2, join, afterwards: \"id\" int, \"customer\" int, \"paid\" bool, \"twice\" int, + \"na\\\"me\" text\nstep 3, select, afterwards: \"na\\\"me\" text, \"id\" int\nstep 4, group_by, afterwards: \"na\\\"me\" text, + \"orders\" int\nstep 5, rolling_sum, afterwards: \"na\\\"me\" text, \"orders\" int, + \"sum\" int\n",
+        "source 0, 1 file: \"customer\" int, \"na\\\"me\" text\nsource 1, 2 files: \"id\" int, \"customer\" int, \"paid\" bool\nstep 0, filter, in the workers: \"id\" int, \"customer\" int, \"paid\" bool\nstep 1, with_columns, in the workers: \"id\" int, \"customer\" int, \"paid\" bool, + \"twice\" int\nstep 2, join, afterwards: \"id\" int, \"customer\" int, \"paid\" bool, \"twice\" int, + \"na\\\"me\" text\nstep 3, select, afterwards: \"na\\\"me\" text, + \"id\" bool\nstep 4, group_by, afterwards: \"na\\\"me\" text, + \"orders\" int\nstep 5, rolling_sum, afterwards: \"na\\\"me\" text, \"orders\" int, + \"sum\" int\n",
     )
 }
 
