@@ -1,5 +1,6 @@
 """The built program when the operating system refuses something."""
 import contextlib
+import errno
 import os
 import pty
 import select
@@ -23,6 +24,11 @@ def limit(kind, most):
 def closing(descriptor):
     """The command under which a program has this descriptor closed."""
     return ["sh", "-c", f'exec "$@" {descriptor}>&-', "sh"]
+
+
+def unwritten(name, number):
+    """The answer with --details where a write into this failed by an error of this number."""
+    return Answer(5, "", f"{WRITE_LINE}  {name}: {os.strerror(number)}\n")
 
 
 def check(count, kind, what, answer, allowed):
@@ -87,6 +93,8 @@ def devices(count, program, rows):
         wanted = Answer(5, "", WRITE_LINE)
         with open("/dev/full", "wb") as full:
             check(count, "full device", name, program.run(arguments, stdout=full), lambda it: it == wanted)
+            answer = program.run(["--details", *arguments], stdout=full)
+            check(count, "full device", f"{name}, with details", answer, lambda it: it == unwritten("standard output", errno.ENOSPC))
             check(count, "full standard error", name, program.run(arguments, stderr=full), lambda it, own=own: it == own)
         for restores in (True, False):
             reader, writer = os.pipe()
@@ -157,8 +165,8 @@ def outputs(count, program, room):
     steps, data = write(f"{room}/plan.json", plan([source(1, "v int")], "")), write(f"{room}/v.csv", text)
     bad = write(f"{room}/bad.csv", "v\nx\n")
 
-    def into(what, path, file, wanted, holds, **how):
-        answer = program.run(["--plan", steps, "-o", path, file], **how)
+    def into(what, path, file, wanted, holds, *options, **how):
+        answer = program.run([*options, "--plan", steps, "-o", path, file], **how)
         said = None
         if holds is not None:
             with open(path, encoding="utf-8") as opened:
@@ -167,7 +175,11 @@ def outputs(count, program, room):
         is_right = lambda it: it == wanted and said == holds and not new
         check(count, "output file", f"{what}: holds {said!r}, beside it {new}", answer, is_right)
 
-    done, failed = Answer(0, "", ""), Answer(5, "", WRITE_LINE)
+    def fails_into(what, path, number, holds, **how):
+        into(what, path, data, Answer(5, "", WRITE_LINE), holds, **how)
+        into(f"{what}, with details", path, data, unwritten(path, number), holds, "--details", **how)
+
+    done = Answer(0, "", "")
     into("a new file", f"{room}/new.csv", data, done, text)
     own = write(f"{room}/own.csv", text)
     os.chmod(own, 0o640)
@@ -178,9 +190,9 @@ def outputs(count, program, room):
     into("a link", f"{room}/link.csv", data, done, text)
     check(count, "output file", "the link", Answer(int(os.path.islink(f"{room}/link.csv")), "", ""), lambda it: it.status == 1)
     write(f"{room}/other.csv", other)
-    into("a limited size", f"{room}/other.csv", data, failed, other, under=limit("fsize", 3), restore_signals=False)
+    fails_into("a limited size", f"{room}/other.csv", errno.EFBIG, other, under=limit("fsize", 3), restore_signals=False)
     os.symlink("nothing.csv", f"{room}/dangling.csv")
-    into("a link to nothing", f"{room}/dangling.csv", data, failed, None)
+    fails_into("a link to nothing", f"{room}/dangling.csv", errno.ENOENT, None)
     check(count, "output file", "what it leads to", Answer(int(os.path.exists(f"{room}/nothing.csv")), "", ""), lambda it: it.status == 0)
     refused, own_plan = fault(2, "the frame would replace the plan"), plan([source(1, "v int")], "")
     os.symlink("plan.json", f"{room}/plan-link.json")
@@ -188,9 +200,9 @@ def outputs(count, program, room):
     for name in ("plan.json", "./plan.json", "plan-link.json", "plan-other.json"):
         into(f"the plan by {name}", f"{room}/{name}", data, refused, own_plan)
         into(f"the plan by {name}, before a file is opened", f"{room}/{name}", f"{room}/none.csv", refused, own_plan)
-    into("a folder that is not there", f"{room}/none/new.csv", data, failed, None)
-    into("a folder", room, data, failed, None)
-    into("a full device", "/dev/full", data, failed, None)
+    fails_into("a folder that is not there", f"{room}/none/new.csv", errno.ENOENT, None)
+    fails_into("a folder", room, errno.EISDIR, None)
+    fails_into("a full device", "/dev/full", errno.ENOSPC, None)
     interrupted_outputs(count, program, room, steps, into)
 
 
