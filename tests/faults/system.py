@@ -185,6 +185,16 @@ def outputs(count, program, room):
     os.chmod(own, 0o640)
     into("an input", own, own, done, text)
     check(count, "output file", "its permissions", Answer(os.stat(own).st_mode & 0o777, "", ""), lambda it: it.status == 0o640)
+    for owner, group in (0, 1), (1, 0):
+        try:
+            os.chown(own, owner, group)
+        except OSError as error:
+            print(f"system, output file: not run with owner {owner} and group {group}: {error}")
+            continue
+        into(f"an input of owner {owner} and group {group}", own, own, done, text)
+        there = os.stat(own)
+        check(count, "output file", "its owner and group", Answer(0, f"{there.st_uid} {there.st_gid}", ""),
+              lambda it, owner=owner, group=group: it.out == f"{owner} {group}")
     into("a fault", write(f"{room}/other.csv", other), bad, fault(4, "file 0, row 1, column 0: bad cell"), other)
     os.symlink("other.csv", f"{room}/link.csv")
     into("a link", f"{room}/link.csv", data, done, text)
