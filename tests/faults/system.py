@@ -318,6 +318,12 @@ def terminal(count, program, room):
     check(count, "terminal", "--progress without one", program.run(watched), lambda it: it == frame(text))
     answer = program.run(watched, stderr=terminal)._replace(err=read_terminal(controller))
     check(count, "terminal", "--progress", answer, lambda it: it == Answer(0, text, shown))
+    half = write(f"{room}/half.csv", "v\n" + "1234567\n" * 150_000)
+    both = ["--progress", "--plan", write(f"{room}/halves.json", plan([source(2, "v int")], "")), half, half]
+    # (files are read side by side, so their lines come in any order)
+    answer = program.run(both, stderr=terminal)._replace(err=sorted(read_terminal(controller).split("\r\x1b[K")))
+    shown = [""] * 4 + ["frameq: file 0: 1 of 1 MB", "frameq: file 1: 1 of 1 MB"]
+    check(count, "terminal", "--progress of two files", answer, lambda it: it == Answer(0, text, shown))
     os.close(controller)
     os.close(terminal)
 
