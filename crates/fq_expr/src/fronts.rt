@@ -1,5 +1,5 @@
 //! The row-wise steps of a plan, over one batch at a time.
-ghost use Rattle.std.specs.Prelude.{◌≡◌, ◌+◌, ◌≤◌, ◌==◌, Some, length, map, vec_len, IfOk, IsOk};
+ghost use Rattle.std.specs.Prelude.{◌≡◌, ◌+◌, ◌≤◌, ◌==◌, ◌++◌, ◌∷◌, [], Some, length, map, vec_len, IfOk, IsOk, OnErr, OnOk};
 ghost use Rattle.std.specs.Option.{option_map_or};
 ghost use Rattle.fq_column.specs.Stream.{done};
 ghost use Rattle.fq_expr.specs.Front.{fault_at};
@@ -77,6 +77,16 @@ impl Front {
             schema,
             first,
         })
+    }
+
+    /// One more step at the end. If an allocation fails, the front is as it was.
+    pub fn push(&mut self, step: RowStep) -> Result<(), Memory>
+        requires schemas { IsOk (steps_schema self.old.fields (self.old.steps ++ step_of step ∷ [])) }
+        requires numbers { self.old.first + length self.old.steps + 1 ≤ MAX_STEPS }
+        ensures ok { OnOk result (self.new ≡ record self.old { steps = self.old.steps ++ step_of step ∷ [] }) }
+        ensures err { OnErr result (self.new ≡ self.old) }
+    {
+        Ok(self.steps.push(step)?)
     }
 
     /// The schema before the first step.

@@ -1,6 +1,6 @@
 -- What the check has judged so far, and what is left to judge.
-use Rattle.std.proofs.Common.{◌≡◌, ℕ, suc, ◌+◌, List, [], ◌∷◌, ◌++◌, map, length, pos, string_bytes, Option, Some, None, Result, Ok, Err, refl, ap, sym, ◌∙◌, subst, inl, inr, arith, append_assoc, append-nil, length-append}
-use Rattle.std.specs.Prelude.{IsOk}
+use Rattle.std.proofs.Common.{◌≡◌, ℕ, zero, suc, ◌+◌, List, [], ◌∷◌, ◌++◌, map, length, pos, string_bytes, Option, Some, None, Result, Ok, Err, refl, ap, sym, ◌∙◌, subst, inl, inr, arith, append_assoc, append-nil, length-append}
+use Rattle.std.specs.Prelude.{IsOk, slice_index_or, slice_set}
 use Rattle.std.specs.Result.{result_map_both}
 use Rattle.std.proofs.lemmas.List.{length-map, map-append}
 use Rattle.fq_column.specs.declared.faults.StepFault.{StepFault}
@@ -8,13 +8,13 @@ use Rattle.fq_column.specs.Frame.{Fields, names_of}
 use Rattle.fq_column.specs.Refusal.{first_refusal, and_then, IsJudgement}
 use Rattle.fq_column.specs.Schema.{schema_checks}
 use Rattle.fq_expr.specs.Expression.{Step}
-use Rattle.fq_expr.specs.ExpressionData.{step_of}
+use Rattle.fq_expr.specs.Front.{NumberedSteps}
 use Rattle.fq_expr.specs.Kinds.{step_schema, steps_schema}
 use Rattle.fq_ops.specs.AggregateData.{outputs_of}
 use Rattle.fq_language.specs.Judged.{judged_step, judged_steps, refused_at, source_refusal}
 use Rattle.fq_language.specs.Plan.{PlanStep, row_wise, join, group_by, rolling_sum}
 use Rattle.fq_csv.specs.Sources.{Source, last_or}
-use Rattle.fq_plan.specs.Stages.{columns_after, leading_stage, operator_steps, stage_steps, stages_of, Leads, LowersTo}
+use Rattle.fq_plan.specs.Stages.{columns_after, operator_steps, stage_steps, stages_of, Leads, LowersTo}
 use Rattle.fq_plan.specs.declared.checks.steps.PassedSteps.{PassedSteps}
 use Rattle.fq_language.specs.declared.faults.CheckFault.{CheckFault}
 use Rattle.fq_language.specs.declared.faults.Place.TheVariants as place
@@ -167,27 +167,75 @@ module _ (sides : List Fields) where
         leads-further (n + length steps) x.after stages mid s m h.2 (omega (arith, q, length-append steps (stage_steps stages))) number turns,
       )
 
+  -- the stages before the last lead to the columns that it takes
+  leads-last : (n : ℕ) (fields : Fields) (stages : List Stage) (s : Stage) (after : Fields) → Leads sides n fields (stages ++ s ∷ []) after →
+      (mid : Fields) × Leads sides n fields stages mid × (s.number ≡ n + length (stage_steps stages)) × LowersTo sides (n + length (stage_steps stages)) mid s.operator s.after
+  leads-last n fields [] s after h =
+      let here : n ≡ n + 0 = omega arith in
+      (fields, refl, h.0 ∙ here, subst (λ m. LowersTo sides m fields s.operator s.after) here h.1)
+  leads-last n fields (x ∷ stages) s after h =
+      let steps = operator_steps x.operator in
+      let l = leads-last (n + length steps) x.after stages s after h.2 in
+      let count : n + length steps + length (stage_steps stages) ≡ n + length (steps ++ stage_steps stages) = omega (arith, length-append steps (stage_steps stages)) in
+      (l.0, (h.0, h.1, l.1), l.2 ∙ count, subst (λ m. LowersTo sides m l.0 s.operator s.after) count l.3)
+
+  -- below, the last stage is of row-wise steps
+  module _ (n : ℕ) (fields : Fields) (stages : List Stage) (s : Stage) (front : NumberedSteps) (rows : s.operator ≡ Rows front) (after : Fields) (leads : Leads sides n fields (stages ++ s ∷ []) after) where
+    taken : (mid : Fields) × Leads sides n fields stages mid × (s.number ≡ n + length (stage_steps stages)) × LowersTo sides (n + length (stage_steps stages)) mid (Rows front) s.after
+    taken = subst (λ (o : Operator). (mid : Fields) × Leads sides n fields stages mid × (s.number ≡ n + length (stage_steps stages)) × LowersTo sides (n + length (stage_steps stages)) mid o s.after) rows (leads-last n fields stages s after leads)
+
+    pub rows-number : front.first + length front.steps ≡ n + length (stage_steps (stages ++ s ∷ []))
+    rows-number =
+        omega (arith, taken.3.1, ap length (stage_steps-snoc stages s), length-append (stage_steps stages) (operator_steps s.operator), ap (λ (o : Operator). length (operator_steps o)) rows, length-map front.steps row_wise)
+
+    pub rows-schema : steps_schema front.fields front.steps ≡ Ok s.after
+    rows-schema = ap (λ fs. steps_schema fs front.steps) taken.3.0 ∙ taken.3.2
+
+    -- below, there is one more
+    module _ (more : NumberedSteps) (x : Step) (is : more ≡ record front { steps = front.steps ++ x ∷ [] }) (last : Fields) where
+      abbrev pub with-rows : Stage
+      with-rows = record { number = s.number; operator = Rows more; after = last }
+
+      pub rows-steps : stage_steps (stages ++ with-rows ∷ []) ≡ stage_steps (stages ++ s ∷ []) ++ row_wise x ∷ []
+      rows-steps =
+          stage_steps-snoc stages with-rows
+          ∙ ap (λ (f : NumberedSteps). stage_steps stages ++ map row_wise f.steps) is
+          ∙ ap (λ ss. stage_steps stages ++ ss) (map-append row_wise front.steps (x ∷ []) ∙ ap (λ (o : Operator). operator_steps o ++ row_wise x ∷ []) (sym rows))
+          ∙ sym (append_assoc (stage_steps stages) (operator_steps s.operator) (row_wise x ∷ []))
+          ∙ ap (λ ss. ss ++ row_wise x ∷ []) (sym (stage_steps-snoc stages s))
+
+      pub rows-further : steps_schema more.fields more.steps ≡ Ok last → Leads sides n fields (stages ++ with-rows ∷ []) last
+      rows-further e =
+          let takes : more.fields ≡ taken.0 = ap (λ (f : NumberedSteps). f.fields) is ∙ taken.3.0 in
+          leads-further n fields stages taken.0 with-rows (n + length (stage_steps stages)) taken.1 refl taken.2
+          (takes, ap (λ (f : NumberedSteps). f.first) is ∙ taken.3.1, ap (λ fs. steps_schema fs more.steps) (sym takes) ∙ e)
+
 -- ---- steps that passed, and one more
 
-no-stage : (ss : List Stage) → length ss ≡ 0 → ss ≡ []
+-- stages that end in one, and the same with another in its place
+pub ends-in : (ss : List Stage) (s t : Stage) (m : ℕ) → suc m ≡ length ss → s ≡ slice_index_or ss m s → (before : List Stage) × (ss ≡ before ++ s ∷ []) × (slice_set ss m t ≡ before ++ t ∷ [])
+ends-in [] s t m some is = absurd (omega (arith, some))
+ends-in (x ∷ []) s t zero some is = ([], ap (λ y. y ∷ []) (sym is), refl)
+ends-in (x ∷ []) s t (suc m) some is = absurd (omega (arith, some))
+ends-in (x ∷ y ∷ ss) s t zero some is = absurd (omega (arith, some))
+ends-in (x ∷ y ∷ ss) s t (suc m) some is =
+    let rest = ends-in (y ∷ ss) s t m (omega (arith, some)) is in
+    (x ∷ rest.0, ap (λ zs. x ∷ zs) rest.1, ap (λ zs. x ∷ zs) rest.2)
+
+pub same-last : (ss : List Stage) (s : Stage) (m : ℕ) → suc m ≡ length ss → s ≡ slice_index_or ss m s → slice_set ss m s ≡ ss
+same-last ss s m some is = let e = ends-in ss s s m some is in e.2 ∙ sym e.1
+
+pub columns-last : (d : Fields) (before : List Stage) (s : Stage) → last_or d (map (λ (t : Stage). t.after) (before ++ s ∷ [])) ≡ s.after
+columns-last d before s = ap (last_or d) (map-append (λ (t : Stage). t.after) before (s ∷ [])) ∙ last_or-snoc d (map (λ (t : Stage). t.after) before) s.after
+
+pub no-stage : (ss : List Stage) → length ss ≡ 0 → ss ≡ []
 no-stage [] e = refl
 no-stage (s ∷ ss) e = absurd (omega (arith, e))
-
--- a leading row-wise step
-pub lead-further : (sides : List Fields) (p : PassedSteps) (steps : List Step) (x : Step) (after main : Fields) → length p.stages.items ≡ 0 → steps ≡ map step_of p.leading.items ++ x ∷ [] →
-    step_schema p.after_leading x ≡ Ok after → Leads sides 0 main (stages_of p) (columns_after p) →
-    Leads sides 0 main (leading_stage (record { steps = steps; fields = p.main; first = 0 }) after ∷ p.stages.items) (last_or after (map (λ (s : Stage). s.after) p.stages.items))
-lead-further sides p steps x after main none leading e h = (
-  refl,
-  (h.1.0, refl, ap (steps_schema main) leading ∙ schema-further main (map step_of p.leading.items) x p.after_leading after h.1.2 e),
-  subst (λ (ss : List Stage). Leads sides (0 + length (map row_wise steps)) after ss (last_or after (map (λ (s : Stage). s.after) ss))) (sym (no-stage p.stages.items none)) refl,
-)
 
 -- a stage
 pub stage-further : (sides : List Fields) (p : PassedSteps) (s : Stage) → s.number ≡ length (stage_steps (stages_of p)) → LowersTo sides s.number (columns_after p) s.operator s.after → (main : Fields) →
     Leads sides 0 main (stages_of p) (columns_after p) →
     Leads sides 0 main (stages_of p ++ s ∷ []) (last_or p.after_leading (map (λ (t : Stage). t.after) (p.stages.items ++ s ∷ [])))
 stage-further sides p s number turns main h =
-    subst (λ (f : Fields). Leads sides 0 main (stages_of p ++ s ∷ []) f)
-    (sym (ap (last_or p.after_leading) (map-append (λ (t : Stage). t.after) p.stages.items (s ∷ [])) ∙ last_or-snoc p.after_leading (map (λ (t : Stage). t.after) p.stages.items) s.after))
+    subst (λ (f : Fields). Leads sides 0 main (stages_of p ++ s ∷ []) f) (sym (columns-last p.after_leading p.stages.items s))
     (leads-further sides 0 main (stages_of p) (columns_after p) s s.number h (omega (arith, number)) refl turns)

@@ -76,11 +76,11 @@ module _ (p : PassedSteps) where
   needed_of = needed_before_all (stage_steps (stages_of p)) (names_of (columns_after p))
 
   pub marks-are : (sides : List Fields) (main : Fields) → Leads sides 0 main (stages_of p) (columns_after p) →
-      (k : ℕ) (marks : List Bool) → length p.main ≤ k → marks ≡ take k (map (has_name needed_of) (names_of p.main)) →
+      (k : ℕ) (marks : List Bool) → length p.leading.fields ≤ k → marks ≡ take k (map (has_name needed_of) (names_of p.leading.fields)) →
       marks ≡ marked (needed_before_steps sides main (stage_steps (stages_of p))) main
   marks-are sides main leads k marks le e =
-      let all = map (has_name needed_of) (names_of p.main) in
-      let count : length all ≤ k = omega (arith, le, length-map (names_of p.main) (has_name needed_of), length-map p.main (λ f. f.0)) in
+      let all = map (has_name needed_of) (names_of p.leading.fields) in
+      let count : length all ≤ k = omega (arith, le, length-map (names_of p.leading.fields) (has_name needed_of), length-map p.leading.fields (λ f. f.0)) in
       e ∙ take_all k all count ∙ (λ i. map (has_name (sym (stages-before sides 0 main (stages_of p) (columns_after p) leads) i)) (names_of (leads.1.0 i)))
 
 -- a name that has a place

@@ -2,7 +2,6 @@
 use Rattle.std.specs.Prelude.{◌≡◌, ℕ, ◌+◌, ◌-◌, pos, Bool, List, [], ◌∷◌, ◌++◌, map, flat_map, length, drop, string_bytes, None, Ok}
 use Rattle.fq_column.specs.Frame.{Fields}
 use Rattle.fq_column.specs.declared.faults.StepFault.TheVariants.{Memory}
-use Rattle.fq_expr.specs.ExpressionData.{step_of}
 use Rattle.fq_expr.specs.Front.{NumberedSteps}
 use Rattle.fq_expr.specs.Kinds.{steps_schema}
 use Rattle.fq_ops.specs.AggregateData.{outputs_of}
@@ -60,7 +59,7 @@ leading_stage front after = record { number = front.first; operator = Rows front
 
 -- the leading row-wise steps as a stage, and the stages after them
 abbrev pub stages_of : PassedSteps → List Stage
-stages_of p = leading_stage (record { steps = map step_of p.leading.items; fields = p.main; first = 0 }) p.after_leading ∷ p.stages.items
+stages_of p = leading_stage p.leading p.after_leading ∷ p.stages.items
 
 -- the columns after steps
 abbrev pub columns_after : PassedSteps → Fields

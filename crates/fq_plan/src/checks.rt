@@ -5,7 +5,6 @@ ghost use Rattle.fq_language.specs.Judged.{checked, judged, IsPlaceOf};
 ghost use Rattle.fq_language.specs.Plan.{files_wanted};
 
 use fq_column::StepFault;
-use fq_expr::Front;
 use fq_language::{CheckFault, Place, Plan};
 use fq_notation::Notations;
 use fq_run::PhysicalPlan;
@@ -72,16 +71,12 @@ impl Check for Plan {
         };
         let main = keeping(main, marks);
         let PassedSteps {
-            main: fields,
             leading,
             after_leading,
             stages,
         } = passed;
-        let Ok(front) = Front::new(alloc, leading, fields, 0) else {
-            unreachable!()
-        };
         let plain = Notations::plain(alloc);
-        let physical = PhysicalPlan::new(alloc, sides, main, front, after_leading, stages, plain);
+        let physical = PhysicalPlan::new(alloc, sides, main, leading, after_leading, stages, plain);
         Ok(Checked { physical })
     }
 }

@@ -5,7 +5,7 @@ use Rattle.std.specs.Result.{result_map_both}
 use Rattle.std.proofs.Common.{◌≡◌, ℕ, suc, ◌+◌, ◌<◌, Bool, true, false, nat_lt, List, [], ◌∷◌, ◌++◌, map, length, flat_map, take, drop, Option, Some, None, option_map, Ok, Err, refl, ap, sym, ◌∙◌, arith, append-nil, cond, length-append}
 use Rattle.std.proofs.lemmas.List.{length-map}
 use Rattle.fq_column.specs.Frame.{Fields, Row, kinds_of}
-use Rattle.fq_column.specs.Lists.{all_or_missing, numbers, pieces, zip_with}
+use Rattle.fq_column.specs.Lists.{all_or_missing, numbers, pieces}
 use Rattle.fq_column.specs.Schema.{same_fields}
 use Rattle.fq_column.specs.SchemaLaws.{same_fields_decides}
 use Rattle.fq_column.specs.Masked.{masked}

@@ -7,7 +7,7 @@ use Rattle.std.specs.Result.{result_map_both}
 use Rattle.fq_column.specs.declared.cells.Cell.{Cell}
 use Rattle.fq_column.specs.declared.cells.Kind.{Kind}
 use Rattle.fq_column.specs.Frame.{Fields, Row, kinds_of, names_of, same_name}
-use Rattle.fq_column.specs.Lists.{all_or_missing, pieces, zip_with}
+use Rattle.fq_column.specs.Lists.{all_or_missing, pieces}
 use Rattle.fq_column.specs.Masked.{masked}
 use Rattle.fq_column.specs.Stream.{Stream, done, faulted, one_by_one, then_stream}
 use Rattle.fq_notation.specs.declared.notations.Notation.{Notation}

@@ -1,9 +1,9 @@
 //! What a physical plan reads and does, for people.
-use crate::operators::row_word;
+use crate::operators::Operator;
 use crate::physical_plans::PhysicalPlan;
-use crate::stages::Stage;
 use fq_column::{Memory, Schema};
 use fq_csv::{SourceFiles, kind_word};
+use fq_expr::{Front, RowStep};
 use std::alloc::Global;
 use std::fmt;
 use std::fmt::{Display, Formatter, Write};
@@ -16,17 +16,37 @@ use std::fmt::{Display, Formatter, Write};
 #[derive(Drop)]
 pub struct Explanation<'a> {
     plan: &'a PhysicalPlan,
-    /// The columns after each leading step.
-    leading: Vec<Schema>,
+    steps: Vec<ExplainedStep>,
+}
+
+// A step.
+#[derive(Drop)]
+struct ExplainedStep {
+    // its word in the plan language
+    word: &'static str,
+    // the columns that it leaves
+    after: Schema,
 }
 
 impl PhysicalPlan {
     /// What the plan reads and does. `Memory` if an allocation fails.
     pub fn explain(&self, alloc: Global) -> Result<Explanation<'_>, Memory> {
-        Ok(Explanation {
-            plan: self,
-            leading: self.leading.front.schemas(alloc)?,
-        })
+        let mut steps = Vec::new(alloc);
+        push_rows(alloc, &mut steps, &self.leading.front)?;
+        for stage in &self.stages {
+            let word = match &stage.operator {
+                Operator::Rows(front) => {
+                    push_rows(alloc, &mut steps, front)?;
+                    continue;
+                }
+                Operator::Join(_) => "join",
+                Operator::GroupBy(_) => "group_by",
+                Operator::RollingSum(_) => "rolling_sum",
+            };
+            let after = stage.after.copy(alloc)?;
+            steps.push(ExplainedStep { word, after })?;
+        }
+        Ok(Explanation { plan: self, steps })
     }
 }
 
@@ -34,8 +54,37 @@ impl Display for Explanation<'_> {
     fn fmt<W: Write>(&self, f: &mut Formatter<W>) -> fmt::Result {
         let plan = self.plan;
         write_sources(f, plan)?;
-        let before = write_leading(f, plan, &self.leading)?;
-        write_stages(f, before, &plan.stages)
+        let leading = plan.leading.front.steps().len();
+        let mut before = &plan.main.layout.schema;
+        for (number, step) in self.steps.iter().enumerate() {
+            let place = if number < leading {
+                "in the workers"
+            } else {
+                "afterwards"
+            };
+            write!(f, "step {number}, {}, {place}:", step.word)?;
+            write_changes(f, before, &step.after)?;
+            before = &step.after;
+        }
+        Ok(())
+    }
+}
+
+// Appends row-wise steps.
+fn push_rows(alloc: Global, steps: &mut Vec<ExplainedStep>, front: &Front) -> Result<(), Memory> {
+    for (step, after) in front.steps().iter().zip(front.schemas(alloc)?) {
+        let word = row_word(step);
+        steps.push(ExplainedStep { word, after })?;
+    }
+    Ok(())
+}
+
+// The word of a row-wise step in the plan language.
+fn row_word(step: &RowStep) -> &'static str {
+    match step {
+        RowStep::Filter(_) => "filter",
+        RowStep::WithColumns(_) => "with_columns",
+        RowStep::Select(_) => "select",
     }
 }
 
@@ -45,37 +94,6 @@ fn write_sources<W: Write>(f: &mut Formatter<W>, plan: &PhysicalPlan) -> fmt::Re
         write_source(f, number, source)?;
     }
     write_source(f, plan.sides.len(), &plan.main)
-}
-
-// The lines of the leading steps. Answers the columns that they leave.
-fn write_leading<'a, W: Write>(
-    f: &mut Formatter<W>,
-    plan: &'a PhysicalPlan,
-    schemas: &'a [Schema],
-) -> Result<&'a Schema, fmt::Error> {
-    let mut before = &plan.main.layout.schema;
-    let steps = plan.leading.front.steps().iter();
-    for (number, (step, after)) in steps.zip(schemas).enumerate() {
-        write!(f, "step {number}, {}, in the workers:", row_word(step))?;
-        write_changes(f, before, after)?;
-        before = after;
-    }
-    Ok(before)
-}
-
-// The lines of the steps after the leading ones, which leave these columns.
-fn write_stages<'a, W: Write>(
-    f: &mut Formatter<W>,
-    mut before: &'a Schema,
-    stages: &'a [Stage],
-) -> fmt::Result {
-    for stage in stages {
-        let word = stage.operator.word();
-        write!(f, "step {}, {word}, afterwards:", stage.number)?;
-        write_changes(f, before, &stage.after)?;
-        before = &stage.after;
-    }
-    Ok(())
 }
 
 // A source's line.

@@ -14,7 +14,7 @@ mod rolling;
 use crate::passed::Passed;
 use crate::stages::Stage;
 use fq_column::{Batch, Memory, Schema};
-use fq_expr::{Front, Piece, RowStep};
+use fq_expr::{Front, Piece};
 use fq_ops::Probe;
 pub use grouping::GroupBy;
 pub(crate) use grouping::Grouping;
@@ -38,16 +38,6 @@ pub enum Operator {
 }
 
 impl Operator {
-    /// The word of its first step in the plan language.
-    pub(crate) fn word(&self) -> &'static str {
-        match self {
-            Operator::Rows(front) => front.steps().first().map_or("", row_word),
-            Operator::Join(_) => "join",
-            Operator::GroupBy(_) => "group_by",
-            Operator::RollingSum(_) => "rolling_sum",
-        }
-    }
-
     /// Whether it is a join with a source.
     pub(crate) fn joins(&self, source: usize) -> bool
         ensures { result ≡ joins_source source self.now }
@@ -56,15 +46,6 @@ impl Operator {
             Operator::Join(join) => join.source == source,
             Operator::Rows(_) | Operator::GroupBy(_) | Operator::RollingSum(_) => false,
         }
-    }
-}
-
-/// The word of a row-wise step in the plan language.
-pub(crate) fn row_word(step: &RowStep) -> &'static str {
-    match step {
-        RowStep::Filter(_) => "filter",
-        RowStep::WithColumns(_) => "with_columns",
-        RowStep::Select(_) => "select",
     }
 }
 

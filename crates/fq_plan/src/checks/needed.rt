@@ -21,9 +21,10 @@ impl PassedSteps {
         ensures { IfOk result (λ marks. (sides : List Fields) (main : Fields) → Leads sides 0 main (stages_of self.now) (columns_after self.now) →
             marks.items ≡ marked (needed_before_steps sides main (stage_steps (stages_of self.now))) main) }
     {
-        let mut marks = Vec::with_capacity(alloc, self.main.len())?;
-        for i in 0..self.main.len() {
-            marks.push(self.need(self.main.name(i)))?;
+        let main = self.leading.schema();
+        let mut marks = Vec::with_capacity(alloc, main.len())?;
+        for i in 0..main.len() {
+            marks.push(self.need(main.name(i)))?;
         }
         Ok(marks)
     }
@@ -34,7 +35,7 @@ impl PassedSteps {
     {
         let last = self.schema().position(name).is_some();
         let after_leading = stages_need(self.stages.as_slice(), name, last);
-        rows_need(self.leading.as_slice(), name, after_leading)
+        rows_need(self.leading.steps(), name, after_leading)
     }
 }
 

@@ -1,7 +1,7 @@
 //! The check of a plan's steps.
 ghost use Rattle.std.specs.Prelude.{◌≡◌, ◌⊎◌, ◌+◌, ◌≤◌, ◌++◌, ◌∷◌, [], ℕ, List, Ok, Err, Some, None, map, length, vec_len, MatchOption, IfOk, IfErr, pos, string_bytes, OnOk};
 ghost use Rattle.fq_column.specs.Frame.{Fields};
-ghost use Rattle.fq_expr.specs.Kinds.{step_schema};
+ghost use Rattle.fq_expr.specs.Kinds.{step_schema, steps_schema};
 ghost use Rattle.fq_expr.specs.ExpressionData.{step_of};
 ghost use Rattle.fq_ops.specs.Group.{group_schema as group_schema_of};
 ghost use Rattle.fq_ops.specs.AggregateData.{outputs_of};
@@ -19,13 +19,11 @@ use fq_ops::{Agg, How, group_schema, join_schema, roll_schema};
 use fq_run::{GroupBy, Join, Operator, RollingSum, Stage};
 use std::alloc::Global;
 
-/// Steps that passed the check, as a physical plan has them.
+/// Steps that passed the check, as a physical plan has them. Row-wise steps that follow each other are of one stage.
 #[derive(Drop)]
 pub struct PassedSteps {
-    /// The main source's columns.
-    pub main: Schema,
-    /// The leading row-wise steps.
-    pub leading: Vec<RowStep>,
+    /// The leading row-wise steps, on the main source's columns.
+    pub leading: Front,
     pub after_leading: Schema,
     pub stages: Vec<Stage>,
 }
@@ -65,8 +63,7 @@ impl PassedSteps {
         ensures leads { IfOk result (λ passed. (sides : List Fields) → Leads sides 0 main.now (stages_of passed) (columns_after passed)) }
     {
         Ok(PassedSteps {
-            main: main.copy(alloc)?,
-            leading: Vec::new(alloc),
+            leading: Front::new(alloc, Vec::new(alloc), main.copy(alloc)?, 0)?,
             after_leading: main.copy(alloc)?,
             stages: Vec::new(alloc),
         })
@@ -82,25 +79,72 @@ impl PassedSteps {
     ) -> Result<(), StepFault>
         requires number { number ≡ length (stage_steps (stages_of self.old)) }
         requires few { number + 1 ≤ MAX_STEPS }
+        requires leads { (main : Fields) × Leads (columns_of sides.now) 0 main (stages_of self.old) (columns_after self.old) }
         ensures step { OnOk result (stage_steps (stages_of self.new) ≡ stage_steps (stages_of self.old) ++ plan_step_of step ∷ []) }
         ensures leads { OnOk result ((main : Fields) → Leads (columns_of sides.now) 0 main (stages_of self.old) (columns_after self.old) → Leads (columns_of sides.now) 0 main (stages_of self.new) (columns_after self.new)) }
         ensures refused { IfErr result (λ code. (judged_step (columns_of sides.now) (columns_after self.old) (plan_step_of step) ≡ Err code) ⊎ (code ≡ StepFault.Memory)) }
     {
         match step {
-            Step::Rows(step) if self.stages.is_empty() => {
-                self.after_leading = step.schema(alloc, &self.after_leading)?;
-                Ok(self.leading.push(step)?)
+            Step::Rows(step) => self.add_rows(alloc, number, step),
+            Step::Join {
+                source,
+                on,
+                how,
+                nulls_equal,
+            } => {
+                let join = check_join(alloc, sides, self.schema(), source, on, how, nulls_equal)?;
+                self.push(number, join)
             }
-            step => {
-                let (operator, after) = check_step(alloc, sides, number, self.schema(), step)?;
-                let stage = Stage {
-                    number,
-                    operator,
-                    after,
-                };
-                Ok(self.stages.push(stage)?)
+            Step::GroupBy { keys, aggs } => {
+                let grouping = check_grouping(alloc, self.schema(), keys, aggs)?;
+                self.push(number, grouping)
+            }
+            Step::RollingSum {
+                column,
+                window,
+                min_samples,
+                name,
+            } => {
+                let schema = self.schema();
+                let sum = check_rolling(alloc, schema, column, window, min_samples, name)?;
+                self.push(number, sum)
             }
         }
+    }
+
+    // One more row-wise step, or its first refusal. It is of the stage of those that it follows, or else of a stage of its own.
+    fn add_rows(&mut self, alloc: Global, number: u16, step: RowStep) -> Result<(), StepFault>
+        requires number { number ≡ length (stage_steps (stages_of self.old)) }
+        requires few { number + 1 ≤ MAX_STEPS }
+        requires leads { (sides : List Fields) × (main : Fields) × Leads sides 0 main (stages_of self.old) (columns_after self.old) }
+        ensures step { OnOk result (stage_steps (stages_of self.new) ≡ stage_steps (stages_of self.old) ++ row_wise (step_of step) ∷ []) }
+        ensures leads { OnOk result ((sides : List Fields) (main : Fields) → Leads sides 0 main (stages_of self.old) (columns_after self.old) → Leads sides 0 main (stages_of self.new) (columns_after self.new)) }
+        ensures refused { IfErr result (λ code. (step_schema (columns_after self.old) (step_of step) ≡ Err code) ⊎ (code ≡ StepFault.Memory)) }
+    {
+        let Some(stage) = self.stages.last_mut() else {
+            return extend(alloc, &mut self.leading, &mut self.after_leading, step);
+        };
+        if let Operator::Rows(front) = &mut stage.operator {
+            return extend(alloc, front, &mut stage.after, step);
+        }
+        let rows = check_rows(alloc, number, self.schema(), step)?;
+        self.push(number, rows)
+    }
+
+    // One more stage: an operator that was checked, and the columns that it leaves.
+    fn push(&mut self, number: u16, checked: (Operator, Schema)) -> Result<(), StepFault>
+        ensures step { OnOk result (stage_steps (stages_of self.new) ≡ stage_steps (stages_of self.old) ++ operator_steps checked.0) }
+        ensures leads { OnOk result ((sides : List Fields) (main : Fields) → Leads sides 0 main (stages_of self.old) (columns_after self.old) → number ≡ length (stage_steps (stages_of self.old)) →
+            LowersTo sides number (columns_after self.old) checked.0 checked.1 → Leads sides 0 main (stages_of self.new) (columns_after self.new)) }
+        ensures refused { IfErr result (λ code. code ≡ StepFault.Memory) }
+    {
+        let (operator, after) = checked;
+        let stage = Stage {
+            number,
+            operator,
+            after,
+        };
+        Ok(self.stages.push(stage)?)
     }
 
     /// The columns after the steps.
@@ -114,38 +158,24 @@ impl PassedSteps {
     }
 }
 
-// The operator of a step on rows of a schema, and the schema after it; or the step's first refusal.
-fn check_step(
+// One more row-wise step after those that leave these columns, or its first refusal.
+fn extend(
     alloc: Global,
-    sides: &[SourceFiles],
-    number: u16,
-    schema: &Schema,
-    step: Step,
-) -> Result<(Operator, Schema), StepFault>
-    requires { number + 1 ≤ MAX_STEPS }
-    ensures step { IfOk result (λ r. operator_steps r.0 ≡ plan_step_of step ∷ []) }
-    ensures turns { IfOk result (λ r. LowersTo (columns_of sides.now) number schema.now r.0 r.1) }
-    ensures refused { IfErr result (λ code. (judged_step (columns_of sides.now) schema.now (plan_step_of step) ≡ Err code) ⊎ (code ≡ StepFault.Memory)) }
+    front: &mut Front,
+    after: &mut Schema,
+    step: RowStep,
+) -> Result<(), StepFault>
+    requires number { front.old.first + length front.old.steps + 1 ≤ MAX_STEPS }
+    requires leads { steps_schema front.old.fields front.old.steps ≡ Ok after.old }
+    ensures front { OnOk result (front.new ≡ record front.old { steps = front.old.steps ++ step_of step ∷ [] }) }
+    ensures leads { OnOk result (steps_schema front.new.fields front.new.steps ≡ Ok after.new) }
+    ensures refused { IfErr result (λ code. (step_schema after.old (step_of step) ≡ Err code) ⊎ (code ≡ StepFault.Memory)) }
 {
-    match step {
-        Step::Rows(step) => check_rows(alloc, number, schema, step),
-        Step::Join {
-            source,
-            on,
-            how,
-            nulls_equal,
-        } => check_join(alloc, sides, schema, source, on, how, nulls_equal),
-        Step::GroupBy { keys, aggs } => check_grouping(alloc, schema, keys, aggs),
-        Step::RollingSum {
-            column,
-            window,
-            min_samples,
-            name,
-        } => check_rolling(alloc, schema, column, window, min_samples, name),
-    }
+    *after = step.schema(alloc, after)?;
+    Ok(front.push(step)?)
 }
 
-// `check_step` of a row-wise step.
+// A stage of one row-wise step on rows of a schema; or the step's first refusal.
 fn check_rows(
     alloc: Global,
     number: u16,
@@ -164,7 +194,7 @@ fn check_rows(
     Ok((Operator::Rows(front), after))
 }
 
-// `check_step` of a join.
+// The operator of a join on rows of a schema, and the schema after it; or the step's first refusal.
 fn check_join(
     alloc: Global,
     sides: &[SourceFiles],
@@ -191,7 +221,7 @@ fn check_join(
     Ok((Operator::Join(join), after))
 }
 
-// `check_step` of a grouping.
+// `check_join`, of a grouping.
 fn check_grouping(
     alloc: Global,
     schema: &Schema,
@@ -206,7 +236,7 @@ fn check_grouping(
     Ok((Operator::GroupBy(GroupBy { keys, aggs }), after))
 }
 
-// `check_step` of a rolling sum.
+// `check_join`, of a rolling sum.
 fn check_rolling(
     alloc: Global,
     schema: &Schema,

@@ -5,20 +5,19 @@ use Rattle.std.proofs.lemmas.Result.{err_from_is_err_and}
 use Rattle.fq_column.specs.Frame.{Fields}
 use Rattle.fq_csv.specs.Sources.{source_of_files}
 use Rattle.fq_csv.specs.declared.sources.SourceFiles.{SourceFiles}
-use Rattle.fq_expr.specs.Front.{NumberedSteps}
 use Rattle.fq_language.specs.Judged.{checked, judged_steps, source_refusal, IsPlaceOf}
 use Rattle.fq_language.specs.Plan.{PlanData, IsWithinLimits}
 use Rattle.fq_language.specs.View.{plan_step_of, source_data}
 use Rattle.fq_notation.specs.declared.notations.Notation.{Notation}
 use Rattle.fq_plan.specs.Needed.{needed_columns}
-use Rattle.fq_plan.specs.Stages.{columns_after, columns_of, leading_stage, narrowed, query_of, stage_steps, stages_of, whole_source, IsChecked, Leads}
+use Rattle.fq_plan.specs.Stages.{columns_after, columns_of, narrowed, query_of, stage_steps, stages_of, whole_source, IsChecked, Leads}
 use Rattle.fq_run.specs.Physical.{Physical}
 use Rattle.fq_run.specs.Stages.{physical_of}
 use Rattle.fq_plan.proofs.KeepingLemmas.{narrowed-kept, whole-data, whole-kept}
 use Rattle.fq_plan.proofs.PreparedLemmas.{checked-is, columns, needed-is, prepared, runnable, source-refuses, steps-refuse}
 use Rattle.fq_plan.proofs.WholeSourceLemmas.{refusal-whole}
 use Rattle.fq_plan.proofs.checks.PlanCheck.check.Goals as goal
-use Rattle.fq_plan.proofs.checks.PlanCheck.check.Goals.{In-Some, In-Ok-new}
+use Rattle.fq_plan.proofs.checks.PlanCheck.check.Goals.{In-Some, After-keeping-main}
 
 -- the sources of the plan, which are not refused
 parts : (c : In-Some) → map source_of_files (c.pop.new.self.items ++ c.in-Some.main ∷ []) ≡ c.args.self.sources
@@ -56,97 +55,94 @@ returns-in_err-passed c =
     ])
 
 -- the main source, which keeps the columns that are needed
-abbrev kept : In-Ok-new → SourceFiles
+abbrev kept : After-keeping-main → SourceFiles
 kept c = c.keeping-main.result
 
 -- what the steps do
-abbrev after : In-Ok-new → Fields
+abbrev after : After-keeping-main → Fields
 after c = columns_after c.in_ok-passed.passed
 
-steps-lead : (c : In-Ok-new) → Leads (columns_of c.pop.new.self.items) 0 c.in-Some.main.layout.schema (stages_of c.in_ok-passed.passed) (after c)
+steps-lead : (c : After-keeping-main) → Leads (columns_of c.pop.new.self.items) 0 c.in-Some.main.layout.schema (stages_of c.in_ok-passed.passed) (after c)
 steps-lead c = subst (λ (sides : List SourceFiles). Leads (columns_of sides) 0 c.in-Some.main.layout.schema (stages_of c.in_ok-passed.passed) (after c)) c.as_slice.ensures.value c.in_ok-passed.ensures.leads
 
--- with the leading ones as a front
-leads : (c : In-Ok-new) → Leads (columns_of c.pop.new.self.items) 0 (kept c).layout.schema (leading_stage c.in-Ok-new.front c.in_ok-passed.passed.after_leading ∷ c.in_ok-passed.passed.stages.items) (after c)
+-- and so on the columns of the source that is kept
+leads : (c : After-keeping-main) → Leads (columns_of c.pop.new.self.items) 0 (kept c).layout.schema (stages_of c.in_ok-passed.passed) (after c)
 leads c =
-    subst (λ (t : Fields × NumberedSteps). Leads (columns_of c.pop.new.self.items) 0 t.0 (leading_stage t.1 c.in_ok-passed.passed.after_leading ∷ c.in_ok-passed.passed.stages.items) (after c))
-    (λ i. (sym (ap (λ (s : SourceFiles). s.layout.schema) c.keeping-main.ensures) i, sym c.in-Ok-new.ensures.front i)) (steps-lead c)
+    subst (λ (fields : Fields). Leads (columns_of c.pop.new.self.items) 0 fields (stages_of c.in_ok-passed.passed) (after c))
+    (sym (ap (λ (s : SourceFiles). s.layout.schema) c.keeping-main.ensures)) (steps-lead c)
 
-steps-are : (c : In-Ok-new) → stage_steps (stages_of c.in_ok-passed.passed) ≡ c.args.self.steps
+steps-are : (c : After-keeping-main) → stage_steps (stages_of c.in_ok-passed.passed) ≡ c.args.self.steps
 steps-are c = c.in_ok-passed.ensures.steps ∙ c.into_parts-sources.ensures.steps
 
-marks-are : (c : In-Ok-new) → c.in-Ok.marks.items ≡ needed_columns c.args.self
+marks-are : (c : After-keeping-main) → c.in-Ok.marks.items ≡ needed_columns c.args.self
 marks-are c =
-    let d = (goal.at.In-Ok-new c).In-Some in
+    let d = (goal.at.After-keeping-main c).In-Some in
     let sides = c.pop.new.self.items in
     c.in-Ok.ensures (columns_of sides) c.in-Some.main.layout.schema (steps-lead c)
     ∙ needed-is sides c.in-Some.main c.args.self (parts d) (stage_steps (stages_of c.in_ok-passed.passed)) (steps-are c)
 
-made : In-Ok-new → Physical
-made c = physical_of (c.pop.new.self.items ++ kept c ∷ []) c.in-Ok-new.front c.in_ok-passed.passed.stages.items []
+made : After-keeping-main → Physical
+made c = physical_of (c.pop.new.self.items ++ kept c ∷ []) c.in_ok-passed.passed.leading c.in_ok-passed.passed.stages.items []
 
-whole-is : (c : In-Ok-new) → map whole_source (map source_of_files (c.pop.new.self.items ++ kept c ∷ [])) ≡ map whole_source (map source_of_files (c.pop.new.self.items ++ c.in-Some.main ∷ []))
+whole-is : (c : After-keeping-main) → map whole_source (map source_of_files (c.pop.new.self.items ++ kept c ∷ [])) ≡ map whole_source (map source_of_files (c.pop.new.self.items ++ c.in-Some.main ∷ []))
 whole-is c = whole-kept c.in-Ok.marks.items c.pop.new.self.items c.in-Some.main (kept c) c.keeping-main.ensures
 
-query-is : (c : In-Ok-new) → query_of (made c) ≡ c.args.self
+query-is : (c : After-keeping-main) → query_of (made c) ≡ c.args.self
 unfolding made
 query-is c =
-    let d = (goal.at.In-Ok-new c).In-Some in
+    let d = (goal.at.After-keeping-main c).In-Some in
     let declared = c.into_parts-sources.ensures.sources in
     let sources : map whole_source (map source_of_files (c.pop.new.self.items ++ kept c ∷ [])) ≡ c.args.self.sources =
     whole-is c ∙ ap (map whole_source) (parts d) ∙ ap (map whole_source) (sym declared) ∙ whole-data c.into_parts-sources.result.0.items ∙ declared in
-    let steps : stage_steps (leading_stage c.in-Ok-new.front c.in_ok-passed.passed.after_leading ∷ c.in_ok-passed.passed.stages.items) ≡ c.args.self.steps =
-    ap (λ (front : NumberedSteps). stage_steps (leading_stage front c.in_ok-passed.passed.after_leading ∷ c.in_ok-passed.passed.stages.items)) c.in-Ok-new.ensures.front
-    ∙ steps-are c in
-    λ i. record { sources = sources i; steps = steps i; notations = sym c.into_parts-sources.ensures.plain i }
+    λ i. record { sources = sources i; steps = steps-are c i; notations = sym c.into_parts-sources.ensures.plain i }
 
-limits : (c : In-Ok-new) → IsWithinLimits (query_of (made c))
+limits : (c : After-keeping-main) → IsWithinLimits (query_of (made c))
 limits c = subst IsWithinLimits (sym (query-is c)) c.into_parts-sources.ensures.within_limits
 
-narrowed-is : (c : In-Ok-new) → (made c).sources ≡ narrowed (needed_columns (query_of (made c))) (query_of (made c)).sources
+narrowed-is : (c : After-keeping-main) → (made c).sources ≡ narrowed (needed_columns (query_of (made c))) (query_of (made c)).sources
 unfolding made
 narrowed-is c =
-    let d = (goal.at.In-Ok-new c).In-Some in
+    let d = (goal.at.After-keeping-main c).In-Some in
     narrowed-kept c.in-Ok.marks.items c.pop.new.self.items c.in-Some.main (kept c) c.keeping-main.ensures c.args.self.sources (parts d)
     ∙ ap (λ (marks : List Bool). narrowed marks c.args.self.sources) (marks-are c)
     ∙ ap (λ (p : PlanData). narrowed (needed_columns p) p.sources) (sym (query-is c))
 
-unrefused : (c : In-Ok-new) → source_refusal 0 (made c).sources ≡ None
+unrefused : (c : After-keeping-main) → source_refusal 0 (made c).sources ≡ None
 unfolding made
 unrefused c =
-    let d = (goal.at.In-Ok-new c).In-Some in
+    let d = (goal.at.After-keeping-main c).In-Some in
     sym (refusal-whole 0 (map source_of_files (c.pop.new.self.items ++ kept c ∷ [])))
     ∙ ap (source_refusal 0) (whole-is c)
     ∙ refusal-whole 0 (map source_of_files (c.pop.new.self.items ++ c.in-Some.main ∷ []))
     ∙ ap (source_refusal 0) (parts d) ∙ passed d
 
-is-checked : (c : In-Ok-new) → IsChecked (made c)
+is-checked : (c : After-keeping-main) → IsChecked (made c)
 unfolding made
 is-checked c =
-    prepared c.pop.new.self.items (kept c) c.in-Ok-new.front c.in_ok-passed.passed.stages.items [] c.in_ok-passed.passed.after_leading (after c) (leads c) (unrefused c) (narrowed-is c) (limits c)
+    prepared c.pop.new.self.items (kept c) c.in_ok-passed.passed.leading c.in_ok-passed.passed.stages.items [] c.in_ok-passed.passed.after_leading (after c) (leads c) (unrefused c) (narrowed-is c) (limits c)
 
 -- no column has a notation
-plainly : (c : In-Ok-new) {notations : List Notation} → notations ≡ [] → physical_of (c.pop.new.self.items ++ kept c ∷ []) c.in-Ok-new.front c.in_ok-passed.passed.stages.items notations ≡ made c
+plainly : (c : After-keeping-main) {notations : List Notation} → notations ≡ [] → physical_of (c.pop.new.self.items ++ kept c ∷ []) c.in_ok-passed.passed.leading c.in_ok-passed.passed.stages.items notations ≡ made c
 unfolding made
-plainly c e = ap (physical_of (c.pop.new.self.items ++ kept c ∷ []) c.in-Ok-new.front c.in_ok-passed.passed.stages.items) e
+plainly c e = ap (physical_of (c.pop.new.self.items ++ kept c ∷ []) c.in_ok-passed.passed.leading c.in_ok-passed.passed.stages.items) e
 
 pub new-physical-requires-clause-runnable : goal.new-physical-requires-clause-runnable
 unfolding made
 new-physical-requires-clause-runnable c =
-    let d = (goal.at.new-physical-requires-clause-runnable c).In-Ok-new in
-    runnable c.pop.new.self.items (kept d) c.in-Ok-new.front c.in_ok-passed.passed.stages.items [] c.in_ok-passed.passed.after_leading (after d) (leads d) (limits d)
+    let d = (goal.at.new-physical-requires-clause-runnable c).After-keeping-main in
+    runnable c.pop.new.self.items (kept d) c.in_ok-passed.passed.leading c.in_ok-passed.passed.stages.items [] c.in_ok-passed.passed.after_leading (after d) (leads d) (limits d)
 
 pub new-physical-requires-clause-columns : goal.new-physical-requires-clause-columns
 new-physical-requires-clause-columns c =
-    let d = (goal.at.new-physical-requires-clause-columns c).In-Ok-new in
-    columns c.pop.new.self.items (kept d) c.in-Ok-new.front c.in_ok-passed.passed.stages.items [] c.in_ok-passed.passed.after_leading (after d) (leads d)
+    let d = (goal.at.new-physical-requires-clause-columns c).After-keeping-main in
+    columns c.pop.new.self.items (kept d) c.in_ok-passed.passed.leading c.in_ok-passed.passed.stages.items [] c.in_ok-passed.passed.after_leading (after d) (leads d)
 
 pub invariant_of-result : goal.invariant_of-result
 unfolding made
-invariant_of-result c = subst IsChecked (sym (c.new-physical.ensures ∙ plainly (goal.at.invariant_of-result c).In-Ok-new c.plain-plain.ensures)) (is-checked (goal.at.invariant_of-result c).In-Ok-new)
+invariant_of-result c = subst IsChecked (sym (c.new-physical.ensures ∙ plainly (goal.at.invariant_of-result c).After-keeping-main c.plain-plain.ensures)) (is-checked (goal.at.invariant_of-result c).After-keeping-main)
 
 pub returns : goal.returns
 unfolding made
 returns c =
-    let d = (goal.at.returns c).In-Ok-new in
+    let d = (goal.at.returns c).After-keeping-main in
     inl (ap (λ (p : Physical). Ok (query_of p)) (c.new-physical.ensures ∙ plainly d c.plain-plain.ensures) ∙ sym (checked-is (made d) (is-checked d)) ∙ ap checked (query-is d))

@@ -4,7 +4,7 @@ use Rattle.std.specs.List.{list_any}
 use Rattle.fq_column.specs.Frame.{Name}
 use Rattle.fq_csv.specs.Sources.{Source, source_of_files}
 use Rattle.fq_csv.specs.declared.sources.SourceFiles.{SourceFiles}
-use Rattle.fq_run.specs.Noted.{has_int_column, has_ints}
+use Rattle.fq_run.specs.Noted.{has_int_column}
 use Rattle.fq_run.specs.Physical.{Physical, last_columns}
 use Rattle.fq_run.proofs.physical_plans.PhysicalPlan.has_ints.Goals as goal
 use Rattle.fq_run.proofs.physical_plans.PhysicalPlan.has_ints.Goals.{Joined-have_ints, then-have_ints, else-have_ints}

@@ -1,8 +1,6 @@
 use Rattle.std.proofs.Common.{◌≡◌, ◌++◌, ◌∷◌, [], List, map, ap, sym, subst, ◌∙◌}
 use Rattle.std.proofs.lemmas.List.{map-append}
 use Rattle.fq_csv.specs.declared.sources.SourceFiles.{SourceFiles}
-use Rattle.fq_csv.specs.Sources.{source_of_files}
-use Rattle.fq_notation.specs.declared.notations.Notation.{Notation}
 use Rattle.fq_notation.specs.Notation.{notation_in}
 use Rattle.fq_run.specs.Noted.{noted_files, noted_source}
 use Rattle.fq_run.specs.Physical.{Physical, last_columns}

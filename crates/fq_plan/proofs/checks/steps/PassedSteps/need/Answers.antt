@@ -1,7 +1,6 @@
 use Rattle.std.proofs.Common.{◌≡◌, map, ap, sym, ◌∙◌, rules}
 use Rattle.std.specs.Option.{is_some}
 use Rattle.fq_column.specs.Frame.{has_name, names_of, same_name}
-use Rattle.fq_expr.specs.ExpressionData.{step_of}
 use Rattle.fq_language.specs.Plan.{row_wise}
 use Rattle.fq_plan.specs.Needed.{needed_before_all}
 use Rattle.fq_plan.specs.Stages.{columns_after, stage_steps}
@@ -20,5 +19,5 @@ returns c =
     let after : has_name staged n ≡ c.stages_need-after_leading.result =
     sym (c.stages_need-after_leading.ensures frame last ∙ ap (λ ss. has_name (needed_before_all (stage_steps ss) frame) n) c.as_slice.ensures.value) in
     c.rows_need.ensures staged after
-    ∙ ap (λ ss. has_name (needed_before_all (map row_wise (map step_of ss)) staged) n) c.as_slice-2.ensures.value
-    ∙ ap (λ ns. has_name ns n) (sym (before-append (map row_wise (map step_of p.leading.items)) (stage_steps p.stages.items) frame))
+    ∙ ap (λ ss. has_name (needed_before_all (map row_wise ss) staged) n) c.steps.ensures
+    ∙ ap (λ ns. has_name ns n) (sym (before-append (map row_wise p.leading.steps) (stage_steps p.stages.items) frame))
