@@ -17,22 +17,26 @@ use Rattle.fq_messages.specs.declared.status.Status.TheVariants.{BadDevice, NoMe
 use Rattle.fq_messages.specs.declared.failures.Failure.{Failure}
 use Rattle.fq_messages.specs.declared.failures.Failure.TheVariants.{Run}
 use Rattle.fq_program.specs.Program.{AreSettings, checked_plan, frame_of}
-use Rattle.fq_program.specs.Named.{AnswersEarly, EndsAt, FailsAs, IsPlaced, Leaves, check_of, early_failure, names_refusal, notations_of, noted_plan, outcome_of, planned, refusal_of, reviewed, text_over, written}
+use Rattle.fq_program.specs.Named.{AnswersEarly, EndsAt, FailsAs, IsPlaced, Leaves, check_of, early_failure, names_refusal, notations_of, noted_plan, outcome_of, plan_in, planned, refusal_of, reviewed, text_over, written}
 
 -- ---- the plan
 
-planned-named : (names : Names) (text : List ℕ) (f : Failure) → names_refusal names ≡ Some f → planned names text ≡ Err f
+pub planned-named : (names : Names) (text : List ℕ) (f : Failure) → names_refusal names ≡ Some f → planned names text ≡ Err f
 unfolding planned
 planned-named names text f named = rw (named, planned) refl
 
-planned-refused : (names : Names) (text : List ℕ) (f : Failure) → names_refusal names ≡ None → checked_plan text ≡ Err f → planned names text ≡ Err f
+pub planned-fine : (names : Names) (text : List ℕ) (named : List Named) → names_refusal names ≡ None → named ≡ notations_of names →
+    planned names text ≡ plan_in text named (length names.files)
 unfolding planned
-planned-refused names text f apart refused = rw (apart, refused, planned) refl
+planned-fine names text named apart is = rw (apart, is, planned) refl
 
-planned-checked : (names : Names) (text : List ℕ) (plan : PlanData) → names_refusal names ≡ None → checked_plan text ≡ Ok plan →
-    planned names text ≡ noted_plan plan (notations_of names) (length names.files)
-unfolding planned
-planned-checked names text plan apart checked = rw (apart, checked, planned) refl
+pub plan-refused : (text : List ℕ) (named : List Named) (n : ℕ) (f : Failure) → checked_plan text ≡ Err f → plan_in text named n ≡ Err f
+unfolding plan_in
+plan-refused text named n f refused = rw (refused, plan_in) refl
+
+pub plan-checked : (text : List ℕ) (named : List Named) (n : ℕ) (plan : PlanData) → checked_plan text ≡ Ok plan → plan_in text named n ≡ noted_plan plan named n
+unfolding plan_in
+plan-checked text named n plan checked = rw (checked, plan_in) refl
 
 -- by the number of its files, and by its notations
 pub wrong-number : (plan : PlanData) (named : List Named) (n : ℕ) → n ≢ files_wanted plan → noted_plan plan named n ≡ Err (Run (Inputs (files_wanted plan) n))
@@ -64,67 +68,47 @@ noted-is plan p named n e = count (n == files_wanted plan) refl
     count true same = told (notation_refusal plan named) refl (eqb-true _ _ same)
     count false differs = let bad : Err (Run (Inputs (files_wanted plan) n)) ≡ Ok p = sym (wrong-number plan named n (λ same. let off = eq-eqb _ _ same in absurd (cc))) ∙ e in absurd (cc)
 
--- ---- the outcome
+-- ---- what it comes to
 
-pub outcome-named : (names : Names) (text : List ℕ) (files : List (List ℕ)) (f : Failure) → names_refusal names ≡ Some f → outcome_of names text files ≡ Err f
+pub outcome-of : (names : Names) (text : List ℕ) (files : List (List ℕ)) (plan : Result PlanData Failure) → planned names text ≡ plan → outcome_of names text files ≡ written plan files
 unfolding outcome_of
-outcome-named names text files f named = ap (λ plan. written plan files) (planned-named names text f named)
+outcome-of names text files plan is = ap (λ p. written p files) is
 
-pub outcome-refused : (names : Names) (text : List ℕ) (files : List (List ℕ)) (f : Failure) → names_refusal names ≡ None → checked_plan text ≡ Err f →
-    outcome_of names text files ≡ Err f
-unfolding outcome_of
-outcome-refused names text files f apart refused = ap (λ plan. written plan files) (planned-refused names text f apart refused)
-
-pub outcome-checked : (names : Names) (text : List ℕ) (files : List (List ℕ)) (plan : PlanData) → names_refusal names ≡ None → checked_plan text ≡ Ok plan →
-    outcome_of names text files ≡ written (noted_plan plan (notations_of names) (length names.files)) files
-unfolding outcome_of
-outcome-checked names text files plan apart checked = ap (λ plan. written plan files) (planned-checked names text plan apart checked)
-
--- ---- a check
-
-pub check-named : (names : Names) (text : List ℕ) (files : List (List ℕ)) (f : Failure) → names_refusal names ≡ Some f → check_of names text files ≡ Err f
+pub check-of : (names : Names) (text : List ℕ) (files : List (List ℕ)) (plan : Result PlanData Failure) → planned names text ≡ plan → check_of names text files ≡ reviewed plan files
 unfolding check_of
-check-named names text files f named = ap (λ plan. reviewed plan files) (planned-named names text f named)
+check-of names text files plan is = ap (λ p. reviewed p files) is
 
-pub check-refused : (names : Names) (text : List ℕ) (files : List (List ℕ)) (f : Failure) → names_refusal names ≡ None → checked_plan text ≡ Err f →
-    check_of names text files ≡ Err f
-unfolding check_of
-check-refused names text files f apart refused = ap (λ plan. reviewed plan files) (planned-refused names text f apart refused)
+-- why there is no plan
+pub named-fails : (names : Names) (text : List ℕ) (f : Failure) → (names_refusal names ≡ Some f) ⊎ IsOutside f → (planned names text ≡ Err f) ⊎ IsOutside f
+named-fails names text f why = elim why [ inl named ↦ inl (planned-named names text f named) | inr outside ↦ inr outside ]
 
-pub check-checked : (names : Names) (text : List ℕ) (files : List (List ℕ)) (plan : PlanData) → names_refusal names ≡ None → checked_plan text ≡ Ok plan →
-    check_of names text files ≡ reviewed (noted_plan plan (notations_of names) (length names.files)) files
-unfolding check_of
-check-checked names text files plan apart checked = ap (λ plan. reviewed plan files) (planned-checked names text plan apart checked)
+pub plan-fails : (names : Names) (text : List ℕ) (named : List Named) (f : Failure) → names_refusal names ≡ None → named ≡ notations_of names →
+    (plan_in text named (length names.files) ≡ Err f) ⊎ IsOutside f → (planned names text ≡ Err f) ⊎ IsOutside f
+plan-fails names text named f apart is why = elim why [ inl refused ↦ inl (planned-fine names text named apart is ∙ refused) | inr outside ↦ inr outside ]
 
--- ---- a refusal before a data file is opened
+pub outcome-fails : (names : Names) (text : List ℕ) (files : List (List ℕ)) (f : Failure) → (planned names text ≡ Err f) ⊎ IsOutside f → (outcome_of names text files ≡ Err f) ⊎ IsOutside f
+outcome-fails names text files f why = elim why [ inl refused ↦ inl (outcome-of names text files (Err f) refused) | inr outside ↦ inr outside ]
 
-pub outside-early : (X : Type 0) (f : Failure) (early : Option Failure) → IsOutside f → (let r : Result X Failure = Err f in AnswersEarly early r)
+pub check-fails : (names : Names) (text : List ℕ) (files : List (List ℕ)) (f : Failure) → (planned names text ≡ Err f) ⊎ IsOutside f → (check_of names text files ≡ Err f) ⊎ IsOutside f
+check-fails names text files f why = elim why [ inl refused ↦ inl (check-of names text files (Err f) refused) | inr outside ↦ inr outside ]
+
+-- nothing is refused before a data file is opened, or this is
+pub early-fine : {X : Type 0} (names : Names) (text : List ℕ) (p : PlanData) (r : Result X Failure) → planned names text ≡ Ok p → AnswersEarly (early_failure names text) r
+unfolding early_failure
+early-fine names text p r is = subst (λ plan. AnswersEarly (refusal_of plan) r) (sym is) tt
+
+outside-early : (X : Type 0) (f : Failure) (early : Option Failure) → IsOutside f → (let r : Result X Failure = Err f in AnswersEarly early r)
 outside-early X f None outside = tt
 outside-early X f (Some refusal) outside = inr outside
 
-pub early-named : (X : Type 0) (names : Names) (text : List ℕ) (f : Failure) → (names_refusal names ≡ Some f) ⊎ IsOutside f → (let r : Result X Failure = Err f in AnswersEarly (early_failure names text) r)
+pub early-refused : (X : Type 0) (names : Names) (text : List ℕ) (f : Failure) → (planned names text ≡ Err f) ⊎ IsOutside f → (let r : Result X Failure = Err f in AnswersEarly (early_failure names text) r)
 unfolding early_failure
-early-named X names text f why = elim why [
-  | inl named ↦
-      let r : Result X Failure = Err f in
-      subst (λ plan. AnswersEarly (refusal_of plan) r) (sym (planned-named names text f named)) (inl refl)
-  | inr outside ↦ outside-early X f (early_failure names text) outside
-]
-
-pub early-refused : (X : Type 0) (names : Names) (text : List ℕ) (f : Failure) → names_refusal names ≡ None → (checked_plan text ≡ Err f) ⊎ IsOutside f →
-    (let r : Result X Failure = Err f in AnswersEarly (early_failure names text) r)
-unfolding early_failure
-early-refused X names text f apart why = elim why [
+early-refused X names text f why = elim why [
   | inl refused ↦
       let r : Result X Failure = Err f in
-      subst (λ plan. AnswersEarly (refusal_of plan) r) (sym (planned-refused names text f apart refused)) (inl refl)
+      subst (λ plan. AnswersEarly (refusal_of plan) r) (sym refused) (inl refl)
   | inr outside ↦ outside-early X f (early_failure names text) outside
 ]
-
-pub early-checked : (names : Names) (text : List ℕ) (plan : PlanData) → names_refusal names ≡ None → checked_plan text ≡ Ok plan →
-    early_failure names text ≡ refusal_of (noted_plan plan (notations_of names) (length names.files))
-unfolding early_failure
-early-checked names text plan apart checked = ap refusal_of (planned-checked names text plan apart checked)
 
 -- ---- a run of a checked plan
 
@@ -167,6 +151,12 @@ pub written-whole : (before after : Option (List ℕ)) (text : List ℕ) → App
 written-whole None after text appends empty = absurd (cc)
 written-whole (Some xs) None text appends empty = absurd appends
 written-whole (Some xs) (Some ys) text appends empty = let none : xs ≡ [] = cc in ap Some (rw none at appends)
+
+-- ---- what is known whatever the result is
+
+pub on_ok_known : {X E P : Type 0} (r : Result X E) → P → OnOk r P
+on_ok_known (Ok x) known = known
+on_ok_known (Err e) known = tt
 
 -- ---- failures of devices and allocations
 

@@ -38,13 +38,14 @@ noted_plan plan named files =
     if files == files_wanted plan then elim (notation_refusal plan named) [ Some fault ↦ Err (unnoted fault) | None ↦ Ok (noted named plan) ]
     else Err (Run (Inputs (files_wanted plan) files))
 
--- the plan of a text with the notations that are named, or why it is refused before a data file is opened: the names are, the text is no plan,
--- the check refuses it, the number of files is not the plan's, or the notations are not of its columns
+-- the plan of a text in notations over so many files, or why it is refused: the text is no plan, the check refuses it, the number of files is
+-- not the plan's, or the notations are not of its columns
+unfoldable pub plan_in : List ℕ → List Named → ℕ → Result PlanData Failure
+plan_in text named files = elim (checked_plan text) [ Err failure ↦ Err failure | Ok plan ↦ noted_plan plan named files ]
+
+-- the plan of a text with the notations that are named, or why it is refused before a data file is opened, which the names may be first
 unfoldable pub planned : Names → List ℕ → Result PlanData Failure
-planned names text = elim (names_refusal names) [
-  | Some failure ↦ Err failure
-  | None ↦ elim (checked_plan text) [ Err failure ↦ Err failure | Ok plan ↦ noted_plan plan (notations_of names) (length names.files) ]
-]
+planned names text = elim (names_refusal names) [ Some failure ↦ Err failure | None ↦ plan_in text (notations_of names) (length names.files) ]
 
 -- why a run ends before a data file is opened
 abbrev pub refusal_of : Result PlanData Failure → Option Failure

@@ -1,14 +1,14 @@
 //! The program with arguments.
 ghost use Rattle.std.specs.Prelude.{◌≡◌, ◌≢◌, ◌⊎◌, ◌<◌, ◌^◌, ℕ, List, [], Some, None, IsSome, IfSome, IfErr, IfOk, IsErrAnd, MatchResult, OnOk, length, map, string_bytes, true};
 ghost use Rattle.std.specs.Io.KnownBytes.{Appends, Keeps};
-ghost use Rattle.fq_language.specs.Plan.{files_wanted};
+ghost use Rattle.fq_language.specs.Plan.{PlanData, files_wanted};
 ghost use Rattle.fq_run.specs.declared.faults.Fault.TheVariants as fault;
 ghost use Rattle.fq_run.specs.Run.{Tell};
 ghost use Rattle.fq_shell.specs.Arguments.{is_run, names_of, names_to_check, named_by, plan_text};
 ghost use Rattle.fq_messages.specs.Ending.{done, bad_device, code_of, number_of, status_of, IsOutside};
 ghost use Rattle.fq_messages.specs.declared.failures.Failure.TheVariants as failure;
 ghost use Rattle.fq_program.specs.Program.{checked_plan as checked_plan_of};
-ghost use Rattle.fq_program.specs.Named.{check_of, early_failure, names_refusal, notations_of, noted_plan as noted_plan_of, outcome_of, refusal_of, reviewed, text_over, written, AnswersEarly, ComesTo, EndsAt, FailsAs, IsCheck, IsPlaced, IsRun, Leaves};
+ghost use Rattle.fq_program.specs.Named.{check_of, early_failure, names_refusal, notations_of, noted_plan as noted_plan_of, outcome_of, plan_in, reviewed, text_over, AnswersEarly, ComesTo, EndsAt, FailsAs, IsCheck, IsPlaced, IsRun, Leaves};
 
 use crate::program::{checked_plan, run_over};
 use clap::error::ErrorKind;
@@ -17,6 +17,7 @@ use fq_messages::{
 };
 use fq_notation::NamedNotations;
 use fq_plan::{Checked, Fault, read_plan};
+use fq_review::Draft;
 use fq_shell::{Noted, Opener, Options, write_refusal};
 use std::alloc::Global;
 use std::io::{Read, Write};
@@ -258,37 +259,49 @@ fn check_named<O: Opener, E: Write>(
         Tell (O.bytes_of files.old) (named_by options.now).files inputs → ComesTo (check_of (named_by options.now) text inputs) result }
 {
     let named = judge_names(alloc, options, files)?;
-    match read_plan_file(alloc, options, files, learned) {
-        Ok(plan) => check_noted(
-            alloc,
-            plan,
-            &named,
-            options,
-            files,
-            err,
-            learned.plan.as_slice(),
-        ),
+    match planned(alloc, &named, options, files, learned) {
+        Ok(_) => check_by_text(alloc, learned.plan.as_slice(), &named, options, files, err),
         Err(failure) => Err(failure),
     }
 }
 
-// Checks the data files by a plan of this text, in notations.
-fn check_noted<O: Opener, E: Write>(
+// Checks the data files by the plan of a text, in notations.
+fn check_by_text<O: Opener, E: Write>(
     alloc: Global,
-    plan: Checked,
+    text: &[u8],
     named: &NamedNotations,
     options: &Options<'_>,
     files: &mut O,
     err: &mut E,
-    text: &[u8],
 ) -> Result<(), Failure>
     ensures same { O.bytes_of files.new ≡ O.bytes_of files.old }
-    ensures checked { (inputs : List (List ℕ)) → Tell (O.bytes_of files.old) (named_by options.now).files inputs → checked_plan_of text.now ≡ Ok plan →
-        ComesTo (reviewed (noted_plan_of plan named.now (length (named_by options.now).files)) inputs) result }
+    ensures checked { (inputs : List (List ℕ)) (plan : PlanData) → Tell (O.bytes_of files.old) (named_by options.now).files inputs →
+        plan_in text.now named.now (length (named_by options.now).files) ≡ Ok plan → ComesTo (reviewed (Ok plan) inputs) result }
 {
-    noted_plan(alloc, plan, named, options.files())?;
-    let plan = read_plan(alloc, text)?;
-    check_files(alloc, &plan, named, options, files, err)
+    match read_plan(alloc, text) {
+        Ok(plan) => check_files(alloc, &plan, named, options, files, err),
+        Err(fault) => Err(fault.into()),
+    }
+}
+
+// The plan of the plan file in notations, over the data files; its text is learned.
+fn planned<O: Opener>(
+    alloc: Global,
+    named: &NamedNotations,
+    options: &Options<'_>,
+    files: &mut O,
+    learned: &mut Learned,
+) -> Result<Checked, Failure>
+    ensures same { O.bytes_of files.new ≡ O.bytes_of files.old }
+    ensures few { OnOk result (length (named_by options.now).files < 2 ^ 16) }
+    ensures planned { (text : List ℕ) → plan_text (O.bytes_of files.old) (named_by options.now) ≡ Some text →
+        MatchResult result (λ plan. plan_in text named.now (length (named_by options.now).files) ≡ Ok plan) (λ f. (plan_in text named.now (length (named_by options.now).files) ≡ Err f) ⊎ IsOutside f) }
+    ensures learned { (text : List ℕ) → plan_text (O.bytes_of files.old) (named_by options.now) ≡ Some text → OnOk result (learned.new.plan.items ≡ text) }
+{
+    match read_plan_file(alloc, options, files, learned) {
+        Ok(plan) => noted_plan(alloc, plan, named, options.files()),
+        Err(failure) => Err(failure),
+    }
 }
 
 // The plan in notations, over files of these names. A number of files that is not the plan's is refused first.
@@ -315,7 +328,7 @@ fn read_plan_file<O: Opener>(
     ensures same { O.bytes_of files.new ≡ O.bytes_of files.old }
     ensures read { (text : List ℕ) → plan_text (O.bytes_of files.old) (named_by options.now) ≡ Some text →
         MatchResult result (λ plan. checked_plan_of text ≡ Ok plan) (λ f. (checked_plan_of text ≡ Err f) ⊎ IsOutside f) }
-    ensures learned { IfOk result (λ plan. checked_plan_of learned.new.plan.items ≡ Ok plan) }
+    ensures learned { (text : List ℕ) → plan_text (O.bytes_of files.old) (named_by options.now) ≡ Some text → OnOk result (learned.new.plan.items ≡ text) }
 {
     match read_plan_text(alloc, options, files) {
         Ok(text) => {
@@ -358,13 +371,36 @@ fn draft_plan<O: Opener, W: Write, E: Write>(
     ensures unwritten { IfErr result (λ f. f ≢ failure.Run fault.Write → Keeps (W.contents out.old) (W.contents out.new)) }
 {
     let named = judge_names(alloc, options, files)?;
-    let names = options.files();
-    let draft = draft_of(alloc, named, options, files, err)?;
+    match draft_of(alloc, named, options, files, err) {
+        Ok(draft) => write_draft(alloc, &draft, options.files(), out, err, learned),
+        Err(failure) => Err(failure),
+    }
+}
+
+// Writes the plan that files of these names draft, and on `err` what a reader of it may want to know.
+fn write_draft<W: Write, E: Write>(
+    alloc: Global,
+    draft: &Draft,
+    names: &[&str],
+    out: &mut W,
+    err: &mut E,
+    learned: &mut Learned,
+) -> Result<(), Failure>
+    ensures unwritten { IfErr result (λ f. f ≢ failure.Run fault.Write → Keeps (W.contents out.old) (W.contents out.new)) }
+{
     draft.write_notes(names, err);
     learned.plan = draft.plan()?.into_bytes();
     let text = learned.plan.as_slice();
-    checked_plan(alloc, text)?.with_notations(alloc, draft.notations())?;
+    judge_draft(alloc, text, draft.notations())?;
     out.write_all(text).map_err(|_| Failure::Run(Fault::Write))
+}
+
+// Refuses the text of a draft as a run in these notations would be refused.
+fn judge_draft(alloc: Global, text: &[u8], named: &NamedNotations) -> Result<(), Failure> {
+    match checked_plan(alloc, text)?.with_notations(alloc, named) {
+        Ok(_) => Ok(()),
+        Err(fault) => Err(fault.into()),
+    }
 }
 
 // Writes what the steps of the plan of the plan file leave. If there are names of files, their number has to be the plan's.
@@ -379,13 +415,29 @@ fn explain_plan<O: Opener, W: Write>(
     ensures unwritten { IfErr result (λ f. f ≢ failure.Run fault.Write → Keeps (W.contents out.old) (W.contents out.new)) }
 {
     let named = judge_names(alloc, options, files)?;
-    let plan = read_plan_file(alloc, options, files, learned)?;
-    let names = options.files();
+    match read_plan_file(alloc, options, files, learned) {
+        Ok(plan) => explain_noted(alloc, plan, &named, options.files(), out),
+        Err(failure) => Err(failure),
+    }
+}
+
+// Writes what the steps of a plan leave, in notations. If there are names of files, their number has to be the plan's.
+fn explain_noted<W: Write>(
+    alloc: Global,
+    plan: Checked,
+    named: &NamedNotations,
+    names: &[&str],
+    out: &mut W,
+) -> Result<(), Failure>
+    ensures unwritten { IfErr result (λ f. f ≢ failure.Run fault.Write → Keeps (W.contents out.old) (W.contents out.new)) }
+{
     if !names.is_empty() {
         count_files(&plan, names)?;
     }
-    let plan = plan.with_notations(alloc, &named)?;
-    write_explanation(alloc, &plan, out)
+    match plan.with_notations(alloc, named) {
+        Ok(plan) => write_explanation(alloc, &plan, out),
+        Err(fault) => Err(fault.into()),
+    }
 }
 
 // Writes what the steps of a plan leave.
@@ -442,66 +494,40 @@ fn run_named<T: Threads + Wait + Sync, O: Opener, W: Write>(
     ensures untouched { IfErr result (λ _. O.bytes_of files.new ≡ O.bytes_of files.old) }
 {
     let named = judge_names(alloc, options, files)?;
-    match read_plan_file(alloc, options, files, learned) {
-        Ok(plan) => run_shown(rt, alloc, plan, &named, options, files, out, learned),
+    match planned(alloc, &named, options, files, learned) {
+        Ok(plan) => run_planned(rt, alloc, &plan, options, files, out, learned),
         Err(failure) => Err(failure),
     }
 }
 
 // Writes the frame of the plan over the data files, and shows meanwhile how far they are read, if that is asked for.
-fn run_shown<T: Threads + Wait + Sync, O: Opener, W: Write>(
+fn run_planned<T: Threads + Wait + Sync, O: Opener, W: Write>(
     rt: &T,
     alloc: Global,
-    plan: Checked,
-    named: &NamedNotations,
+    plan: &Checked,
     options: &Options<'_>,
     files: &mut O,
     out: &mut W,
     learned: &mut Learned,
 ) -> Result<(), Failure>
-    ensures early { AnswersEarly (refusal_of (noted_plan_of plan named.now (length (named_by options.now).files))) result }
+    requires few { length (named_by options.now).files < 2 ^ 16 }
     ensures printed { (inputs : List (List ℕ)) → Tell (O.bytes_of files.old) (named_by options.now).files inputs →
-        Leaves (written (noted_plan_of plan named.now (length (named_by options.now).files)) inputs) (named_by options.now).output (W.contents out.old) (W.contents out.new)
+        Leaves (text_over plan.now inputs) (named_by options.now).output (W.contents out.old) (W.contents out.new)
         (O.bytes_of files.old) (O.bytes_of files.new) result }
-    ensures failed { (inputs : List (List ℕ)) → Tell (O.bytes_of files.old) (named_by options.now).files inputs → FailsAs (written (noted_plan_of plan named.now (length (named_by options.now).files)) inputs) result }
+    ensures failed { (inputs : List (List ℕ)) → Tell (O.bytes_of files.old) (named_by options.now).files inputs → FailsAs (text_over plan.now inputs) result }
     ensures elsewhere { IsSome (named_by options.now).output → Keeps (W.contents out.old) (W.contents out.new) }
     ensures unwritten { IfErr result (λ f. f ≢ failure.Run fault.Write → Keeps (W.contents out.old) (W.contents out.new)) }
     ensures untouched { IfErr result (λ _. O.bytes_of files.new ≡ O.bytes_of files.old) }
 {
     if options.progress() {
         files.show_progress();
-        let answer = run_plan(rt, alloc, plan, named, options, files, out, learned);
-        files.clear_progress();
-        answer
-    } else {
-        run_plan(rt, alloc, plan, named, options, files, out, learned)
     }
-}
-
-// Writes the frame of the plan over the data files.
-fn run_plan<T: Threads + Wait + Sync, O: Opener, W: Write>(
-    rt: &T,
-    alloc: Global,
-    plan: Checked,
-    named: &NamedNotations,
-    options: &Options<'_>,
-    files: &mut O,
-    out: &mut W,
-    learned: &mut Learned,
-) -> Result<(), Failure>
-    ensures early { AnswersEarly (refusal_of (noted_plan_of plan named.now (length (named_by options.now).files))) result }
-    ensures printed { (inputs : List (List ℕ)) → Tell (O.bytes_of files.old) (named_by options.now).files inputs →
-        Leaves (written (noted_plan_of plan named.now (length (named_by options.now).files)) inputs) (named_by options.now).output (W.contents out.old) (W.contents out.new)
-        (O.bytes_of files.old) (O.bytes_of files.new) result }
-    ensures failed { (inputs : List (List ℕ)) → Tell (O.bytes_of files.old) (named_by options.now).files inputs → FailsAs (written (noted_plan_of plan named.now (length (named_by options.now).files)) inputs) result }
-    ensures elsewhere { IsSome (named_by options.now).output → Keeps (W.contents out.old) (W.contents out.new) }
-    ensures unwritten { IfErr result (λ f. f ≢ failure.Run fault.Write → Keeps (W.contents out.old) (W.contents out.new)) }
-    ensures untouched { IfErr result (λ _. O.bytes_of files.new ≡ O.bytes_of files.old) }
-{
-    let names = options.files();
-    let plan = noted_plan(alloc, plan, named, names)?;
-    let inputs = open_all(alloc, files, names)?;
-    write_frame(rt, alloc, &plan, options, inputs, files, out, learned)
+    let ending = match open_all(alloc, files, options.files()) {
+        Ok(inputs) => write_frame(rt, alloc, plan, options, inputs, files, out, learned),
+        Err(failure) => Err(failure),
+    };
+    files.clear_progress();
+    ending
 }
 
 // Writes the frame of the plan over inputs to `out`, or in the place of a file.
