@@ -1,6 +1,12 @@
 # Completions of frameq for bash.
 _frameq() {
     local word=${COMP_WORDS[COMP_CWORD]} before=${COMP_WORDS[COMP_CWORD - 1]} options=
+    # (bash takes the = of --plan=FILE as a word of its own)
+    if [[ $word == = && $before == --* ]]; then
+        word=
+    elif [[ $before == = && ${COMP_WORDS[COMP_CWORD - 2]} == --* ]]; then
+        before=${COMP_WORDS[COMP_CWORD - 2]}
+    fi
     case $before in
         --batch | --workers | --decimal | --date | --limit | --null-values)
             COMPREPLY=()
