@@ -60,10 +60,21 @@ _INSTEAD = {
     "concat": "name all the files in one scan_csv",
     "read_csv": "scan_csv, and collect() at the end",
     "when": "filter each case, or join the values from a file",
+    "date": "write datetime.date(2024, 3, 5)",
+    "coalesce": "write a.fill_null(b)",
+    **{name: f'write col("a").{name}()' for name in ("sum", "min", "max", "count", "first", "last", "n_unique")},
+    "mean": "there are no floats: sum() // count() is the mean, rounded down",
+}
+_INSTEAD_OF_KINDS = {
+    **dict.fromkeys(("Float32", "Float64"), "there are no floats: an amount is a Decimal(scale=2)"),
+    **dict.fromkeys(("Int8", "Int16", "Int32", "UInt8", "UInt16", "UInt32", "UInt64"), "a whole number is an Int64"),
+    **dict.fromkeys(("Datetime", "Time", "Duration", "Categorical", "Enum"), "read it as a String"),
 }
 
 
 def __getattr__(name: str) -> _NoReturn:
     if name in _INSTEAD:
         raise UnsupportedError(f"frameq has no {name}(): {_INSTEAD[name]}")
+    if name in _INSTEAD_OF_KINDS:
+        raise UnsupportedError(f"there is no kind {name}: {_INSTEAD_OF_KINDS[name]}")
     raise AttributeError(f"module {__name__!r} has no attribute {name!r}")

@@ -7,7 +7,7 @@ from . import _parts, _program
 from ._dialects import Table
 from ._expressions import FUNCTIONS, TOO_DEEP, Expr, Node
 from ._expressions import columns_of, expanded, flat, has, kind_of, name_of, named, parts, plain_names, replaced, written
-from ._faults import DuplicateError, NoColumnError, UnsupportedError, WrongKindError
+from ._faults import DuplicateError, NoColumnError, PlanShapeError, UnsupportedError, WrongKindError
 from ._kinds import AnyKind, ColumnKind, Kind, Notations, Schema, check_unicode, schema_of
 from ._literals import settled
 from ._notations import notations_of, words_of
@@ -41,6 +41,11 @@ _INSTEAD = {
     "join_asof": "a join is on equal keys",
     "join_where": "a join is on equal keys: filter after it",
     "sink_parquet": "the result is CSV: sink_csv",
+    "write_csv": "sink_csv runs the report and writes its result",
+    "fetch": "take the first rows of the result, as collect().head(..)",
+    "drop_nulls": "write filter(col('a').is_not_null())",
+    "fill_null": "write with_columns(col('a').fill_null(0))",
+    "describe": "group by a literal such as all=lit(True), and name the aggregates",
 }
 
 _INSTEAD_OF_GROUPS = {
@@ -88,7 +93,10 @@ def scan_csv(
     mapping. Nothing is read yet.
     """
     if schema is None:
-        raise UnsupportedError("nothing is guessed: name each column and its kind, as schema={'id': Int64, 'name': String}")
+        raise UnsupportedError(
+            "nothing is guessed: name each column and its kind, as schema={'id': Int64, 'name': String}; the command frameq --draft FILE says "
+            "which kinds its fields allow"
+        )
     if others or not has_header or separator != ",":
         what = ", ".join(others) or ("has_header=False" if not has_header else "separator")
         raise UnsupportedError(f"scan_csv has no {what}: a file has a header, commas, and quotes as in CSV")
@@ -377,6 +385,7 @@ class LazyFrame:
 
     def explain(self, *, program: Optional[Path] = None) -> str:
         """What the program says of the plan: the columns after each step, and where it runs. Raises as `collect`; no file is opened."""
+        self._check_files()
         return _program.explain(self.plan(), words_of(self.notations()), self._calls, program)
 
     def collect(
@@ -391,14 +400,16 @@ class LazyFrame:
         """Runs the plan. `batch` is a number of rows, 1 to 65,536, and `workers` one of threads, 1 to 16; no answer depends on them.
 
         `progress` shows how much of a file has been read, on standard error, if that is a terminal or a notebook's. With an executor, each
-        file of the main source is a task of its own, and there may be any number of them.
+        file of the main source is a task of its own, and there may be any number of them; PlanShapeError says that one run does not take
+        so many files.
 
         Each fault of the run is a FrameqError by its name. ProgramNotFoundError says that there is no program to run. A task that does not
-        end well raises what its executor has for that.
+        end well raises what its executor has for that, and what is no executor is a TypeError.
         """
         settings = _program.Settings(batch, workers, program, progress)
         if executor is not None:
             return _parts.collect(self._report(), executor, settings)
+        self._check_files()
         return _program.collect(self.plan(), words_of(self.notations()), self.files(), self._schema, self._calls, settings)
 
     def sink_csv(
@@ -419,7 +430,17 @@ class LazyFrame:
         if executor is not None:
             _parts.sink(self._report(), os.fspath(path), executor, settings)
         else:
+            self._check_files()
             _program.sink(self.plan(), words_of(self.notations()), self.files(), os.fspath(path), self._calls, settings)
+
+    def _check_files(self) -> None:
+        """Raises what the program says of more files than one run takes, and what to do instead."""
+        number = len(self.files())
+        if number > _parts.MOST_FILES:
+            raise PlanShapeError(
+                f"one run takes at most {_parts.MOST_FILES} files, and these are {number}: collect and sink_csv run more in parts, by "
+                "executor=ThreadPoolExecutor(4) of concurrent.futures"
+            )
 
     def _report(self) -> _parts.Report:
         return _parts.Report(self.plan(), self.files(), self._calls, self._schemas, self.notations())

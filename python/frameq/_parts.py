@@ -26,7 +26,7 @@ if TYPE_CHECKING:
     from concurrent.futures import Executor
 
 # Limits of the program.
-_MOST_FILES, _MOST_ROWS, _MOST_JOINED_ROWS = 16, 2_147_483_647, 4_294_967_295
+MOST_FILES, _MOST_ROWS, _MOST_JOINED_ROWS = 16, 2_147_483_647, 4_294_967_295
 # The exit statuses of a fault in what was read, and of a file that cannot be read.
 _FAULT, _UNREAD = 4, 5
 # A row has at least two characters, one of them its line end.
@@ -95,6 +95,8 @@ class _Parts:
     """A report that is run in parts, and what a program said beside an answer."""
 
     def __init__(self, report: Report, executor: "Executor", settings: Settings, room: str) -> None:
+        if not callable(getattr(executor, "submit", None)):
+            raise TypeError(f"an executor is one of concurrent.futures, as ThreadPoolExecutor(4), and not a {type(executor).__name__}")
         if settings.progress:
             raise UnsupportedError("progress is shown of one run: leave out progress, or executor")
         self.said = ""
@@ -106,7 +108,7 @@ class _Parts:
         # the number of the first of the main files
         self._first = sum(side["files"] for side in self._sides)
         self._files = report.files[self._first :]
-        self._fits_one_run = len(report.files) <= _MOST_FILES
+        self._fits_one_run = len(report.files) <= MOST_FILES
         self._dates = frozenset(name for name, kind in report.notations.items() if kind == Date)
 
     def check(self) -> None:
@@ -114,7 +116,7 @@ class _Parts:
         for file in self._report.files:
             if file == "-" or (os.path.exists(file) and not os.path.isfile(file) and not os.path.isdir(file)):
                 raise UnsupportedError(f"each task reads files, and {file!r} can be read only once: write it to a file first")
-        few = min(len(self._files), max(1, _MOST_FILES - self._first))
+        few = min(len(self._files), max(1, MOST_FILES - self._first))
         all_of = self._plan([*self._sides, {**self._main, "files": few}], self._steps)
         self.done(_Run(all_of, self._words(all_of, self._report.schemas[-1]), [], []), ["--explain"])
         for number, file in enumerate(self._report.files):
@@ -138,11 +140,11 @@ class _Parts:
         renamed = names_of_other_dates(self._report.schemas[place], self._dates)
         if renamed:
             raise UnsupportedError(
-                f"over more than {_MOST_FILES} files no column that is no Date may have the name of one where the rows of files are put "
+                f"over more than {MOST_FILES} files no column that is no Date may have the name of one where the rows of files are put "
                 f"together: give {', '.join(map(repr, renamed))} another name, by alias"
             )
         raise UnsupportedError(
-            f"over more than {_MOST_FILES} files no text may be empty and not null where the rows of files are put together: let lit and "
+            f"over more than {MOST_FILES} files no text may be empty and not null where the rows of files are put together: let lit and "
             'fill_null give another text than ""'
         )
 
@@ -242,7 +244,7 @@ class _Parts:
         if not cut.then or "group_by" in cut.then[0]:
             return self._run(cut.first, cut.columns, self._files[number : number + 1], [self._first + number])
         before, file = self._files[:number], self._files[number]
-        if self._first + number + 1 > _MOST_FILES:
+        if self._first + number + 1 > MOST_FILES:
             before = self._copied(before)
         numbers = [*range(self._first, self._first + len(before)), self._first + number]
         return self._run(self._steps, self._report.schemas[-1], [*before, file], numbers)
@@ -274,7 +276,7 @@ class _Parts:
         first: int = 0,
     ) -> _Run:
         """Steps with this result over all sources that are joined, and files of the main source, or of another."""
-        if self._first + len(files) > _MOST_FILES:
+        if self._first + len(files) > MOST_FILES:
             raise UnsupportedError("more rows of files are put together than one run takes: filter them before that, or group them")
         plan = self._plan([*self._sides, {**(source or self._main), "files": len(files)}], steps)
         return _Run(plan, self._words(plan, result), [*self._report.files[: self._first], *files], [*range(self._first), *numbers], first)

@@ -1,7 +1,7 @@
 """The result of a run, as a small frame."""
 import os
 from itertools import islice
-from typing import IO, Any, Dict, Iterable, Iterator, List, Mapping, Optional, Sequence, Tuple, Union
+from typing import IO, Any, Dict, Iterable, Iterator, List, Mapping, NoReturn, Optional, Sequence, Tuple, Union
 
 from ._expressions import kind_of, plain_names
 from ._faults import ArgumentsError, UnsupportedError, WrongKindError
@@ -15,6 +15,9 @@ from ._whole import write_whole
 Row = Tuple[Value, ...]
 Flags = Union[bool, Sequence[bool]]
 File = Union[str, "os.PathLike[str]", IO[str], IO[bytes]]
+
+# What a frame of Polars has, and here only a plan.
+_OF_PLANS = ("filter", "with_columns", "select", "drop", "rename", "join", "group_by", "unique")
 
 
 class DataFrame:
@@ -38,6 +41,11 @@ class DataFrame:
             if len(row) != len(self._schema):
                 raise ValueError(f"row {number} has {len(row)} values, and there are {len(self._schema)} columns")
         self._columns: Optional[List[Column]] = [list(values) for values in zip(*self._rows)] or [[] for _ in self._schema]
+
+    def __getattr__(self, name: str) -> NoReturn:
+        if name in _OF_PLANS:
+            raise UnsupportedError(f"a result has no {name}(): write it before collect(), where it is a step of the plan")
+        raise AttributeError(f"a frame has no {name!r}")
 
     @classmethod
     def _of(cls, schema: Schema, *, text: Optional[bytes] = None, columns: Optional[List[Column]] = None) -> "DataFrame":

@@ -288,8 +288,9 @@ class Parts(unittest.TestCase):
     def test_many_files(self):
         """More files than a run takes: rows, groups, windows, and texts that need quotes."""
         frame = self.scan([f'n,t\n{number},"a, ""{number}""\r\n"\n,\n' for number in range(100)], n=INT, t=TEXT)
-        with self.assertRaises(fq.PlanShapeError):
-            frame.collect(program=self.program)
+        for call in (frame.collect, frame.explain, functools.partial(frame.sink_csv, os.path.join(self.room, "out.csv"))):
+            with self.assertRaisesRegex(fq.PlanShapeError, "at most 16 files, and these are 100: .* executor="):
+                call(program=self.program)
         rows = [pair for number in range(100) for pair in ((number, f'a, "{number}"\r\n'), (None, None))]
         self.assertEqual(frame.collect(program=self.program, executor=self.pool).rows(), rows)
         total = frame.group_by(all=fq.lit(True)).agg(C("n").sum(), C("t").last())
@@ -498,6 +499,8 @@ class Parts(unittest.TestCase):
         frame = self.scan(["k\n1\n"], k=INT)
         with self.assertRaisesRegex(fq.UnsupportedError, "progress"):
             self.in_parts(frame, progress=True)
+        with self.assertRaisesRegex(TypeError, "an executor is one of concurrent.futures, .* not a int"):
+            frame.collect(program=self.program, executor=4)
         with self.assertRaises(fq.ArgumentsError):
             self.in_parts(frame, workers=17)
         with self.assertRaises(fq.PlanShapeError):

@@ -6,7 +6,7 @@ import unittest
 
 from repository import fq
 
-from frameq import _expressions, _frames
+from frameq import _expressions, _frames, _results
 
 C, INT, TEXT, BOOL = fq.col, fq.Int64, fq.String, fq.Boolean
 A, B = {"col": "a"}, {"col": "b"}
@@ -159,6 +159,10 @@ class Instead(unittest.TestCase):
             (lambda: C("a").str.len_chars(), "no text functions"),
             (lambda: fq.concat([lazy, lazy]), "name all the files in one scan_csv"),
             (lambda: fq.when(C("p")), "filter each case"),
+            (lambda: fq.sum("a"), 'write col("a").sum()'),
+            (lambda: fq.scan_csv("a.csv", schema={"a": fq.Float64}), "no kind Float64: there are no floats: an amount is a Decimal(scale=2)"),
+            (lambda: fq.DataFrame({"a": INT}, [(1,)]).filter(C("a") > 1), "a result has no filter(): write it before collect()"),
+            (lambda: fq.scan_csv("a.csv"), "frameq --draft FILE"),
             (lambda: lazy.unique(keep="last"), 'keep="first"'),
             (lambda: lazy.unique("a", keep="none"), 'keep="first"'),
             (lambda: fq.scan_csv("a.csv", schema={"a": INT}, has_header=False), "has_header=False: a file has a header"),
@@ -175,6 +179,11 @@ class Instead(unittest.TestCase):
         ]:
             for name, words in table.items():
                 self.refused(lambda owner=owner, name=name: getattr(owner, name), f"no {name}(): {words}")
+        for name, words in fq._INSTEAD_OF_KINDS.items():
+            self.refused(lambda name=name: getattr(fq, name), f"no kind {name}: {words}")
+        for name in _results._OF_PLANS:
+            self.assertTrue(hasattr(fq.LazyFrame, name))
+            self.refused(lambda name=name: getattr(fq.DataFrame({}, []), name), f"no {name}(): write it before collect()")
         for name in _expressions.FUNCTIONS:
             self.refused(lambda name=name: getattr(frame().group_by("t"), name), f".agg(all().{name}())")
 
