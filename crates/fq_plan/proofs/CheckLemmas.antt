@@ -228,10 +228,6 @@ same-last ss s m some is = let e = ends-in ss s s m some is in e.2 ∙ sym e.1
 pub columns-last : (d : Fields) (before : List Stage) (s : Stage) → last_or d (map (λ (t : Stage). t.after) (before ++ s ∷ [])) ≡ s.after
 columns-last d before s = ap (last_or d) (map-append (λ (t : Stage). t.after) before (s ∷ [])) ∙ last_or-snoc d (map (λ (t : Stage). t.after) before) s.after
 
-pub no-stage : (ss : List Stage) → length ss ≡ 0 → ss ≡ []
-no-stage [] e = refl
-no-stage (s ∷ ss) e = absurd (omega (arith, e))
-
 -- a stage
 pub stage-further : (sides : List Fields) (p : PassedSteps) (s : Stage) → s.number ≡ length (stage_steps (stages_of p)) → LowersTo sides s.number (columns_after p) s.operator s.after → (main : Fields) →
     Leads sides 0 main (stages_of p) (columns_after p) →
