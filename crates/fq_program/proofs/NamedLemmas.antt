@@ -1,8 +1,9 @@
 -- What a run of named files comes to, case by case, and what its clauses come to.
-use Rattle.std.proofs.Common.{◌≡◌, ◌≢◌, ◌∙◌, ◌≤◌, ◌==◌, ℕ, Bool, true, false, List, [], length, Option, Some, None, Result, Ok, Err, OnOk, refl, ap, sym, subst, inl, inr, eqb-true, eq-eqb}
+use Rattle.std.proofs.Common.{◌≡◌, ◌≢◌, ◌∙◌, ◌≤◌, ◌==◌, ℕ, Bool, true, false, List, [], length, Option, Some, None, Result, Ok, Err, OnOk, arith, refl, ap, sym, subst, inl, inr, eqb-true, eq-eqb}
 use Rattle.std.specs.Prelude.{◌⊎◌, IfErr, IfSome, MatchResult}
 use Rattle.std.specs.Result.{result_map_both}
-use Rattle.std.specs.Io.KnownBytes.{Appends}
+use Rattle.std.specs.Io.KnownBytes.{Appends, Keeps}
+use Rattle.std.proofs.KnownBytes.{Keeps-refl}
 use Rattle.std.proofs.lemmas.Bool.{le-leb}
 use Rattle.fq_column.specs.Frame.{Frame}
 use Rattle.fq_notation.specs.Notation.{Named}
@@ -10,14 +11,16 @@ use Rattle.fq_plan.specs.Noted.{noted, notation_refusal}
 use Rattle.fq_plan.specs.declared.noted.NotationFault.{NotationFault}
 use Rattle.fq_csv.specs.Printed.{printed_in}
 use Rattle.fq_language.specs.Plan.{PlanData, files_wanted}
-use Rattle.fq_run.specs.declared.faults.Fault.TheVariants.{Inputs, Memory}
-use Rattle.fq_shell.specs.Arguments.{Names}
-use Rattle.fq_messages.specs.Ending.{IsOutside, code_of, number_of, status_of, unnoted}
+use Rattle.fq_run.specs.Run.{Tell}
+use Rattle.fq_run.specs.declared.faults.Fault.TheVariants.{Inputs, Memory, Write}
+use Rattle.fq_shell.specs.Arguments.{Names, plan_text}
+use Rattle.fq_messages.specs.Ending.{IsOutside, code_of, done, no_memory, number_of, status_of, unnoted}
+use Rattle.fq_messages.proofs.EndingLemmas.{ended-well}
 use Rattle.fq_messages.specs.declared.status.Status.TheVariants.{BadDevice, NoMemory}
 use Rattle.fq_messages.specs.declared.failures.Failure.{Failure}
 use Rattle.fq_messages.specs.declared.failures.Failure.TheVariants.{Run}
 use Rattle.fq_program.specs.Program.{AreSettings, checked_plan, frame_of}
-use Rattle.fq_program.specs.Named.{AnswersEarly, EndsAt, FailsAs, IsPlaced, Leaves, check_of, early_failure, names_refusal, notations_of, noted_plan, outcome_of, plan_in, planned, refusal_of, reviewed, text_over, written}
+use Rattle.fq_program.specs.Named.{AnswersBy, EndsAt, RunEnds, IsGuarded, IsLeft, IsPlaced, Leaves, LeavesPlan, check_of, early_failure, names_refusal, notations_of, noted_plan, outcome_of, plan_in, planned, refusal_of, reviewed, text_over, written}
 
 -- ---- the plan
 
@@ -70,10 +73,6 @@ noted-is plan p named n e = count (n == files_wanted plan) refl
 
 -- ---- what it comes to
 
-pub outcome-of : (names : Names) (text : List ℕ) (files : List (List ℕ)) (plan : Result PlanData Failure) → planned names text ≡ plan → outcome_of names text files ≡ written plan files
-unfolding outcome_of
-outcome-of names text files plan is = ap (λ p. written p files) is
-
 pub check-of : (names : Names) (text : List ℕ) (files : List (List ℕ)) (plan : Result PlanData Failure) → planned names text ≡ plan → check_of names text files ≡ reviewed plan files
 unfolding check_of
 check-of names text files plan is = ap (λ p. reviewed p files) is
@@ -86,29 +85,8 @@ pub plan-fails : (names : Names) (text : List ℕ) (named : List Named) (f : Fai
     (plan_in text named (length names.files) ≡ Err f) ⊎ IsOutside f → (planned names text ≡ Err f) ⊎ IsOutside f
 plan-fails names text named f apart is why = elim why [ inl refused ↦ inl (planned-fine names text named apart is ∙ refused) | inr outside ↦ inr outside ]
 
-pub outcome-fails : (names : Names) (text : List ℕ) (files : List (List ℕ)) (f : Failure) → (planned names text ≡ Err f) ⊎ IsOutside f → (outcome_of names text files ≡ Err f) ⊎ IsOutside f
-outcome-fails names text files f why = elim why [ inl refused ↦ inl (outcome-of names text files (Err f) refused) | inr outside ↦ inr outside ]
-
 pub check-fails : (names : Names) (text : List ℕ) (files : List (List ℕ)) (f : Failure) → (planned names text ≡ Err f) ⊎ IsOutside f → (check_of names text files ≡ Err f) ⊎ IsOutside f
 check-fails names text files f why = elim why [ inl refused ↦ inl (check-of names text files (Err f) refused) | inr outside ↦ inr outside ]
-
--- nothing is refused before a data file is opened, or this is
-pub early-fine : {X : Type 0} (names : Names) (text : List ℕ) (p : PlanData) (r : Result X Failure) → planned names text ≡ Ok p → AnswersEarly (early_failure names text) r
-unfolding early_failure
-early-fine names text p r is = subst (λ plan. AnswersEarly (refusal_of plan) r) (sym is) tt
-
-outside-early : (X : Type 0) (f : Failure) (early : Option Failure) → IsOutside f → (let r : Result X Failure = Err f in AnswersEarly early r)
-outside-early X f None outside = tt
-outside-early X f (Some refusal) outside = inr outside
-
-pub early-refused : (X : Type 0) (names : Names) (text : List ℕ) (f : Failure) → (planned names text ≡ Err f) ⊎ IsOutside f → (let r : Result X Failure = Err f in AnswersEarly (early_failure names text) r)
-unfolding early_failure
-early-refused X names text f why = elim why [
-  | inl refused ↦
-      let r : Result X Failure = Err f in
-      subst (λ plan. AnswersEarly (refusal_of plan) r) (sym refused) (inl refl)
-  | inr outside ↦ outside-early X f (early_failure names text) outside
-]
 
 -- ---- a run of a checked plan
 
@@ -116,27 +94,32 @@ early-refused X names text f why = elim why [
 pub settings-in-range : (batch_size workers : ℕ) → 1 ≤ batch_size → batch_size ≤ 65536 → 1 ≤ workers → workers ≤ 16 → AreSettings batch_size workers
 settings-in-range batch_size workers a b c d = rw (le-leb 1 batch_size a, le-leb batch_size 65536 b, le-leb 1 workers c, le-leb workers 16 d) refl
 
--- the text of the frame
-pub text-is : {X : Type 0} (p : PlanData) (files : List (List ℕ)) (P : List ℕ → Type 0) (r : Result X Failure) →
-    OnOk r ((frame : Frame) × (frame_of p files ≡ Ok frame) × P (printed_in p.notations frame)) → OnOk r ((text : List ℕ) × (text_over p files ≡ Ok text) × P text)
-text-is p files P (Ok x) h = (printed_in p.notations h.0, ap (result_map_both (printed_in p.notations) (λ failure. failure)) h.1, h.2)
-text-is p files P (Err f) h = tt
+-- how it ended over files, with a text in place of the frame
+text-is : (p : PlanData) (files : List (List ℕ)) (frame : Frame) → frame_of p files ≡ Ok frame → text_over p files ≡ Ok (printed_in p.notations frame)
+text-is p files frame is = ap (result_map_both (printed_in p.notations) (λ failure. failure)) is
 
-pub text-fails : {X : Type 0} (p : PlanData) (files : List (List ℕ)) (r : Result X Failure) → IfErr r (λ f. (frame_of p files ≡ Err f) ⊎ IsOutside f) → FailsAs (text_over p files) r
-text-fails p files (Ok x) h = tt
-text-fails p files (Err f) h = elim h [ inl same ↦ inl (ap (result_map_both (printed_in p.notations) (λ failure. failure)) same) | inr outside ↦ inr outside ]
+text-fails : (p : PlanData) (files : List (List ℕ)) (f : Failure) → (frame_of p files ≡ Err f) ⊎ IsOutside f → (text_over p files ≡ Err f) ⊎ IsOutside f
+text-fails p files f why = elim why [ inl same ↦ inl (ap (result_map_both (printed_in p.notations) (λ failure. failure)) same) | inr outside ↦ inr outside ]
 
--- it was appended to the output
+pub text-ends : {X : Type 0} (p : PlanData) (files : List (List ℕ)) (P : List ℕ → Type 0) (r : Result X Failure) →
+    OnOk r ((frame : Frame) × (frame_of p files ≡ Ok frame) × P (printed_in p.notations frame)) → IfErr r (λ f. (frame_of p files ≡ Err f) ⊎ IsOutside f) →
+    MatchResult r (λ _. (text : List ℕ) × (text_over p files ≡ Ok text) × P text) (λ f. (text_over p files ≡ Err f) ⊎ IsOutside f)
+text-ends p files P (Ok x) printed failed = (printed_in p.notations printed.0, text-is p files printed.0 printed.1, printed.2)
+text-ends p files P (Err f) printed failed = text-fails p files f failed
+
+-- the text was appended to the output
 pub left-here : {X : Type 0} (outcome : Result (List ℕ) Failure) (file before after : Option (List ℕ)) (known known_after : List ℕ → Option (List ℕ)) (r : Result X Failure) →
-    file ≡ None → OnOk r ((text : List ℕ) × (outcome ≡ Ok text) × Appends before after text) → Leaves outcome file before after known known_after r
+    file ≡ None → MatchResult r (λ _. (text : List ℕ) × (outcome ≡ Ok text) × Appends before after text) (λ f. (outcome ≡ Err f) ⊎ IsOutside f) →
+    Leaves outcome file before after known known_after r
 left-here outcome file before after known known_after (Ok x) none h = (h.0, h.1, record { here = λ _. h.2; there = λ name some. absurd (cc) })
-left-here outcome file before after known known_after (Err f) none h = tt
+left-here outcome file before after known known_after (Err f) none h = h
 
 -- or is in the place of a file
 pub left-there : {X : Type 0} (outcome : Result (List ℕ) Failure) (file before after : Option (List ℕ)) (known known_after : List ℕ → Option (List ℕ)) (name : List ℕ) (empty : Type 0) (r : Result X Failure) →
     file ≡ Some name → ((bytes : List ℕ) → known name ≡ Some bytes → empty) →
-    OnOk r ((text : List ℕ) × (outcome ≡ Ok text) × (empty → IsPlaced known known_after name text)) → Leaves outcome file before after known known_after r
-left-there outcome file before after known known_after name empty (Err f) some told h = tt
+    MatchResult r (λ _. (text : List ℕ) × (outcome ≡ Ok text) × (empty → IsPlaced known known_after name text)) (λ f. (outcome ≡ Err f) ⊎ IsOutside f) →
+    Leaves outcome file before after known known_after r
+left-there outcome file before after known known_after name empty (Err f) some told h = h
 left-there outcome file before after known known_after name empty (Ok x) some told h = (
   h.0,
   h.1,
@@ -145,6 +128,22 @@ left-there outcome file before after known known_after name empty (Ok x) some to
     there = λ other is bytes was. let same : other ≡ name = cc in rw same (h.2 (told bytes (rw same at was)) bytes (rw same at was));
   },
 )
+
+-- whatever it came to
+module _ {X : Type 0} (file before after : Option (List ℕ)) (known known_after : List ℕ → Option (List ℕ)) where
+  pub guarded-here : (r : Result X Failure) → file ≡ None → known_after ≡ known → IfErr r (λ f. f ≢ Run Write → Keeps before after) → IsGuarded file before after known known_after r
+  guarded-here r none same unwritten = record { elsewhere = λ some. absurd (cc); unwritten = unwritten; untouched = untouched r }
+    where
+      untouched : (r : Result X Failure) → IfErr r (λ _. known_after ≡ known)
+      untouched (Ok x) = tt
+      untouched (Err f) = same
+
+  pub guarded-there : (r : Result X Failure) → IfErr r (λ _. known_after ≡ known) → IsGuarded file before before known known_after r
+  guarded-there r untouched = record { elsewhere = λ _. Keeps-refl before; unwritten = unwritten r; untouched = untouched }
+    where
+      unwritten : (r : Result X Failure) → IfErr r (λ f. f ≢ Run Write → Keeps before before)
+      unwritten (Ok x) = tt
+      unwritten (Err f) = λ _. Keeps-refl before
 
 -- what was written is all that the file holds, which was empty
 pub written-whole : (before after : Option (List ℕ)) (text : List ℕ) → Appends before after text → before ≡ Some [] → after ≡ Some text
@@ -169,20 +168,80 @@ pub outside-memory : (text other : List ℕ) (r : Result PlanData Failure) → o
 outside-memory text other (Ok plan) same h = ap checked_plan (sym same) ∙ h
 outside-memory text other (Err f) same h = elim h [ inl refused ↦ inl (ap checked_plan (sym same) ∙ refused) | inr memory ↦ inr (inr memory) ]
 
--- ---- the status
+-- ---- how a run of named files ends
 
-pub any-early : (early : Option Failure) (status : ℕ) → ((code : ℕ) → EndsAt code status) → IfSome early (λ refusal. EndsAt (number_of (status_of refusal)) status)
+-- it was refused
+pub answers-refused : (X : Type 0) (plan : Result PlanData Failure) (f : Failure) (told : List (List ℕ) → Type 0) (file before after : Option (List ℕ))
+    (known known_after : List ℕ → Option (List ℕ)) → (plan ≡ Err f) ⊎ IsOutside f →
+    (let r : Result X Failure = Err f in AnswersBy plan r (LeavesPlan told file before after known known_after r))
+answers-refused X (Err g) f told file before after known known_after (inl same) = inl (cc)
+answers-refused X (Err g) f told file before after known known_after (inr outside) = inr outside
+answers-refused X (Ok p) f told file before after known known_after (inl same) = absurd (cc)
+answers-refused X (Ok p) f told file before after known known_after (inr outside) = λ files tell. inr outside
+
+-- or has a plan
+pub answers-planned : {X : Type 0} (plan : Result PlanData Failure) (p : PlanData) (r : Result X Failure) (Holds : PlanData → Type 0) → plan ≡ Ok p → Holds p → AnswersBy plan r Holds
+answers-planned plan p r Holds is holds = subst (λ (q : Result PlanData Failure). AnswersBy q r Holds) (sym is) holds
+
+-- the status of what came from outside is that of any outcome
+outside-ends : (code : ℕ) (f : Failure) → IsOutside f → EndsAt code (number_of (status_of f))
+outside-ends code f outside = elim outside [ inl device ↦ inr (inl (ap number_of device)) | inr memory ↦ inr (inr (ap number_of memory)) ]
+
+early-ends : {X : Type 0} (plan : Result PlanData Failure) (r : Result X Failure) (Holds : PlanData → Type 0) → AnswersBy plan r Holds →
+    IfSome (refusal_of plan) (λ refusal. EndsAt (number_of (status_of refusal)) (code_of r))
+early-ends (Ok p) r Holds h = tt
+early-ends (Err f) (Ok x) Holds h = absurd h
+early-ends (Err f) (Err g) Holds h = elim h [ inl same ↦ inl (ap (λ e. number_of (status_of e)) same) | inr outside ↦ outside-ends _ g outside ]
+
+module _ {X : Type 0} (file before after : Option (List ℕ)) (known known_after : List ℕ → Option (List ℕ)) where
+  leaves : (told : List (List ℕ) → Type 0) (plan : Result PlanData Failure) (r : Result X Failure) (files : List (List ℕ)) → told files →
+      AnswersBy plan r (LeavesPlan told file before after known known_after r) → Leaves (written plan files) file before after known known_after r
+  leaves told (Ok p) r files tell h = h files tell
+  leaves told (Err f) (Ok x) files tell h = absurd h
+  leaves told (Err f) (Err g) files tell h = elim h [ inl same ↦ inl (ap Err (sym same)) | inr outside ↦ inr outside ]
+
+  left : (outcome : Result (List ℕ) Failure) (r : Result X Failure) → Leaves outcome file before after known known_after r →
+      OnOk r ((text : List ℕ) × (outcome ≡ Ok text) × IsLeft file before after known known_after text)
+  left outcome (Ok x) h = h
+  left outcome (Err f) h = tt
+
+  leaves-ends : (outcome : Result (List ℕ) Failure) (r : Result X Failure) → Leaves outcome file before after known known_after r → EndsAt (code_of outcome) (code_of r)
+  leaves-ends outcome (Ok x) h = inl (sym (ap code_of h.1))
+  leaves-ends outcome (Err f) h = elim h [ inl same ↦ inl (sym (ap code_of same)) | inr outside ↦ outside-ends _ f outside ]
+
+-- the status says how it ended
+module _ {X : Type 0} (names : Names) (known mid known_after : List ℕ → Option (List ℕ)) (out out_after err err_after : Option (List ℕ)) (r : Result X Failure) (ended : ℕ) where
+  pub run-ends : ended ≡ code_of r → known_after ≡ mid →
+      ((text : List ℕ) → plan_text known names ≡ Some text → AnswersBy (planned names text) r (LeavesPlan (Tell known names.files) names.output out out_after known mid r)) →
+      IsGuarded names.output out out_after known mid r → OnOk r (Keeps err err_after) → RunEnds names known known_after out out_after err err_after ended
+  unfolding early_failure outcome_of
+  run-ends code same answers guarded quiet = record {
+    early = λ text told. subst (λ n. IfSome (early_failure names text) (λ refusal. EndsAt (number_of (status_of refusal)) n)) (sym code) (early-ends (planned names text) r _ (answers text told));
+    status = λ text files told tell. subst (EndsAt (code_of (outcome_of names text files))) (sym code) (leaves-ends _ _ _ _ _ _ r (ends text files told tell));
+    output = λ text files told tell none well. let have = whole text files told tell well in (have.0, have.1, have.2.here none);
+    placed = λ text files name told tell some well. let have = whole text files told tell well in (have.0, have.1, λ bytes was. ap (λ k. k name) same ∙ have.2.there name some bytes was);
+    elsewhere = guarded.elsewhere;
+    quiet = λ well. ended-well r (sym code ∙ well) quiet;
+  }
+    where
+      ends : (text : List ℕ) (files : List (List ℕ)) → plan_text known names ≡ Some text → Tell known names.files files → Leaves (written (planned names text) files) names.output out out_after known mid r
+      ends text files told tell = leaves _ _ _ _ _ (Tell known names.files) (planned names text) r files tell (answers text told)
+
+      whole : (text : List ℕ) (files : List (List ℕ)) → plan_text known names ≡ Some text → Tell known names.files files → ended ≡ done →
+          (frame : List ℕ) × (written (planned names text) files ≡ Ok frame) × IsLeft names.output out out_after known mid frame
+      whole text files told tell well = ended-well r (sym code ∙ well) (left _ _ _ _ _ _ r (ends text files told tell))
+
+-- no memory was left for its arguments
+any-early : (early : Option Failure) (status : ℕ) → ((code : ℕ) → EndsAt code status) → IfSome early (λ refusal. EndsAt (number_of (status_of refusal)) status)
 any-early None status ends = tt
 any-early (Some refusal) status ends = ends (number_of (status_of refusal))
 
-pub early-ends : {X : Type 0} (early : Option Failure) (r : Result X Failure) (status : ℕ) → status ≡ code_of r → AnswersEarly early r →
-    IfSome early (λ refusal. EndsAt (number_of (status_of refusal)) status)
-early-ends None r status is h = tt
-early-ends (Some refusal) (Ok x) status is h = absurd h
-early-ends (Some refusal) (Err f) status is h = elim h [
-  | inl same ↦ inl (is ∙ ap (λ g. number_of (status_of g)) same)
-  | inr outside ↦ elim outside [
-    | inl device ↦ inr (inl (is ∙ ap number_of device))
-    | inr memory ↦ inr (inr (is ∙ ap number_of memory))
-  ]
-]
+pub unstarted : (names : Names) (known : List ℕ → Option (List ℕ)) (out err err_after : Option (List ℕ)) (ended : ℕ) → ended ≡ no_memory → RunEnds names known known out out err err_after ended
+unstarted names known out err err_after ended is = record {
+  early = λ text told. any-early _ ended (λ code. inr (inr is));
+  status = λ text files told tell. inr (inr is);
+  output = λ text files told tell none well. absurd (omega (arith, is, well));
+  placed = λ text files name told tell some well. absurd (omega (arith, is, well));
+  elsewhere = λ _. Keeps-refl out;
+  quiet = λ well. absurd (omega (arith, is, well));
+}

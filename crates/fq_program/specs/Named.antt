@@ -1,23 +1,19 @@
 -- A run and a check of the files that arguments name: what they come to, by the text of the plan and the bytes of the files in their order.
-use Rattle.std.specs.Prelude.{◌≡◌, ◌⊎◌, ◌==◌, ℕ, true, false, List, [], length, is_none, unwrap_or, Option, Some, None, Result, Ok, Err, OnOk, IfErr, IfSome, IsErrAnd, IsOk, MatchResult, if◌then◌else◌}
+use Rattle.std.specs.Prelude.{◌≡◌, ◌≢◌, ◌⊎◌, ◌==◌, ℕ, true, false, List, [], length, is_none, unwrap_or, Option, Some, None, Result, Ok, Err, IfErr, IfSome, IsErrAnd, IsOk, IsSome, MatchResult, if◌then◌else◌}
 use Rattle.std.specs.Result.{result_map_both}
-use Rattle.std.specs.Io.KnownBytes.{Appends}
+use Rattle.std.specs.Io.KnownBytes.{Appends, Keeps}
 use Rattle.fq_notation.specs.Notation.{Named}
 use Rattle.fq_csv.specs.Printed.{printed_in}
 use Rattle.fq_language.specs.Plan.{PlanData, file_layouts, files_wanted}
 use Rattle.fq_plan.specs.Noted.{noted, notation_refusal}
 use Rattle.fq_review.specs.Checked.{are_clean}
-use Rattle.fq_run.specs.declared.faults.Fault.TheVariants.{Inputs}
-use Rattle.fq_shell.specs.Arguments.{Names, is_check, is_run, names_of, names_to_check, plan_text, reads_input_twice, replaces_plan}
-use Rattle.fq_messages.specs.Ending.{bad_device, no_memory, unnoted, IsOutside}
+use Rattle.fq_run.specs.Run.{Tell}
+use Rattle.fq_run.specs.declared.faults.Fault.TheVariants.{Inputs, Write}
+use Rattle.fq_shell.specs.Arguments.{Names, is_check, is_run, names_to_check, plan_text, reads_input_twice, replaces_plan}
+use Rattle.fq_messages.specs.Ending.{bad_device, code_of, done, no_memory, number_of, status_of, unnoted, IsOutside}
 use Rattle.fq_messages.specs.declared.failures.Failure.{Failure}
 use Rattle.fq_messages.specs.declared.failures.Failure.TheVariants.{Decimals, InputTwice, PlanReplaced, Problems, Run}
 use Rattle.fq_program.specs.Program.{checked_plan, frame_of}
-
--- these are the arguments of a run, and this is the text of the plan that they name
-pub record IsRun (bytes_of : List ℕ → Option (List ℕ)) (arguments : List (List ℕ)) (text : List ℕ) : Type 0 where
-  pub taken : is_run arguments ≡ true
-  pub plan : plan_text bytes_of (names_of arguments) ≡ Some text
 
 -- why names are refused, whatever the files are: the frame would replace the plan, standard input is named twice, or an entry of --decimal is
 -- wrong
@@ -96,15 +92,37 @@ pub record IsLeft (file : Option (List ℕ)) (before after : Option (List ℕ)) 
   pub here : file ≡ None → Appends before after text
   pub there : (name : List ℕ) → file ≡ Some name → IsPlaced known known_after name text
 
--- at a good end the outcome is a text, which is left
+-- at a good end the outcome is a text, which is left; a failure is that of the outcome, or of a device or an allocation
 abbrev pub Leaves : {X : Type 0} → Result (List ℕ) Failure → Option (List ℕ) → Option (List ℕ) → Option (List ℕ)
     → (List ℕ → Option (List ℕ)) → (List ℕ → Option (List ℕ)) → Result X Failure → Type 0
-Leaves outcome file before after known known_after result = OnOk result ((text : List ℕ) × (outcome ≡ Ok text) × IsLeft file before after known known_after text)
+Leaves outcome file before after known known_after result =
+    MatchResult result (λ _. (text : List ℕ) × (outcome ≡ Ok text) × IsLeft file before after known known_after text) (λ failure. (outcome ≡ Err failure) ⊎ IsOutside failure)
 
--- a failure is that of the outcome, or of a device or an allocation
-abbrev pub FailsAs : {X : Type 0} → Result (List ℕ) Failure → Result X Failure → Type 0
-FailsAs outcome result = IfErr result (λ failure. (outcome ≡ Err failure) ⊎ IsOutside failure)
+-- so ends a run with a plan, where files' bytes are told
+abbrev pub LeavesPlan : {X : Type 0} → (List (List ℕ) → Type 0) → Option (List ℕ) → Option (List ℕ) → Option (List ℕ)
+    → (List ℕ → Option (List ℕ)) → (List ℕ → Option (List ℕ)) → Result X Failure → PlanData → Type 0
+LeavesPlan told file before after known known_after result p = (files : List (List ℕ)) → told files → Leaves (text_over p files) file before after known known_after result
 
--- a refusal, if there is one, is what is answered, unless a device or an allocation failed
-abbrev pub AnswersEarly : {X : Type 0} → Option Failure → Result X Failure → Type 0
-AnswersEarly refusal result = IfSome refusal (λ failure. IsErrAnd result (λ f. (f ≡ failure) ⊎ IsOutside f))
+-- a refusal is what is answered, unless a device or an allocation failed; of a plan something holds
+abbrev pub AnswersBy : {X : Type 0} → Result PlanData Failure → Result X Failure → (PlanData → Type 0) → Type 0
+AnswersBy plan result Holds = elim plan [ Err failure ↦ IsErrAnd result (λ f. (f ≡ failure) ⊎ IsOutside f) | Ok p ↦ Holds p ]
+
+-- whatever a run comes to: no byte is on the output if a file takes the frame, or at a failure but that of a write, and at no failure has a
+-- file changed
+pub record IsGuarded {X : Type 0} (file before after : Option (List ℕ)) (known known_after : List ℕ → Option (List ℕ)) (result : Result X Failure) : Type 0 where
+  pub elsewhere : IsSome file → Keeps before after
+  pub unwritten : IfErr result (λ failure. failure ≢ Run Write → Keeps before after)
+  pub untouched : IfErr result (λ _. known_after ≡ known)
+
+-- a run of named files has ended at this status. It is that of a refusal before a data file is opened, or of the outcome; at status 0 the
+-- outcome is a text, which was appended to the output, or is in the place of a file, and then no byte is on the output; and at status 0 nothing
+-- was said on standard error.
+pub record RunEnds (names : Names) (known known_after : List ℕ → Option (List ℕ)) (out out_after err err_after : Option (List ℕ)) (ended : ℕ) : Type 0 where
+  pub early : (text : List ℕ) → plan_text known names ≡ Some text → IfSome (early_failure names text) (λ refusal. EndsAt (number_of (status_of refusal)) ended)
+  pub status : (text : List ℕ) (inputs : List (List ℕ)) → plan_text known names ≡ Some text → Tell known names.files inputs → EndsAt (code_of (outcome_of names text inputs)) ended
+  pub output : (text : List ℕ) (inputs : List (List ℕ)) → plan_text known names ≡ Some text → Tell known names.files inputs → names.output ≡ None → ended ≡ done →
+      (frame : List ℕ) × (outcome_of names text inputs ≡ Ok frame) × Appends out out_after frame
+  pub placed : (text : List ℕ) (inputs : List (List ℕ)) (name : List ℕ) → plan_text known names ≡ Some text → Tell known names.files inputs → names.output ≡ Some name → ended ≡ done →
+      (frame : List ℕ) × (outcome_of names text inputs ≡ Ok frame) × IsPlaced known known_after name frame
+  pub elsewhere : IsSome names.output → Keeps out out_after
+  pub quiet : ended ≡ done → Keeps err err_after

@@ -1,14 +1,14 @@
 //! The program with arguments.
-ghost use Rattle.std.specs.Prelude.{◌≡◌, ◌≢◌, ◌⊎◌, ◌<◌, ◌^◌, ℕ, List, [], Some, None, IsSome, IfSome, IfErr, IfOk, IsErrAnd, MatchResult, OnOk, length, map, string_bytes, true};
-ghost use Rattle.std.specs.Io.KnownBytes.{Appends, Keeps};
+ghost use Rattle.std.specs.Prelude.{◌≡◌, ◌≢◌, ◌⊎◌, ◌<◌, ◌^◌, ℕ, List, [], Some, None, IfErr, IfOk, MatchResult, OnOk, length, map, string_bytes, true};
+ghost use Rattle.std.specs.Io.KnownBytes.{Keeps};
 ghost use Rattle.fq_language.specs.Plan.{PlanData, files_wanted};
 ghost use Rattle.fq_run.specs.declared.faults.Fault.TheVariants as fault;
 ghost use Rattle.fq_run.specs.Run.{Tell};
 ghost use Rattle.fq_shell.specs.Arguments.{is_run, names_of, names_to_check, named_by, plan_text};
-ghost use Rattle.fq_messages.specs.Ending.{done, bad_device, code_of, number_of, status_of, IsOutside};
+ghost use Rattle.fq_messages.specs.Ending.{done, bad_device, code_of, IsOutside};
 ghost use Rattle.fq_messages.specs.declared.failures.Failure.TheVariants as failure;
 ghost use Rattle.fq_program.specs.Program.{checked_plan as checked_plan_of};
-ghost use Rattle.fq_program.specs.Named.{check_of, early_failure, names_refusal, notations_of, noted_plan as noted_plan_of, outcome_of, plan_in, reviewed, text_over, AnswersEarly, ComesTo, EndsAt, FailsAs, IsCheck, IsPlaced, IsRun, Leaves};
+ghost use Rattle.fq_program.specs.Named.{check_of, names_refusal, notations_of, noted_plan as noted_plan_of, plan_in, planned as planned_of, reviewed, text_over, AnswersBy, ComesTo, EndsAt, RunEnds, IsCheck, IsGuarded, IsPlaced, LeavesPlan};
 
 use crate::program::{checked_plan, run_over};
 use clap::error::ErrorKind;
@@ -44,21 +44,11 @@ pub fn with_words<T: Threads + Wait + Sync, O: Opener, W: Write, E: Write>(
     out: &mut Noted<W>,
     err: &mut E,
 ) -> u8
-    ensures early { let arguments = map string_bytes words.items in (text : List ℕ) → IsRun (O.bytes_of files.old) arguments text →
-        IfSome (early_failure (names_of arguments) text) (λ refusal. EndsAt (number_of (status_of refusal)) result) }
-    ensures status { let arguments = map string_bytes words.items in (text : List ℕ) (inputs : List (List ℕ)) → IsRun (O.bytes_of files.old) arguments text →
-        Tell (O.bytes_of files.old) (names_of arguments).files inputs → EndsAt (code_of (outcome_of (names_of arguments) text inputs)) result }
-    ensures output { let arguments = map string_bytes words.items in (text : List ℕ) (inputs : List (List ℕ)) → IsRun (O.bytes_of files.old) arguments text →
-        Tell (O.bytes_of files.old) (names_of arguments).files inputs → (names_of arguments).output ≡ None → result ≡ done →
-        (written : List ℕ) × (outcome_of (names_of arguments) text inputs ≡ Ok written) × Appends (W.contents out.old.writer) (W.contents out.new.writer) written }
-    ensures elsewhere { let arguments = map string_bytes words.items in is_run arguments ≡ true → IsSome (names_of arguments).output →
-        Keeps (W.contents out.old.writer) (W.contents out.new.writer) }
-    ensures placed { let arguments = map string_bytes words.items in (text : List ℕ) (inputs : List (List ℕ)) (name : List ℕ) → IsRun (O.bytes_of files.old) arguments text →
-        Tell (O.bytes_of files.old) (names_of arguments).files inputs → (names_of arguments).output ≡ Some name → result ≡ done →
-        (written : List ℕ) × (outcome_of (names_of arguments) text inputs ≡ Ok written) × IsPlaced (O.bytes_of files.old) (O.bytes_of files.new) name written }
+    ensures run { let arguments = map string_bytes words.items in is_run arguments ≡ true →
+        RunEnds (names_of arguments) (O.bytes_of files.old) (O.bytes_of files.new) (W.contents out.old.writer) (W.contents out.new.writer)
+        (E.contents err.old) (E.contents err.new) result }
     ensures unwritten { result ≢ done → result ≢ bad_device → Keeps (W.contents out.old.writer) (W.contents out.new.writer) }
     ensures untouched { result ≢ done → O.bytes_of files.new ≡ O.bytes_of files.old }
-    ensures quiet { let arguments = map string_bytes words.items in is_run arguments ≡ true → result ≡ done → Keeps (E.contents err.old) (E.contents err.new) }
     ensures checked { let arguments = map string_bytes words.items in (text : List ℕ) (inputs : List (List ℕ)) → IsCheck (O.bytes_of files.old) arguments text →
         Tell (O.bytes_of files.old) (names_to_check arguments).files inputs → EndsAt (code_of (check_of (names_to_check arguments) text inputs)) result }
 {
@@ -80,20 +70,10 @@ fn answer_run<T: Threads + Wait + Sync, O: Opener, W: Write, E: Write>(
     out: &mut Noted<W>,
     err: &mut E,
 ) -> u8
-    ensures early { (text : List ℕ) → plan_text (O.bytes_of files.old) (named_by options.now) ≡ Some text →
-        IfSome (early_failure (named_by options.now) text) (λ refusal. EndsAt (number_of (status_of refusal)) result) }
-    ensures status { (text : List ℕ) (inputs : List (List ℕ)) → plan_text (O.bytes_of files.old) (named_by options.now) ≡ Some text →
-        Tell (O.bytes_of files.old) (named_by options.now).files inputs → EndsAt (code_of (outcome_of (named_by options.now) text inputs)) result }
-    ensures output { (text : List ℕ) (inputs : List (List ℕ)) → plan_text (O.bytes_of files.old) (named_by options.now) ≡ Some text →
-        Tell (O.bytes_of files.old) (named_by options.now).files inputs → (named_by options.now).output ≡ None → result ≡ done →
-        (written : List ℕ) × (outcome_of (named_by options.now) text inputs ≡ Ok written) × Appends (W.contents out.old.writer) (W.contents out.new.writer) written }
-    ensures elsewhere { IsSome (named_by options.now).output → Keeps (W.contents out.old.writer) (W.contents out.new.writer) }
-    ensures placed { (text : List ℕ) (inputs : List (List ℕ)) (name : List ℕ) → plan_text (O.bytes_of files.old) (named_by options.now) ≡ Some text →
-        Tell (O.bytes_of files.old) (named_by options.now).files inputs → (named_by options.now).output ≡ Some name → result ≡ done →
-        (written : List ℕ) × (outcome_of (named_by options.now) text inputs ≡ Ok written) × IsPlaced (O.bytes_of files.old) (O.bytes_of files.new) name written }
+    ensures run { RunEnds (named_by options.now) (O.bytes_of files.old) (O.bytes_of files.new) (W.contents out.old.writer) (W.contents out.new.writer)
+        (E.contents err.old) (E.contents err.new) result }
     ensures unwritten { result ≢ done → result ≢ bad_device → Keeps (W.contents out.old.writer) (W.contents out.new.writer) }
     ensures untouched { result ≢ done → O.bytes_of files.new ≡ O.bytes_of files.old }
-    ensures quiet { result ≡ done → Keeps (E.contents err.old) (E.contents err.new) }
 {
     let mut learned = Learned::new(alloc);
     let ending = run_named(rt, alloc, options, files, out, &mut learned);
@@ -481,17 +461,10 @@ fn run_named<T: Threads + Wait + Sync, O: Opener, W: Write>(
     out: &mut W,
     learned: &mut Learned,
 ) -> Result<(), Failure>
-    ensures early { (text : List ℕ) → plan_text (O.bytes_of files.old) (named_by options.now) ≡ Some text →
-        AnswersEarly (early_failure (named_by options.now) text) result }
-    ensures printed { (text : List ℕ) (inputs : List (List ℕ)) → plan_text (O.bytes_of files.old) (named_by options.now) ≡ Some text →
-        Tell (O.bytes_of files.old) (named_by options.now).files inputs →
-        Leaves (outcome_of (named_by options.now) text inputs) (named_by options.now).output (W.contents out.old) (W.contents out.new)
-        (O.bytes_of files.old) (O.bytes_of files.new) result }
-    ensures failed { (text : List ℕ) (inputs : List (List ℕ)) → plan_text (O.bytes_of files.old) (named_by options.now) ≡ Some text →
-        Tell (O.bytes_of files.old) (named_by options.now).files inputs → FailsAs (outcome_of (named_by options.now) text inputs) result }
-    ensures elsewhere { IsSome (named_by options.now).output → Keeps (W.contents out.old) (W.contents out.new) }
-    ensures unwritten { IfErr result (λ f. f ≢ failure.Run fault.Write → Keeps (W.contents out.old) (W.contents out.new)) }
-    ensures untouched { IfErr result (λ _. O.bytes_of files.new ≡ O.bytes_of files.old) }
+    ensures ended { (text : List ℕ) → plan_text (O.bytes_of files.old) (named_by options.now) ≡ Some text →
+        AnswersBy (planned_of (named_by options.now) text) result (LeavesPlan (Tell (O.bytes_of files.old) (named_by options.now).files) (named_by options.now).output
+        (W.contents out.old) (W.contents out.new) (O.bytes_of files.old) (O.bytes_of files.new) result) }
+    ensures guarded { IsGuarded (named_by options.now).output (W.contents out.old) (W.contents out.new) (O.bytes_of files.old) (O.bytes_of files.new) result }
 {
     let named = judge_names(alloc, options, files)?;
     match planned(alloc, &named, options, files, learned) {
@@ -511,13 +484,9 @@ fn run_planned<T: Threads + Wait + Sync, O: Opener, W: Write>(
     learned: &mut Learned,
 ) -> Result<(), Failure>
     requires few { length (named_by options.now).files < 2 ^ 16 }
-    ensures printed { (inputs : List (List ℕ)) → Tell (O.bytes_of files.old) (named_by options.now).files inputs →
-        Leaves (text_over plan.now inputs) (named_by options.now).output (W.contents out.old) (W.contents out.new)
-        (O.bytes_of files.old) (O.bytes_of files.new) result }
-    ensures failed { (inputs : List (List ℕ)) → Tell (O.bytes_of files.old) (named_by options.now).files inputs → FailsAs (text_over plan.now inputs) result }
-    ensures elsewhere { IsSome (named_by options.now).output → Keeps (W.contents out.old) (W.contents out.new) }
-    ensures unwritten { IfErr result (λ f. f ≢ failure.Run fault.Write → Keeps (W.contents out.old) (W.contents out.new)) }
-    ensures untouched { IfErr result (λ _. O.bytes_of files.new ≡ O.bytes_of files.old) }
+    ensures ended { LeavesPlan (Tell (O.bytes_of files.old) (named_by options.now).files) (named_by options.now).output
+        (W.contents out.old) (W.contents out.new) (O.bytes_of files.old) (O.bytes_of files.new) result plan.now }
+    ensures guarded { IsGuarded (named_by options.now).output (W.contents out.old) (W.contents out.new) (O.bytes_of files.old) (O.bytes_of files.new) result }
 {
     if options.progress() {
         files.show_progress();
@@ -541,13 +510,9 @@ fn write_frame<T: Threads + Wait + Sync, R: Read + Drop + Send, O: Opener, W: Wr
     out: &mut W,
     learned: &mut Learned,
 ) -> Result<(), Failure>
-    ensures printed { (texts : List (List ℕ)) → Tell R.remaining inputs.items texts →
-        Leaves (text_over plan.now texts) (named_by options.now).output (W.contents out.old) (W.contents out.new)
-        (O.bytes_of files.old) (O.bytes_of files.new) result }
-    ensures failed { (texts : List (List ℕ)) → Tell R.remaining inputs.items texts → FailsAs (text_over plan.now texts) result }
-    ensures elsewhere { IsSome (named_by options.now).output → Keeps (W.contents out.old) (W.contents out.new) }
-    ensures unwritten { IfErr result (λ f. f ≢ failure.Run fault.Write → Keeps (W.contents out.old) (W.contents out.new)) }
-    ensures untouched { IfErr result (λ _. O.bytes_of files.new ≡ O.bytes_of files.old) }
+    ensures ended { LeavesPlan (Tell R.remaining inputs.items) (named_by options.now).output
+        (W.contents out.old) (W.contents out.new) (O.bytes_of files.old) (O.bytes_of files.new) result plan.now }
+    ensures guarded { IsGuarded (named_by options.now).output (W.contents out.old) (W.contents out.new) (O.bytes_of files.old) (O.bytes_of files.new) result }
 {
     let (batch_size, workers) = (options.batch_size(), options.workers());
     match options.output() {
@@ -586,9 +551,9 @@ fn run_to_file<T: Threads + Wait + Sync, R: Read + Drop + Send, O: Opener>(
     files: &mut O,
     learned: &mut Learned,
 ) -> Result<(), Failure>
-    ensures placed { (texts : List (List ℕ)) → Tell R.remaining inputs.items texts → OnOk result ((text : List ℕ) × (text_over plan.now texts ≡ Ok text) ×
-        (O.Output.contents output ≡ Some [] → IsPlaced (O.bytes_of files.old) (O.bytes_of files.new) name.now text)) }
-    ensures failed { (texts : List (List ℕ)) → Tell R.remaining inputs.items texts → FailsAs (text_over plan.now texts) result }
+    ensures ended { (texts : List (List ℕ)) → Tell R.remaining inputs.items texts →
+        MatchResult result (λ _. (text : List ℕ) × (text_over plan.now texts ≡ Ok text) × (O.Output.contents output ≡ Some [] → IsPlaced (O.bytes_of files.old) (O.bytes_of files.new) name.now text))
+        (λ f. (text_over plan.now texts ≡ Err f) ⊎ IsOutside f) }
     ensures untouched { IfErr result (λ _. O.bytes_of files.new ≡ O.bytes_of files.old) }
 {
     let mut output = Noted::new(output);
