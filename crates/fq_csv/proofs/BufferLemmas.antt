@@ -126,9 +126,6 @@ after-line xs = no-records (10 ∷ []) line-first xs
 
 -- ---- records that went by
 
-pub passes-none : (before : Option (List ℕ)) → Passes before [] before
-passes-none before bytes e = (bytes, e, refl)
-
 pub passes-more : (a b c : Option (List ℕ)) (rs ss : List Record) → Passes a rs b → Passes b ss c → Passes a (rs ++ ss) c
 passes-more a b c rs ss f g bytes e =
     let p = f bytes e in
@@ -237,9 +234,6 @@ pub record HasText {R : Type 0} (remaining : R → Option (List ℕ)) (old now :
   pub passes : Passes (left_of remaining old) rs (left_of remaining now)
 
 module _ {R : Type 0} (remaining : R → Option (List ℕ)) (old : Buffer R) where
-  pub HasText-none : HasText remaining old old [] 0
-  HasText-none = record { rs = []; number = refl; whole = λ more. refl; passes = passes-none (left_of remaining old) }
-
   -- more of them
   pub HasText-more : (now new : Buffer R) (wanted : ℕ) (before text : List ℕ) (count : ℕ) (ends : Ends) → HasText remaining old now before count → HandsOn remaining now new wanted before text ends
       → HasText remaining old new text (count + ends.count)

@@ -73,9 +73,6 @@ names_of-columns cs ns e = names cs ∙ sym e
 abbrev pub or_later : ℕ → Option StepFault → Option CheckFault → Option CheckFault
 or_later n o later = elim o [ Some code ↦ Some (refused_at (place.Source n) code) | None ↦ later ]
 
-pub source-passed : (n : ℕ) (s : Source) (rest : List Source) → first_refusal (schema_checks (names_of s.fields)) ≡ None → source_refusal n (s ∷ rest) ≡ source_refusal (n + 1) rest
-source-passed n s rest e = ap (λ o. or_later n o (source_refusal (n + 1) rest)) e
-
 pub source-refused : (n : ℕ) (s : Source) (rest : List Source) → IsSome (first_refusal (schema_checks (names_of s.fields))) → IsSome (source_refusal n (s ∷ rest))
 source-refused n s rest h = go (first_refusal (schema_checks (names_of s.fields))) h
   where
@@ -90,10 +87,6 @@ module _ {X E : Type 0} where
   ok-mapped f (Ok x) h = refl
   ok-mapped f (Err e) h = absurd (cc)
 
-  err-mapped : (f : X → X) (r : Result X E) → IsErr r → IsErr (result_map_both f (λ e. e) r)
-  err-mapped f (Ok x) h = absurd (cc)
-  err-mapped f (Err e) h = refl
-
 -- the steps that are left, after a step that was judged
 abbrev pub step_then : ℕ → Fields → Result Fields StepFault → (Fields → Result (List Fields) CheckFault) → Result (List Fields) CheckFault
 step_then n fields r later = elim r [ Err code ↦ Err (refused_at (place.Step n) code) | Ok after ↦ result_map_both (λ rest. fields ∷ rest) (λ e. e) (later after) ]
@@ -105,9 +98,6 @@ module _ (sides : List Fields) (n : ℕ) (fields : Fields) (s : PlanStep) (rest 
 
   pub step-passed : (after : Fields) → judged_step sides fields s ≡ Ok after → IsOk (judged_steps sides (n + 1) after rest) → IsOk (judged_steps sides n fields (s ∷ rest))
   step-passed after e h = subst (λ r. IsOk (step_then n fields r later)) (sym e) (ok-mapped (λ rest. fields ∷ rest) (later after) h)
-
-  pub later-refused : (after : Fields) → judged_step sides fields s ≡ Ok after → IsErr (judged_steps sides (n + 1) after rest) → IsErr (judged_steps sides n fields (s ∷ rest))
-  later-refused after e h = subst (λ r. IsErr (step_then n fields r later)) (sym e) (err-mapped (λ rest. fields ∷ rest) (later after) h)
 
   pub step-refused : IsErr (judged_step sides fields s) → IsErr (judged_steps sides n fields (s ∷ rest))
   step-refused h = go (judged_step sides fields s) h

@@ -49,14 +49,6 @@ only_member-many name (object (member k d no_members)) (m ∷ []) e n = absurd (
 only_member-many name (object (member k d no_members)) (m ∷ o ∷ ms) e n = absurd (cc)
 only_member-many name (object (member k d (member l c more))) ms e n = refl
 
-pub only_member-none : (name : Name) (d : Data) → None ≡ as_object d → only_member name d ≡ None
-only_member-none name null e = refl
-only_member-none name (boolean b) e = refl
-only_member-none name (number x) e = refl
-only_member-none name (string s) e = refl
-only_member-none name (array ds) e = refl
-only_member-none name (object ms) e = absurd (cc)
-
 -- ---- so many members
 
 pub has_members-of : (n : ℕ) (d : Data) (ms : List (String Global × Data)) → Some (members_of ms) ≡ as_object d → has_members n d ≡ (length ms == n)
@@ -68,14 +60,6 @@ has_members-of n (array ds) ms e = absurd (cc)
 has_members-of n (object os) ms e =
     let same : members_of ms ≡ os = cc in
     ap (λ k. k == n) (sym (ap count_of_members same) ∙ count-members_of ms)
-
-pub has_members-none : (n : ℕ) (d : Data) → None ≡ as_object d → has_members n d ≡ false
-has_members-none n null e = refl
-has_members-none n (boolean b) e = refl
-has_members-none n (number x) e = refl
-has_members-none n (string s) e = refl
-has_members-none n (array ds) e = refl
-has_members-none n (object ms) e = absurd (cc)
 
 -- ---- so many items
 

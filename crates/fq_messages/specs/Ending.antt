@@ -83,9 +83,6 @@ number_of NoMemory = 6
 abbrev pub done : ℕ
 done = number_of Done
 
-abbrev pub bad_arguments : ℕ
-bad_arguments = number_of BadArguments
-
 abbrev pub bad_device : ℕ
 bad_device = number_of BadDevice
 
