@@ -71,7 +71,7 @@ pub fn write_details<O: Opener, E: Write>(
         Failure::Check(_) => write_refusal(alloc, text, err),
         Failure::Run(Fault::Write) => write_write(options, learned.write, err),
         Failure::Run(Fault::Read { file }) => write_unread(options.files(), file, files, err),
-        Failure::Decimals => write_decimals(options, err),
+        Failure::Decimals => write_decimal(alloc, options, err),
         Failure::Notation(fault) => write_notation(alloc, fault, options, text, err),
         Failure::Run(fault) => write_run(alloc, fault, options, text, files, err),
     };
@@ -96,12 +96,10 @@ fn write_replaced<E: Write>(options: &Options<'_>, err: &mut E) -> Option<()> {
     writeln!(err, "  --output is {}", options.output()?).ok()
 }
 
-// The lists of `--decimal`.
-fn write_decimals<E: Write>(options: &Options<'_>, err: &mut E) -> Option<()> {
-    for list in options.decimals() {
-        writeln!(err, "  --decimal {}", Quoted(list.as_bytes())).ok()?;
-    }
-    Some(())
+// The entry of `--decimal` that is wrong.
+fn write_decimal<E: Write>(alloc: Global, options: &Options<'_>, err: &mut E) -> Option<()> {
+    let entry = options.wrong_decimal(alloc).ok()??;
+    writeln!(err, "  --decimal {}", Quoted(entry.as_bytes())).ok()
 }
 
 // The entry of a notation that is refused, and the columns of ints that there are.

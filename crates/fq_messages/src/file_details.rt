@@ -7,7 +7,7 @@ use fq_csv::MAX_ROWS;
 use fq_language::Plan;
 use fq_notation::NamedNotations;
 use fq_places::{Quoted, Unread, ends_in_quotes, line_of_record, record_at};
-use fq_review::{BadField, Header, Wanted, Width};
+use fq_review::{BadField, CONVERSION, Header, Separator, Wanted, Width, has_names};
 use fq_shell::Opener;
 use std::alloc::Global;
 use std::fmt;
@@ -18,6 +18,7 @@ use std::io::Write;
 #[derive(Clone, Copy)]
 pub struct FileDetails<'a> {
     name: &'a str,
+    plan: &'a Plan,
     columns: &'a [(String, Kind)],
     named: &'a NamedNotations,
 }
@@ -34,12 +35,13 @@ impl<'a> FileDetails<'a> {
         let columns = plan.source_of(file)?.columns();
         Some(FileDetails {
             name,
+            plan,
             columns,
             named,
         })
     }
 
-    /// Writes where the header differs from the plan's names.
+    /// Writes where the header differs from the plan's names, and what it is instead.
     pub fn write_header<O: Opener, E: Write>(
         self,
         alloc: Global,
@@ -53,10 +55,25 @@ impl<'a> FileDetails<'a> {
             Ok(Some(found)) => {
                 let header = &found.record;
                 let differs = Header { header, columns };
-                writeln!(err, "  {name}:{}: {differs}", found.line).ok()
+                write!(err, "  {name}:{}: {differs}", found.line).ok()?;
+                self.write_guess(header, err)?;
+                writeln!(err, "").ok()
             }
             Ok(None) => writeln!(err, "  {name}: it has no header").ok(),
             Err(cause) => writeln!(err, "  {name}: the plan has {}; {cause}", Names(columns)).ok(),
+        }
+    }
+
+    // Writes what another header is: that of another source, or one with another separator.
+    fn write_guess<E: Write>(self, header: &ByteRecord, err: &mut E) -> Option<()> {
+        for (number, source) in self.plan.sources().iter().enumerate() {
+            if has_names(header, source.columns()) {
+                return write!(err, "; source {number} has these columns").ok();
+            }
+        }
+        match Separator::of(header) {
+            Some(separator) => write!(err, "; {separator}").ok(),
+            None => Some(()),
         }
     }
 
@@ -105,7 +122,11 @@ impl<'a> FileDetails<'a> {
                 let (line, note) = (found.line, found.note());
                 let field = found.record.get(usize::from(column))?;
                 let bad = BadField::of(title, kind, notation, field);
-                writeln!(err, "  {name}:{line}: {bad}{note}").ok()
+                write!(err, "  {name}:{line}: {bad}{note}").ok()?;
+                if kind == Kind::Text {
+                    write!(err, "; {CONVERSION}").ok()?;
+                }
+                writeln!(err, "").ok()
             }
             Ok(None) => writeln!(err, "  {name}: it has no such row now").ok(),
             Err(cause) => {

@@ -18,6 +18,7 @@ mod texts;
 
 pub use checks::{Check, Expected};
 pub use drafts::{Draft, DraftFault};
-pub use headers::Header;
+pub use headers::{Header, Separator, has_names};
 pub use laws::drafted_cells;
+pub use notes::CONVERSION;
 pub use problems::{BadField, Wanted, Width};

@@ -25,6 +25,19 @@ pub fn notations_in(
     Ok(Some(NamedNotations::new(named)))
 }
 
+/// The first entry of lists of `--decimal` that is no `NAME=SCALE` with a scale from 1 to 18.
+pub fn wrong_decimal<'a>(
+    alloc: Global,
+    decimals: &[&'a str],
+) -> Result<Option<&'a str>, AllocError> {
+    for entry in entries_in(alloc, decimals)? {
+        if decimal_entry(entry).is_none() {
+            return Ok(Some(entry));
+        }
+    }
+    Ok(None)
+}
+
 // Adds the entries of decimals, and says whether each of them is right.
 fn push_decimals(
     alloc: Global,

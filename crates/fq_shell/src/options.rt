@@ -5,7 +5,7 @@ ghost use Rattle.clap.specs.Words.{all_of, app_of, found_of, kind_of, rows_of, r
 ghost use Rattle.fq_shell.specs.Arguments.{option_rule, number_rule, limit_rule, lists_rule, flag_rule, output_rule, file_rule, run_app, check_app, is_run, is_check, is_standard, is_standard_output, names_of, names_to_check, named_by, plan_text, reads_input_twice, replaces_plan};
 
 use crate::files::{Opener, STANDARD_INPUT, STANDARD_OUTPUT};
-use crate::notations::notations_in;
+use crate::notations::{notations_in, wrong_decimal};
 use clap::error::ErrorKind;
 use clap::{Arg, ArgAction, ArgMatches, Command, Error, value_parser};
 use fq_csv::MAX_BATCH_SIZE;
@@ -95,8 +95,13 @@ impl<'a> Options<'a> {
         notations_in(alloc, self.decimals(), self.lists("date"))
     }
 
-    /// The lists of `--decimal`.
-    pub fn decimals(&self) -> &[&'a str]
+    /// The first entry of `--decimal` that is no `NAME=SCALE` with a scale from 1 to 18, if there is one. Fails if an allocation does.
+    pub fn wrong_decimal(&self, alloc: Global) -> Result<Option<&'a str>, AllocError> {
+        wrong_decimal(alloc, self.decimals())
+    }
+
+    // The lists of `--decimal`.
+    fn decimals(&self) -> &[&'a str]
         ensures { map (λ list. list.now) result.now ≡ unwrap_or (all_of (codes "decimal") (rows_of (found_of self.now.0))) [] }
     {
         self.lists("decimal")

@@ -10,7 +10,7 @@ ghost use Rattle.fq_ops.specs.declared.joins.How.{How as HowData};
 use crate::plans::Version;
 use crate::reading::explanations::{no_word, wrong};
 use crate::reading::{Listed, Named, Spelled};
-use crate::reasons::Explained;
+use crate::reasons::{Explained, PartFault};
 use crate::words::{HOWS, KINDS, how, kind};
 use fq_column::Kind;
 use fq_ops::How;
@@ -78,8 +78,25 @@ impl Spelled for Kind {
     fn read(alloc: Global, version: Version, value: &Value) -> Explained<Kind> {
         match kind(value) {
             Some(kind) => Ok(kind),
-            None => Err(no_word(alloc, version, value, KINDS)),
+            None => Err(no_kind(alloc, version, value)),
         }
+    }
+}
+
+// A value that is no kind. A date and a decimal are how ints are written in files.
+fn no_kind(alloc: Global, version: Version, value: &Value) -> PartFault {
+    match value.as_str() {
+        Some("date") => wrong(
+            alloc,
+            value,
+            "is not a kind; a date is an \"int\" whose column --date names",
+        ),
+        Some("decimal") => wrong(
+            alloc,
+            value,
+            "is not a kind; a decimal is an \"int\" whose column --decimal names",
+        ),
+        _ => no_word(alloc, version, value, KINDS),
     }
 }
 
