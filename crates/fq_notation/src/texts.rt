@@ -29,7 +29,9 @@ pub fn push_all(text: &mut IntText, bytes: &[u8])
     ensures items { text.new.items ≡ text.old.items ++ bytes.now }
     ensures len { array_vec_len text.new ≡ array_vec_len text.old + length bytes.now }
 {
-    let _ = text.try_extend_from_slice(bytes);
+    let Ok(()) = text.try_extend_from_slice(bytes) else {
+        unreachable!()
+    };
 }
 
 /// Appends the two digits of a number below 100.

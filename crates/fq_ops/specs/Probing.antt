@@ -35,6 +35,11 @@ GivesPart t p rows (rest.More q) = (q.left ≡ p.left) × (q.how ≡ p.how) × I
     × ((rows_left t p).rows ≡ rows ++ (rows_left t q).rows) × ((rows_left t p).fault ≡ (rows_left t q).fault)
 GivesPart t p rows (rest.End fault) = rows_left t p ≡ record { rows = rows; fault = fault }
 
+-- so many rows are a part of at most so many, and all of these if another part follows
+abbrev pub IsPartOf : ℕ → ℕ → Rest → Type 0
+IsPartOf most rows (rest.More q) = rows ≡ most
+IsPartOf most rows (rest.End fault) = rows ≤ most
+
 -- ---- pairs
 
 -- the pairs from a place of so many left ones on, and the left place whose pairs would pass the room
@@ -44,6 +49,11 @@ pairs_from output count c = let u = pairs_within output c.room (range_with_len c
 -- a left place that has given some of its pairs has room for all of them
 abbrev pub IsCursor : (ℕ → List Pair) → ℕ → Cursor → Type 0
 IsCursor output count c = (c.given ≡ 0) ⊎ ((c.row < count) × (c.given ≤ length (output c.row)) × (length (output c.row) ≤ c.room))
+
+-- so many pairs are those of a part of at most so many, and all of these if others follow
+abbrev pub IsCountOf : ℕ → ℕ → Next → Type 0
+IsCountOf most count (next.At d) = count ≡ most
+IsCountOf most count (next.End fault) = count ≤ most
 
 -- these pairs are the next ones
 abbrev pub GoesOn : (ℕ → List Pair) → ℕ → Cursor → List Pair → Next → Type 0

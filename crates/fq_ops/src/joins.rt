@@ -13,7 +13,7 @@ ghost use Rattle.fq_ops.specs.KeySets.{IsWholeAt};
 ghost use Rattle.fq_ops.specs.PlainJoin.{plain_fields, plain_how, plain_join};
 ghost use Rattle.fq_ops.specs.Picks.{Pick, columns_of, picks_from};
 ghost use Rattle.fq_ops.specs.Pairs.{IsIndex, Pair, can_match, join_picks, left_value, matches_of, pairs_of, right_value};
-ghost use Rattle.fq_ops.specs.Probing.{GivesPart, GoesOn, IsCursor, IsProbeOf};
+ghost use Rattle.fq_ops.specs.Probing.{GivesPart, GoesOn, IsCountOf, IsCursor, IsPartOf, IsProbeOf};
 
 use crate::field_lists::positions;
 use crate::key_sets::{KeySet, Mostly, RowKey, is_whole_key};
@@ -188,14 +188,15 @@ impl JoinTable {
         }
     }
 
-    /// The next rows that left rows give, at most so many, and what comes after them: the rest of the left rows, or the end.
+    /// The next rows that left rows give, `most` of them or fewer at the end, and what comes after them: the rest of the left rows, or the
+    /// end.
     ///
     /// So the memory of an output is bounded, whatever the matches. One lookup for each left row, and one more for each part that
     /// begins within the output of one.
     pub fn probe_part(&self, alloc: Global, probe: Probe, most: usize) -> Result<Part, Memory>
         requires { IsProbeOf self.now probe }
         ensures fields { IfOk result (λ p. p.batch.fields ≡ joined_fields probe.how probe.left.fields self.now.fields self.now.on) }
-        ensures few { IfOk result (λ p. length p.batch.rows ≤ most) }
+        ensures few { IfOk result (λ p. IsPartOf most (length p.batch.rows) p.rest) }
         ensures rows { IfOk result (λ p. GivesPart self.now probe p.batch.rows p.rest) }
     {
         let Probe { left, how, from } = probe;
@@ -447,7 +448,7 @@ fn next_pairs(
     requires places { All (λ p. p < length left.now.fields) on.now }
     requires whole { seen.now.is_whole ≡ true → IsWholeAt left.now.fields on.now }
     ensures frame { OnOk result (IsFrame left.now) }
-    ensures few { IfOk result (λ r. length r.0 ≤ most) }
+    ensures few { IfOk result (λ r. IsCountOf most (length r.0) r.1) }
     ensures pairs { IfOk result (λ r. (nulls_equal : Bool) (key_at_place : ℕ → List Value) (right_count : ℕ) → IsIndex nulls_equal key_at_place right_count seen.now.keys groups.now.items →
         let output = λ (l : ℕ). pairs_of how l (matches_of nulls_equal key_at_place right_count (key_at on.now (slice_index_or left.now.rows l []))) in
         IsCursor output (length left.now.rows) from → GoesOn output (length left.now.rows) from r.0 r.1) }

@@ -1,5 +1,5 @@
 use Rattle.std.proofs.Common.{◌≡◌, ◌∙◌, ◌++◌, ◌+◌, ◌-◌, ◌<◌, ◌≤◌, ℕ, List, [], ap, append-nil, arith, drop, length, length-append, slice_index_or, subst, sym, take}
-use Rattle.std.proofs.lemmas.List.{length-take}
+use Rattle.std.proofs.lemmas.List.{length-drop, length-take, length-take-le}
 use Rattle.fq_ops.specs.Grouping.{key_at}
 use Rattle.fq_ops.specs.Pairs.{Pair, matches_of, pairs_of}
 use Rattle.fq_ops.specs.declared.probes.Cursor.{Cursor}
@@ -39,6 +39,15 @@ returns-then-saturating_sub-space-clause-pairs c = λ nulls_equal key n h is.
     subst (λ ps. Gives output (length rows) c.args.from ps next) (sym pushed)
     (gives-more output (length rows) c.args.from at next c.loop-at.pairs (take space (drop at.given (output l))) was
     (gives-some output (length rows) at c.count_pairs-wanted.result low wanted fits was.0 space fewer))
+
+pub returns-then-saturating_sub-space-clause-few : goal.returns-then-saturating_sub-space-clause-few
+returns-then-saturating_sub-space-clause-few c =
+    let space = c.args.most - c.len.result in
+    let all = pairs_of c.args.how c.loop-at.at.row c.places_of-matches.result.now in
+    let left : length (drop c.loop-at.at.given all) ≡ length all - c.loop-at.at.given = length-drop c.loop-at.at.given all in
+    let enough : space ≤ length (drop c.loop-at.at.given all) = omega (arith, left, c.count_pairs-wanted.ensures, c.if-saturating_sub-space.true, c.saturating_sub.ensures) in
+    let more = take space (drop c.loop-at.at.given all) in
+    omega (arith, ap length c.in_ok-push_pairs.ensures, length-append c.loop-at.pairs more, length-take-le space (drop c.loop-at.at.given all) enough, c.len.ensures, c.loop-at.invariant.few)
 
 pub loop-at-preserved : goal.loop-at-preserved
 loop-at-preserved c = record {

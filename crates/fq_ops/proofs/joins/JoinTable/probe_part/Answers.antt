@@ -14,7 +14,7 @@ use Rattle.fq_ops.specs.Join.{join_schema, joined_fields}
 use Rattle.fq_ops.specs.KeySets.{IsWholeAt}
 use Rattle.fq_ops.specs.Pairs.{Pair, join_picks, matches_of, named_key, pair_row, pairs_of}
 use Rattle.fq_ops.specs.Picks.{columns_of}
-use Rattle.fq_ops.specs.Probing.{GivesPart, GoesOn, IsCursor, IsProbeOf}
+use Rattle.fq_ops.specs.Probing.{GivesPart, GoesOn, IsCountOf, IsCursor, IsProbeOf}
 use Rattle.fq_ops.specs.Table.{Table}
 use Rattle.fq_ops.proofs.KeySetLemmas.{whole-left, whole-places}
 use Rattle.fq_ops.proofs.PartLemmas.{end-inside, more-inside, pairs_at, part-end, part-kinds, part-lengths, part-more, part-rows, to-cursor}
@@ -110,7 +110,8 @@ returns-in-At-clause-few c =
     (to-cursor t left how from is)) in
     let rows : c.new.result.rows ≡ map (pair_row how left.fields right.fields on right.rows left.rows) c.in_ok-pairs.pairs =
     ap (λ (f : Frame). f.rows) c.new.ensures ∙ part-rows how left right on c.in_ok-pairs.ensures.frame c.self.invariant.frame c.in-Ok.schema out c.in_ok-pairs.pairs c.in_ok-columns-in-At-2.columns.items columns (more-inside t left how from c.in-At.from c.in_ok-pairs.pairs goes) in
-    omega (arith, ap length rows, length-map c.in_ok-pairs.pairs (pair_row how left.fields right.fields on right.rows left.rows), c.in_ok-pairs.ensures.few)
+    let full : length c.in_ok-pairs.pairs ≡ c.args.most = subst (λ (n : Next). IsCountOf c.args.most (length c.in_ok-pairs.pairs) n) c.in-At.is c.in_ok-pairs.ensures.few in
+    omega (arith, ap length rows, length-map c.in_ok-pairs.pairs (pair_row how left.fields right.fields on right.rows left.rows), full)
 
 pub returns-in-At-clause-rows : goal.returns-in-At-clause-rows
 returns-in-At-clause-rows c =
@@ -199,7 +200,8 @@ returns-clause-few c =
     (to-cursor t left how from is)) in
     let rows : c.new-in-End.result.rows ≡ map (pair_row how left.fields right.fields on right.rows left.rows) c.in_ok-pairs.pairs =
     ap (λ (f : Frame). f.rows) c.new-in-End.ensures ∙ part-rows how left right on c.in_ok-pairs.ensures.frame c.self.invariant.frame c.in-Ok.schema out c.in_ok-pairs.pairs c.in_ok-columns-in-End-2.columns.items columns (end-inside t left how from c.in-End.fault c.in_ok-pairs.pairs goes) in
-    omega (arith, ap length rows, length-map c.in_ok-pairs.pairs (pair_row how left.fields right.fields on right.rows left.rows), c.in_ok-pairs.ensures.few)
+    let few : length c.in_ok-pairs.pairs ≤ c.args.most = subst (λ (n : Next). IsCountOf c.args.most (length c.in_ok-pairs.pairs) n) c.in-End.is c.in_ok-pairs.ensures.few in
+    omega (arith, ap length rows, length-map c.in_ok-pairs.pairs (pair_row how left.fields right.fields on right.rows left.rows), few)
 
 pub returns-clause-rows : goal.returns-clause-rows
 returns-clause-rows c =
