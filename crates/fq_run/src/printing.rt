@@ -132,6 +132,7 @@ impl<'r, T: Threads> Printing<'r, T> {
     ) -> Result<Printing<'r, T>, Memory>
         ensures text { IfOk result (λ p. whole_text p ≡ printed_names schema.now) }
         ensures notations { IfOk result (λ p. p.press.notations.now ≡ press.entry.notations.now) }
+        ensures threads { IfOk result (λ p. p.press.threads ≡ press.entry.threads) }
         ensures few { IfOk result (λ p. p.parts.items ≡ []) }
     {
         let alloc = press.alloc;
@@ -150,6 +151,7 @@ impl<'r, T: Threads> Printing<'r, T> {
     fn print(&mut self, batch: Batch) -> Result<(), Memory>
         ensures text { OnOk result (whole_text self.new ≡ whole_text self.old ++ printed_rows_in self.old.press.notations.now batch.rows) }
         ensures notations { self.new.press.notations.now ≡ self.old.press.notations.now }
+        ensures threads { self.new.press.threads ≡ self.old.press.threads }
         ensures few { HasFewParts self.old → HasFewParts self.new }
     {
         if batch.rows() == 0 {
@@ -168,6 +170,7 @@ impl<'r, T: Threads> Printing<'r, T> {
     fn hand_on(&mut self) -> Result<(), Memory>
         ensures text { OnOk result (whole_text self.new ≡ whole_text self.old) }
         ensures notations { self.new.press.notations.now ≡ self.old.press.notations.now }
+        ensures threads { self.new.press.threads ≡ self.old.press.threads }
         ensures few { HasFewParts self.old → HasFewParts self.new }
     {
         if self.parts.len() >= self.press.threads {

@@ -141,7 +141,10 @@ impl PhysicalPlan {
     }
 
     // The most threads that print at once. Where the tail has nothing else to do, the caller's thread prints.
-    fn printing_threads(&self, workers: u16) -> usize {
+    fn printing_threads(&self, workers: u16) -> usize
+        requires { 1 ≤ workers }
+        ensures { result ≤ workers }
+    {
         if self.stages.is_empty() {
             1
         } else {
