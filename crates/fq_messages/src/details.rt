@@ -1,6 +1,6 @@
 //! What more can be said of a failure than its one line says.
 ghost use Rattle.std.specs.Prelude.{◌≡◌};
-ghost use Rattle.fq_messages.specs.Ending.{IsOutside};
+ghost use Rattle.fq_messages.specs.Ending.{unplaced};
 
 use crate::failures::Failure;
 use crate::file_details::FileDetails;
@@ -36,7 +36,7 @@ impl Learned {
 
     /// The failure of a file that cannot be made or put in its place.
     pub fn failure_of_write(&mut self, fault: OpenFault) -> Failure
-        ensures { IsOutside result }
+        ensures { result ≡ unplaced fault }
     {
         match fault {
             OpenFault::Memory => Failure::MEMORY,

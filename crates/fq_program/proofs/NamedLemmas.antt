@@ -14,13 +14,15 @@ use Rattle.fq_language.specs.Plan.{PlanData, files_wanted}
 use Rattle.fq_run.specs.Run.{Tell}
 use Rattle.fq_run.specs.declared.faults.Fault.TheVariants.{Inputs, Memory, Write}
 use Rattle.fq_shell.specs.Arguments.{Names, plan_text}
-use Rattle.fq_messages.specs.Ending.{IsOutside, code_of, done, no_memory, number_of, status_of, unnoted}
+use Rattle.fq_shell.specs.declared.files.OpenFault.{OpenFault}
+use Rattle.fq_shell.specs.declared.files.OpenFault.TheVariants as open
+use Rattle.fq_messages.specs.Ending.{IsOutside, code_of, done, no_memory, number_of, status_of, unnoted, unplaced}
 use Rattle.fq_messages.proofs.EndingLemmas.{ended-well}
 use Rattle.fq_messages.specs.declared.status.Status.TheVariants.{BadDevice, NoMemory}
 use Rattle.fq_messages.specs.declared.failures.Failure.{Failure}
 use Rattle.fq_messages.specs.declared.failures.Failure.TheVariants.{Run}
 use Rattle.fq_program.specs.Program.{AreSettings, checked_plan, frame_of}
-use Rattle.fq_program.specs.Named.{AnswersBy, EndsAt, RunEnds, IsGuarded, IsLeft, IsPlaced, Leaves, LeavesPlan, check_of, early_failure, names_refusal, notations_of, noted_plan, outcome_of, plan_in, planned, refusal_of, reviewed, text_over, written}
+use Rattle.fq_program.specs.Named.{AnswersBy, EndsAt, RunEnds, IsGuarded, IsLeft, IsPlaced, Leaves, LeavesPlan, OnlyChanges, check_of, early_failure, names_refusal, notations_of, noted_plan, outcome_of, plan_in, planned, refusal_of, reviewed, text_over, written}
 
 -- ---- the plan
 
@@ -129,17 +131,21 @@ left-there outcome file before after known known_after name empty (Ok x) some to
   },
 )
 
+-- no file has changed
+unchanged : (file : Option (List ℕ)) (known known_after : List ℕ → Option (List ℕ)) → known_after ≡ known → OnlyChanges file known known_after
+unchanged file known known_after same = λ name bytes other was. ap (λ k. k name) same ∙ was
+
 -- whatever it came to
 module _ {X : Type 0} (file before after : Option (List ℕ)) (known known_after : List ℕ → Option (List ℕ)) where
   pub guarded-here : (r : Result X Failure) → file ≡ None → known_after ≡ known → IfErr r (λ f. f ≢ Run Write → Keeps before after) → IsGuarded file before after known known_after r
-  guarded-here r none same unwritten = record { elsewhere = λ some. absurd (cc); unwritten = unwritten; untouched = untouched r }
+  guarded-here r none same unwritten = record { elsewhere = λ some. absurd (cc); unwritten = unwritten; untouched = untouched r; others = unchanged file known known_after same }
     where
       untouched : (r : Result X Failure) → IfErr r (λ _. known_after ≡ known)
       untouched (Ok x) = tt
       untouched (Err f) = same
 
-  pub guarded-there : (r : Result X Failure) → IfErr r (λ _. known_after ≡ known) → IsGuarded file before before known known_after r
-  guarded-there r untouched = record { elsewhere = λ _. Keeps-refl before; unwritten = unwritten r; untouched = untouched }
+  pub guarded-there : (r : Result X Failure) → IfErr r (λ _. known_after ≡ known) → OnlyChanges file known known_after → IsGuarded file before before known known_after r
+  guarded-there r untouched others = record { elsewhere = λ _. Keeps-refl before; unwritten = unwritten r; untouched = untouched; others = others }
     where
       unwritten : (r : Result X Failure) → IfErr r (λ f. f ≢ Run Write → Keeps before before)
       unwritten (Ok x) = tt
@@ -159,6 +165,10 @@ on_ok_known (Err e) known = tt
 
 -- ---- failures of devices and allocations
 
+pub outside-unplaced : (fault : OpenFault) → IsOutside (unplaced fault)
+outside-unplaced open.Memory = inr refl
+outside-unplaced (open.Failed error) = inl refl
+
 pub outside-opened : (f failure : Failure) → status_of failure ≡ BadDevice → (f ≡ failure) ⊎ (f ≡ Run Memory) → IsOutside f
 outside-opened f failure device why = elim why [ inl same ↦ inl (ap status_of same ∙ device) | inr memory ↦ inr (ap status_of memory) ]
 
@@ -167,6 +177,11 @@ pub outside-memory : (text other : List ℕ) (r : Result PlanData Failure) → o
     MatchResult r (λ plan. checked_plan text ≡ Ok plan) (λ f. (checked_plan text ≡ Err f) ⊎ IsOutside f)
 outside-memory text other (Ok plan) same h = ap checked_plan (sym same) ∙ h
 outside-memory text other (Err f) same h = elim h [ inl refused ↦ inl (ap checked_plan (sym same) ∙ refused) | inr memory ↦ inr (inr memory) ]
+
+-- a run that was refused before it began
+pub guarded-refused : (X : Type 0) (f : Failure) (file out : Option (List ℕ)) (known known_after : List ℕ → Option (List ℕ)) → known_after ≡ known →
+    (let r : Result X Failure = Err f in IsGuarded file out out known known_after r)
+guarded-refused X f file out known known_after same = guarded-there file out out known known_after (Err f) same (unchanged file known known_after same)
 
 -- ---- how a run of named files ends
 
@@ -222,6 +237,7 @@ module _ {X : Type 0} (names : Names) (known mid known_after : List ℕ → Opti
     placed = λ text files name told tell some well. let have = whole text files told tell well in (have.0, have.1, λ bytes was. ap (λ k. k name) same ∙ have.2.there name some bytes was);
     elsewhere = guarded.elsewhere;
     quiet = λ well. ended-well r (sym code ∙ well) quiet;
+    others = λ name bytes other was. ap (λ k. k name) same ∙ guarded.others name bytes other was;
   }
     where
       ends : (text : List ℕ) (files : List (List ℕ)) → plan_text known names ≡ Some text → Tell known names.files files → Leaves (written (planned names text) files) names.output out out_after known mid r
@@ -244,4 +260,5 @@ unstarted names known out err err_after ended is = record {
   placed = λ text files name told tell some well. absurd (omega (arith, is, well));
   elsewhere = λ _. Keeps-refl out;
   quiet = λ well. absurd (omega (arith, is, well));
+  others = unchanged names.output known known refl;
 }

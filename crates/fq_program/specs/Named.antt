@@ -107,16 +107,21 @@ LeavesPlan told file before after known known_after result p = (files : List (Li
 abbrev pub AnswersBy : {X : Type 0} → Result PlanData Failure → Result X Failure → (PlanData → Type 0) → Type 0
 AnswersBy plan result Holds = elim plan [ Err failure ↦ IsErrAnd result (λ f. (f ≡ failure) ⊎ IsOutside f) | Ok p ↦ Holds p ]
 
--- whatever a run comes to: no byte is on the output if a file takes the frame, or at a failure but that of a write, and at no failure has a
--- file changed
+-- each file holds what it held, but the one that takes the frame, if one does
+abbrev pub OnlyChanges : Option (List ℕ) → (List ℕ → Option (List ℕ)) → (List ℕ → Option (List ℕ)) → Type 0
+OnlyChanges file known known_after = (name bytes : List ℕ) → file ≢ Some name → known name ≡ Some bytes → known_after name ≡ Some bytes
+
+-- whatever a run comes to: no byte is on the output if a file takes the frame, or at a failure but that of a write; no file has changed but
+-- the one that takes the frame, and at a failure not even that
 pub record IsGuarded {X : Type 0} (file before after : Option (List ℕ)) (known known_after : List ℕ → Option (List ℕ)) (result : Result X Failure) : Type 0 where
   pub elsewhere : IsSome file → Keeps before after
   pub unwritten : IfErr result (λ failure. failure ≢ Run Write → Keeps before after)
   pub untouched : IfErr result (λ _. known_after ≡ known)
+  pub others : OnlyChanges file known known_after
 
 -- a run of named files has ended at this status. It is that of a refusal before a data file is opened, or of the outcome; at status 0 the
 -- outcome is a text, which was appended to the output, or is in the place of a file, and then no byte is on the output; and at status 0 nothing
--- was said on standard error.
+-- was said on standard error. Whatever the status is, no file has changed but the one that takes the frame.
 pub record RunEnds (names : Names) (known known_after : List ℕ → Option (List ℕ)) (out out_after err err_after : Option (List ℕ)) (ended : ℕ) : Type 0 where
   pub early : (text : List ℕ) → plan_text known names ≡ Some text → IfSome (early_failure names text) (λ refusal. EndsAt (number_of (status_of refusal)) ended)
   pub status : (text : List ℕ) (inputs : List (List ℕ)) → plan_text known names ≡ Some text → Tell known names.files inputs → EndsAt (code_of (outcome_of names text inputs)) ended
@@ -126,3 +131,4 @@ pub record RunEnds (names : Names) (known known_after : List ℕ → Option (Lis
       (frame : List ℕ) × (outcome_of names text inputs ≡ Ok frame) × IsPlaced known known_after name frame
   pub elsewhere : IsSome names.output → Keeps out out_after
   pub quiet : ended ≡ done → Keeps err err_after
+  pub others : OnlyChanges names.output known known_after

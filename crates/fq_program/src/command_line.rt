@@ -1,14 +1,14 @@
 //! The program with arguments.
-ghost use Rattle.std.specs.Prelude.{◌≡◌, ◌≢◌, ◌⊎◌, ◌<◌, ◌^◌, ℕ, List, [], Some, None, IfErr, IfOk, MatchResult, OnOk, length, map, string_bytes, true};
+ghost use Rattle.std.specs.Prelude.{◌≡◌, ◌≢◌, ◌⊎◌, ◌<◌, ◌^◌, ℕ, List, [], Some, None, IfErr, IfOk, MatchResult, OnOk, length, map, string_bytes, false, true};
 ghost use Rattle.std.specs.Io.KnownBytes.{Keeps};
 ghost use Rattle.fq_language.specs.Plan.{PlanData, files_wanted};
 ghost use Rattle.fq_run.specs.declared.faults.Fault.TheVariants as fault;
 ghost use Rattle.fq_run.specs.Run.{Tell};
-ghost use Rattle.fq_shell.specs.Arguments.{is_run, names_of, names_to_check, named_by, plan_text};
+ghost use Rattle.fq_shell.specs.Arguments.{is_check, is_run, names_of, names_to_check, named_by, plan_text};
 ghost use Rattle.fq_messages.specs.Ending.{done, bad_device, code_of, IsOutside};
 ghost use Rattle.fq_messages.specs.declared.failures.Failure.TheVariants as failure;
 ghost use Rattle.fq_program.specs.Program.{checked_plan as checked_plan_of};
-ghost use Rattle.fq_program.specs.Named.{check_of, names_refusal, notations_of, noted_plan as noted_plan_of, plan_in, planned as planned_of, reviewed, text_over, AnswersBy, ComesTo, EndsAt, RunEnds, IsCheck, IsGuarded, IsPlaced, LeavesPlan};
+ghost use Rattle.fq_program.specs.Named.{check_of, names_refusal, notations_of, noted_plan as noted_plan_of, plan_in, planned as planned_of, reviewed, text_over, AnswersBy, ComesTo, EndsAt, RunEnds, IsCheck, IsGuarded, IsPlaced, LeavesPlan, OnlyChanges};
 
 use crate::program::{checked_plan, run_over};
 use clap::error::ErrorKind;
@@ -51,6 +51,7 @@ pub fn with_words<T: Threads + Wait + Sync, O: Opener, W: Write, E: Write>(
     ensures untouched { result ≢ done → O.bytes_of files.new ≡ O.bytes_of files.old }
     ensures checked { let arguments = map string_bytes words.items in (text : List ℕ) (inputs : List (List ℕ)) → IsCheck (O.bytes_of files.old) arguments text →
         Tell (O.bytes_of files.old) (names_to_check arguments).files inputs → EndsAt (code_of (check_of (names_to_check arguments) text inputs)) result }
+    ensures only_read { let arguments = map string_bytes words.items in is_run arguments ≡ false → is_check arguments ≡ true → O.bytes_of files.new ≡ O.bytes_of files.old }
 {
     match Options::of_run(alloc, words.as_slice()) {
         Ok(options) => answer_run(rt, alloc, &options, files, out, err),
@@ -116,6 +117,7 @@ fn answer_other<T: Threads + Wait + Sync, O: Opener, W: Write, E: Write>(
     ensures untouched { result ≢ done → O.bytes_of files.new ≡ O.bytes_of files.old }
     ensures checked { let arguments = map string_bytes words.now in (text : List ℕ) (inputs : List (List ℕ)) → IsCheck (O.bytes_of files.old) arguments text →
         Tell (O.bytes_of files.old) (names_to_check arguments).files inputs → EndsAt (code_of (check_of (names_to_check arguments) text inputs)) result }
+    ensures only_read { is_check (map string_bytes words.now) ≡ true → O.bytes_of files.new ≡ O.bytes_of files.old }
 {
     match Options::of_check(alloc, words) {
         Ok(options) => answer_check(alloc, &options, files, err),
@@ -555,6 +557,7 @@ fn run_to_file<T: Threads + Wait + Sync, R: Read + Drop + Send, O: Opener>(
         MatchResult result (λ _. (text : List ℕ) × (text_over plan.now texts ≡ Ok text) × (O.Output.contents output ≡ Some [] → IsPlaced (O.bytes_of files.old) (O.bytes_of files.new) name.now text))
         (λ f. (text_over plan.now texts ≡ Err f) ⊎ IsOutside f) }
     ensures untouched { IfErr result (λ _. O.bytes_of files.new ≡ O.bytes_of files.old) }
+    ensures others { OnlyChanges (Some name.now) (O.bytes_of files.old) (O.bytes_of files.new) }
 {
     let mut output = Noted::new(output);
     let (batch_size, workers) = (options.batch_size(), options.workers());

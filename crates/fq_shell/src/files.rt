@@ -1,5 +1,5 @@
 //! What opens files by name.
-ghost use Rattle.std.specs.Prelude.{◌≡◌, ℕ, List, [], Option, Some, None, IfOk, IfErr, OnOk, true};
+ghost use Rattle.std.specs.Prelude.{◌≡◌, ◌≢◌, ℕ, List, [], Option, Some, None, IfOk, IfErr, OnOk, true};
 ghost use Rattle.std.specs.Str.{bytes_eq};
 
 use crate::outputs::SystemOutput;
@@ -60,11 +60,12 @@ pub trait Opener {
         ensures same { bytes_of self.new ≡ bytes_of self.old }
         ensures told { (bytes : List ℕ) → bytes_of self.old name.now ≡ Some bytes → IfOk result (λ output. Self.Output.contents output ≡ Some []) };
 
-    /// Puts what was written in the place of the file of this name, for which it was made. If that fails, the file stays as it was, unless
-    /// it is written as it is.
+    /// Puts what was written in the place of the file of this name, for which it was made. No other file changes. If it fails, this file too
+    /// stays as it was, unless it is written as it is.
     fn keep(&mut self, name: &str, output: Self::Output) -> Result<(), OpenFault>
         ensures placed { (before written : List ℕ) → bytes_of self.old name.now ≡ Some before → Self.Output.contents output ≡ Some written →
             OnOk result (bytes_of self.new name.now ≡ Some written) }
+        ensures others { (other bytes : List ℕ) → name.now ≢ other → bytes_of self.old other ≡ Some bytes → bytes_of self.new other ≡ Some bytes }
         ensures failed { IfErr result (λ _. bytes_of self.new ≡ bytes_of self.old) };
 
     /// Lets go what was written; the file stays as it was.

@@ -2,7 +2,7 @@ use Rattle.std.proofs.Common.{◌∙◌, Unit}
 use Rattle.std.proofs.lemmas.Result.{err_from_is_err_and}
 use Rattle.fq_shell.specs.Arguments.{named_by}
 use Rattle.fq_program.specs.Named.{planned}
-use Rattle.fq_program.proofs.NamedLemmas.{answers-planned, answers-refused, guarded-there, named-fails, plan-fails, planned-fine}
+use Rattle.fq_program.proofs.NamedLemmas.{answers-planned, answers-refused, guarded-refused, named-fails, plan-fails, planned-fine}
 use Rattle.fq_program.proofs.command_line.run_named.Goals as goal
 
 pub returns-in_err-named-clause-ended : goal.returns-in_err-named-clause-ended
@@ -29,7 +29,7 @@ returns-clause-ended g c text known =
 pub returns-in_err-named-clause-guarded : goal.returns-in_err-named-clause-guarded
 returns-in_err-named-clause-guarded g c =
     let exit = err_from_is_err_and c.from_residual.result c.from_residual.ensures.1 in
-    rw exit.1 (guarded-there _ _ _ _ _ _ c.judge_names.ensures.same)
+    rw exit.1 (guarded-refused (Unit {0}) _ _ _ _ _ c.judge_names.ensures.same)
 
 pub returns-in-Ok-clause-guarded : goal.returns-in-Ok-clause-guarded
 returns-in-Ok-clause-guarded g c =
@@ -37,4 +37,4 @@ returns-in-Ok-clause-guarded g c =
     rw same at c.run_planned.ensures.guarded
 
 pub returns-clause-guarded : goal.returns-clause-guarded
-returns-clause-guarded g c = guarded-there _ _ _ _ _ _ (c.in-Err.ensures.same ∙ c.judge_names.ensures.same)
+returns-clause-guarded g c = guarded-refused (Unit {0}) _ _ _ _ _ (c.in-Err.ensures.same ∙ c.judge_names.ensures.same)

@@ -1,6 +1,7 @@
-use Rattle.std.proofs.Common.{inr, subst}
+use Rattle.std.proofs.Common.{inr, subst, sym}
 use Rattle.std.specs.Io.KnownBytes.{Appends}
-use Rattle.fq_program.proofs.NamedLemmas.{settings-in-range, text-ends, written-whole}
+use Rattle.fq_messages.specs.Ending.{IsOutside}
+use Rattle.fq_program.proofs.NamedLemmas.{outside-unplaced, settings-in-range, text-ends, written-whole}
 use Rattle.fq_program.proofs.command_line.run_to_file.Goals as goal
 
 pub returns-in-Ok-keep-clause-ended : goal.returns-in-Ok-keep-clause-ended
@@ -14,7 +15,7 @@ returns-in-Ok-keep-clause-ended g c texts tell =
     (ran.0, ran.1, λ empty bytes was. c.in-Ok-keep.ensures.placed bytes _ was (written-whole _ _ _ whole empty))
 
 pub returns-in-Err-keep-clause-ended : goal.returns-in-Err-keep-clause-ended
-returns-in-Err-keep-clause-ended g c texts tell = inr c.failure_of_write.ensures
+returns-in-Err-keep-clause-ended g c texts tell = inr (subst IsOutside (sym c.failure_of_write.ensures) (outside-unplaced _))
 
 pub returns-in-Err-clause-ended : goal.returns-in-Err-clause-ended
 returns-in-Err-clause-ended g c texts tell =
