@@ -1,4 +1,5 @@
 -- Numbers with a decimal point, as ints: the number times 10 to the scale, which is the number of places behind the point. Nothing is rounded.
+-- The form is that of `decimal` in XML Schema (W3C, XSD 1.1 part 2): `(\+|-)?([0-9]+(\.[0-9]*)?|\.[0-9]+)`.
 use Rattle.std.specs.Prelude.{◌&&◌, ◌==◌, ◌-◌, ◌*◌, ◌/◌, ◌^◌, Bool, ℕ, suc, ℤ, pos, negsuc, List, [], ◌∷◌, ◌++◌, Option, Some, None, if◌then◌else◌, take, drop, length}
 use Rattle.std.specs.Char.{is_ascii_digit}
 use Rattle.std.specs.Fmt.{decimal}

@@ -23,7 +23,7 @@ after_digits (c ∷ cs) = if is_ascii_digit c then after_digits cs else c ∷ cs
 abbrev pub signed : Bool → ℕ → ℤ
 signed is_negative n = if is_negative then neg_ℤ (pos n) else pos n
 
--- the whole number that a field spells: an optional sign and digits, within 64 bits
+-- the whole number that a field spells: an optional sign and digits, within 64 bits, as Rust's `i64::from_str` reads one
 abbrev pub whole_of : List ℕ → Option ℤ
 whole_of field =
     if is_numeral (without_leading_sign field) && fits (signed_digits_value 10 field) then Some (signed_digits_value 10 field) else None

@@ -9,7 +9,7 @@ ghost use Rattle.fq_notation.specs.Digits.{after_digits, leading_digits, signed,
 /// From this number on, the number with one more digit is more than 2^63; below it, that number fits in 64 bits.
 const ENOUGH: u64 = 1 << 60;
 
-/// As many digits as write a number within 64 bits, whichever they are.
+/// The most digits whose number is an `i64` whatever they are.
 pub const FEW_DIGITS: usize = 18;
 
 /// The whole number that a field spells, if it spells one within 64 bits: an optional sign and digits.
@@ -44,7 +44,8 @@ pub fn split_sign(field: &[u8]) -> (bool, &[u8])
     }
 }
 
-/// Reads digits onto the end of a number: the number that results, and the bytes after the digits. `None` if it is more than 2^63.
+/// Reads digits onto the end of a number: the number that results, and the bytes after the digits. `None` only if it is more than 2^63; of such
+/// numbers some are given.
 #[inline]
 pub fn digits_after(mut number: u64, bytes: &[u8]) -> Option<(u64, &[u8])>
     ensures number { IfSome result (λ r. r.0 ≡ digits_value_after 10 number (leading_digits bytes.now)) }
@@ -65,7 +66,7 @@ pub fn digits_after(mut number: u64, bytes: &[u8]) -> Option<(u64, &[u8])>
     Some((number, rest))
 }
 
-/// The number that leading digits write, and the bytes after them: a number below 10^18, so that no digit has to be looked at for that.
+/// The number that leading digits write, which must be below 10^18, and the bytes after them. No digit is checked for overflow.
 #[inline]
 pub fn few_digits(bytes: &[u8]) -> (u64, &[u8])
     requires { digits_value 10 (leading_digits bytes.now) < 10 ^ 18 }
@@ -84,7 +85,8 @@ pub fn few_digits(bytes: &[u8]) -> (u64, &[u8])
     (number, rest)
 }
 
-/// The number that a text of digits alone writes when they follow those of another; `None` also if that number is past 63 bits.
+/// The number that a text of digits alone writes when they follow those of another; `None` if there is another byte, and only then or for a
+/// number of more than 2^63.
 #[inline]
 pub fn number_after(number: u64, digits: &[u8]) -> Option<u64>
     ensures digits { IfSome result (λ n. (all_ascii_digits digits.now ≡ true) × (n ≡ digits_value_after 10 number digits.now)) }

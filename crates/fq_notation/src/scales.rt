@@ -6,7 +6,7 @@ use std::marker::Model;
 
 /// How many places the decimals of a column have behind their point: from 1 to 18.
 ///
-/// A decimal of 18 places is an int of 64 bits if it lies from -9.22.. to 9.22.., so more places would leave room for no number but 0.
+/// A decimal of 18 places is an int of 64 bits if it lies from -9.22.. to 9.22.., so more places would leave room for no whole number but 0.
 #[derive(Clone, Copy, Debug, PartialEq, Eq)]
 pub struct Scale {
     places: u8,

@@ -1,7 +1,8 @@
 //! Ints as Python's `decimal` and `datetime` have them.
 use crate::{Notation, Scale, date, date_text, decimal, decimal_text};
 
-/// Fields, scales and the ints that Python's `int(decimal.Decimal(field).scaleb(scale))` gives, if nothing is lost by `int`.
+/// Fields, scales and the ints that Python's `int(decimal.Decimal(field).scaleb(scale))` gives, if nothing is lost by `int`, and the int fits
+/// 64 bits; ` 1` and `1e3`, which Python reads, are none here.
 const DECIMALS: [(&[u8], u8, Option<i64>); 30] = [
     (b"12.5", 2, Some(1250)),
     (b"12.50", 2, Some(1250)),
@@ -53,7 +54,8 @@ const DECIMAL_TEXTS: [(i64, u8, &[u8]); 10] = [
     (99, 2, b"0.99"),
 ];
 
-/// Fields, and the ints of the days that Python's `datetime.date.fromisoformat` reads.
+/// Fields, and the ints of the days that Python's `datetime.date.fromisoformat` reads, but for other forms than `YYYY-MM-DD`, such as
+/// `20240305`, which Python reads since 3.11.
 const DATES: [(&[u8], Option<i64>); 18] = [
     (b"2024-03-05", Some(20_240_305)),
     (b"2024-02-29", Some(20_240_229)),
