@@ -22,7 +22,7 @@ pub enum ScanFault {
         /// The row.
         row: u32,
     },
-    /// A field is not a cell of its column's kind.
+    /// A field is not a cell of its column, by its kind and the notation of its ints.
     #[error("file {file}, row {row}, column {column}: bad cell")]
     BadCell {
         /// The file.

@@ -145,8 +145,9 @@ fn put_int(writer: &mut Writer<Vec<u8>>, value: i64, notation: Notation) -> Resu
     ensures { OnOk result (PutsField held writer.old writer.new (int_text notation value)) }
 {
     match notation {
+        // digits go to the writer as they are, without a copy
         Notation::Plain => put_field(writer, Buffer::new().format(value).as_bytes()),
-        _ => put_field(writer, notation.text(value).as_slice()),
+        Notation::Decimal(_) | Notation::Date => put_field(writer, notation.text(value).as_slice()),
     }
 }
 

@@ -21,8 +21,7 @@ pub struct RecordReader<R> {
 impl<R: Read> RecordReader<R> {
     /// A reader of the records of these bytes, without a byte order mark.
     ///
-    /// It costs some 100,000 instructions for its tables, and each run of a scan has its own: a worker shares its work with the others by
-    /// reference, so it cannot keep one, and a reader cannot be given another text.
+    /// It costs some 100,000 instructions for its tables.
     pub fn new(alloc: Global, bytes: R) -> RecordReader<R>
         ensures plain { IsPlain result }
         ensures left { (all : List ℕ) → R.remaining bytes ≡ Some all → HasLeft R.remaining result (records default_config (strip_bom all)) }
@@ -55,6 +54,9 @@ impl<R: Read> RecordReader<R> {
 pub(crate) type TextSource = Chain<&'static [u8], Pieces>;
 
 /// A reader of the records of a text. `Memory` if an allocation failed.
+///
+/// It costs some 100,000 instructions for its tables, and each run of a scan has its own: a worker shares its work with the others by
+/// reference, so it cannot keep one, and a reader cannot be given another text.
 ///
 /// It is given an empty header: without one, `csv` keeps two copies of the first record, which may be long.
 pub(crate) fn read_text(alloc: Global, text: Pieces) -> Result<RecordReader<TextSource>, Memory>

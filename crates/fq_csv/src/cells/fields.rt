@@ -100,7 +100,8 @@ fn is_value(field: &[u8], kind: Kind, notation: Notation, is_text: bool) -> bool
 /// Appends the cell that a field is to a column that is read like this, with these texts as null, or null if the column is not kept, and
 /// says whether the field is a cell. The field may be known to be UTF-8.
 ///
-/// Allocates for a text that is kept, and if the column grows. `IS_PLAIN` says that each reading is plain, so that none is looked at.
+/// Allocates for a text of more than 24 bytes that is kept, and if the column grows. `IS_PLAIN` says that each reading is plain, so that none is
+/// looked at.
 #[inline]
 pub(crate) fn push_field<const IS_PLAIN: bool>(
     column: &mut Column,

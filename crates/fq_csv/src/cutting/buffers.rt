@@ -215,6 +215,7 @@ impl<R: Read> Buffer<R> {
             }
             self.read_up_to(left + left / 4 + 1)?;
         }
+        // never reached: no run lives through so many rounds
         Err(ScanFault::Memory)
     }
 

@@ -26,6 +26,7 @@ impl<R: Read> Read for Retrying<R> {
                 return answer;
             }
         }
+        // never reached: no run lives through so many rounds
         Err(io::Error::from(ErrorKind::Other))
     }
 }

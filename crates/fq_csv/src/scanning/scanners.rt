@@ -57,11 +57,12 @@ impl<R: Read> Model for Scanner<R> {
 }
 
 impl<R: Read> Scanner<R> {
-    /// A scan of the file number `file`, whose bytes a reader gives, in batches of `batch_size` rows.
+    /// A scan of the file number `file`, whose bytes a reader gives, in batches of `batch_size` rows, from 1 to [`MAX_BATCH_SIZE`].
     ///
     /// The first record must be the schema's names. In each later one a field that is one of `nulls`, byte for byte, is null,
-    /// whatever the kind of its column; so is an empty one. All columns are kept. More rows than `limit` are a fault. The reader's
-    /// bytes are buffered here. Nothing is read yet, and nothing is allocated, so there is always a scanner.
+    /// whatever the kind of its column; so is an empty one. All columns are kept, and ints are in digits. More rows than `limit`, at
+    /// most [`MAX_ROWS`], are a fault. The reader's bytes are buffered here. Nothing is read yet, and nothing is allocated, so there is
+    /// always a scanner.
     pub fn new(
         alloc: Global,
         reader: R,
@@ -116,7 +117,7 @@ impl<R: Read> Scanner<R> {
     /// Each batch but the last has `batch_size` rows, and none is empty. The rows before a row that cannot be read are
     /// handed out; if the reader or an allocation fails, the rows that were read since the last batch are dropped. Once
     /// the end was handed out, each further call hands out that same end. A batch allocates for its columns and its
-    /// records; a single record, or a cell that is not a text, does not.
+    /// records; a single record, or a cell that is not a text of more than 24 bytes, does not.
     pub fn next_batch(&mut self) -> Scan
         ensures form { HasForm self.old result self.new }
         ensures stream { (u : Stream AnyFault) → self.old.upcoming ≡ Some u → HandsOut self.old.file self.old.batch_size u result self.new.upcoming }
