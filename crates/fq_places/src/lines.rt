@@ -30,6 +30,7 @@ pub fn line_of_record<R: Read + Drop>(
             left -= 1;
         }
     }
+    // never reached: no run lives through so many rounds
     Err(io::Error::from(ErrorKind::FileTooLarge))
 }
 
@@ -46,6 +47,7 @@ pub fn ends_in_quotes<R: Read + Drop>(alloc: Global, reader: R) -> io::Result<bo
             return Ok(true);
         }
     }
+    // never reached: no run lives through so many rounds
     Err(io::Error::from(ErrorKind::FileTooLarge))
 }
 

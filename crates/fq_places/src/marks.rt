@@ -156,6 +156,7 @@ impl<R: Read + Drop> Marks<R> {
                 return Ok(mark);
             }
         }
+        // never reached: no run lives through so many rounds
         Err(io::Error::from(ErrorKind::FileTooLarge))
     }
 }
@@ -178,6 +179,7 @@ impl<R: Read + Drop> Marks<R> {
                 return Ok(Some(mark.line));
             }
         }
+        // never reached: no run lives through so many rounds
         Err(io::Error::from(ErrorKind::FileTooLarge))
     }
 }
