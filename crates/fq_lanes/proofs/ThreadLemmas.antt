@@ -1,5 +1,5 @@
 -- Lemmas on threads started by recursion.
-use Rattle.std.proofs.Common.{◌≡◌, List, [], ◌∷◌, ◌++◌, map, ap, sym, refl, false, ◌∙◌, append_assoc}
+use Rattle.std.proofs.Common.{◌≡◌, List, [], ◌∷◌, ◌++◌, map, ap, refl, false, ◌∙◌, append_assoc}
 use Rattle.std.proofs.lemmas.List.{map-append}
 use Rattle.fq_lanes.specs.WorkerLanes.{worker_view, idle_worker, AreNewWorkers}
 use Rattle.fq_lanes.specs.FeedLane.{feed_view, new_feed, AreNewFeeds}
@@ -33,14 +33,6 @@ module _ {A : Type 0} where
   snoc_both (a ∷ xs) (b ∷ ys) x y e =
       let rest = snoc_both xs ys x y (ap tail_of e) in
       (ap (λ z. z ∷ xs) (ap (head_of x) e) ∙ ap (λ zs. b ∷ zs) rest.0, rest.1)
-
-module _ {A B : Type 0} where
-  -- if the lists that f makes are the same, and the last ones are taken off
-  pub names_split : (f : A → B) (all before popped now : List A) (last first : A)
-      → map f all ≡ map f before → all ≡ popped ++ last ∷ [] → before ≡ now ++ first ∷ [] → (map f popped ≡ map f now) × (f last ≡ f first)
-  names_split f all before popped now last first e p q =
-      snoc_both (map f popped) (map f now) (f last) (f first)
-      (sym (map-append f popped (last ∷ [])) ∙ ap (map f) (sym p) ∙ e ∙ ap (map f) q ∙ map-append f now (first ∷ []))
 
 module _ {X O : Type 0} where
   pub idle_at_first : (d : WorkerLanes X O) → (worker_view d).jobs ≡ [] → (worker_view d).answers ≡ [] → (worker_view d).outstanding ≡ [] → worker_view d ≡ idle_worker

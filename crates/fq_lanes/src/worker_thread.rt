@@ -48,7 +48,7 @@ pub(crate) fn run_worker<R: Wait, W: Work, G: Gate<W::Out>>(
     unreachable!()
 }
 
-/// Wakes the hub once at most one job is left, so that this thread has its next jobs before it must sleep for want of one.
+/// Wakes the hub if at most one job is left, so that the next jobs arrive before this thread has to sleep.
 fn wake_hub<T>(waiter: Waiter<'_>, jobs: &mut Take<T>)
     ensures lane { SameTake jobs.old jobs.new }
     ensures taken { taken_items jobs.new ≡ taken_items jobs.old }
