@@ -10,7 +10,7 @@ use Rattle.fq_column.specs.declared.cells.Kind.{Kind}
 use Rattle.fq_column.specs.declared.faults.StepFault.{StepFault}
 use Rattle.fq_column.specs.declared.schemas.TheConstants.{MAX_COLUMNS}
 use Rattle.fq_ops.specs.declared.rolls.TheConstants.{MAX_WINDOW}
-use Rattle.fq_column.specs.declared.faults.StepFault.TheVariants.{NoSuchColumn, WrongKind, NoColumn, TooMany, DoubleName, Window, Samples, Memory}
+use Rattle.fq_column.specs.declared.faults.StepFault.TheVariants.{NoSuchColumn, WrongKind, NoColumn, TooMany, DoubleName, Window, Samples}
 use Rattle.fq_column.specs.Frame.{Field, Fields, Name, names_of, has_name, same_name, position_of, put_named}
 use Rattle.fq_column.specs.Cell.{same_kind}
 use Rattle.fq_column.specs.Lists.{is_distinct}
@@ -75,11 +75,6 @@ late-double expected fs Late passed double answer = subst (λ r. IfErr r (λ f. 
     by true = tt
     by false = inr double
 
--- a refusal that a judgement gives, or `Memory`
-pub refusal-judged : {X : Type 0} (expected answer : Result X StepFault) (f g : StepFault) → answer ≡ Err g → g ≡ f → (expected ≡ Err f) ⊎ (f ≡ Memory) → IsJudgement expected answer
-refusal-judged expected answer f g a e (inl h) = inl (a ∙ ap Err e ∙ sym h)
-refusal-judged expected answer f g a e (inr h) = inr (a ∙ ap Err (e ∙ h))
-
 -- an answer that is the judgement has its refusal
 pub has-refusal : {X : Type 0} (expected answer : Result X StepFault) → answer ≡ expected → IfErr expected (λ f. answer ≡ Err f)
 has-refusal (Ok x) answer e = tt
@@ -88,9 +83,6 @@ has-refusal (Err f) answer e = e
 pub has-refusal-or : {X : Type 0} (expected answer : Result X StepFault) (Other : StepFault → Type 0) → answer ≡ expected → IfErr expected (λ f. (answer ≡ Err f) ⊎ Other f)
 has-refusal-or (Ok x) answer Other e = tt
 has-refusal-or (Err f) answer Other e = inl e
-
-pub suc-nonzero : (n : ℕ) → (suc n == 0) ≡ false
-suc-nonzero n = grind (arith, nat_tests)
 
 -- ---- groupings
 
