@@ -232,7 +232,3 @@ settled-is (Err f) e = absurd (cc)
 pub early-refused : {X : Type 0} (expected answer : Result X StepFault) (fault : StepFault) → refusal_of expected ≡ Some fault → answer ≡ Err fault → IfErr expected (λ f. answer ≡ Err f)
 early-refused (Ok x) answer fault e is = tt
 early-refused (Err f) answer fault e is = let same : fault ≡ f = cc in is ∙ ap Err same
-
-pub early-settled : {X : Type 0} (expected answer : Result X StepFault) → refusal_of expected ≡ None → IfErr expected (λ f. answer ≡ Err f)
-early-settled (Ok x) answer e = tt
-early-settled (Err f) answer e = absurd (cc)
