@@ -28,8 +28,11 @@ const NAMED_TEXTS: usize = 3;
 /// What a file is to be: the columns that its header names, the texts that are null in each of them, and how their ints are written.
 #[derive(Clone, Copy)]
 pub struct Expected<'a> {
+    /// The names that the header has to have, and their kinds.
     pub columns: &'a [(String, Kind)],
+    /// The texts that are null in each column.
     pub nulls: &'a NullValues,
+    /// How the ints of each column are written.
     pub notations: &'a Notations,
 }
 
@@ -277,8 +280,9 @@ impl Check {
                 unreachable!()
             };
             let (column, kind) = (columns[place].0.as_str(), columns[place].1);
-            if !is_cell(field, kind, notations.of(place), nulls) {
-                let bad = BadField::of(column, kind, notations.of(place), field);
+            let notation = notations.of(place);
+            if !is_cell(field, kind, notation, nulls) {
+                let bad = BadField::of(column, kind, notation, field);
                 self.tell(file, line, Problem::Field(bad), err);
                 self.count(file, line, column, field)?;
             }

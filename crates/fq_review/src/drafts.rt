@@ -31,6 +31,8 @@ use std::str;
 use thiserror::Error;
 
 /// Why files draft no plan.
+///
+/// Files count from 0, in the order in which they were read.
 #[derive(Clone, Copy, Debug, PartialEq, Eq, Error)]
 pub enum DraftFault {
     /// A file has no header.
@@ -256,6 +258,7 @@ impl Draft {
             };
             source.take_row(self.alloc, &self.reading, (file, line), &records.row)?;
         }
+        // never reached: no run lives through so many rounds
         Err(DraftFault::Read { file })
     }
 

@@ -65,7 +65,9 @@ impl Display for Separator {
 /// A header that has not the names of these columns. Its text says where it differs.
 #[derive(Clone, Copy)]
 pub struct Header<'a> {
+    /// The header of the file.
     pub header: &'a ByteRecord,
+    /// The names that it has to have, in this order, and their kinds.
     pub columns: &'a [(String, Kind)],
 }
 

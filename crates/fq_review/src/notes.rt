@@ -21,11 +21,11 @@ pub enum Note {
     Separator(Separator),
     /// Each name of its header is a number.
     Numbers,
-    /// Its header has more than 64 names.
+    /// Its header has more than 64 names: how many.
     Columns(usize),
-    /// A name of its header is not valid UTF-8.
+    /// A name of its header is not valid UTF-8: the column, from 0, and the name.
     BadName(usize, Vec<u8>),
-    /// Two names of its header are equal.
+    /// Two names of its header are equal: the two columns, from 0, and the name.
     DoubleName(usize, usize, Vec<u8>),
     /// A quote is not closed.
     OpenQuote,
@@ -34,8 +34,11 @@ pub enum Note {
 /// A note on a line of a file.
 #[derive(Drop)]
 pub struct FileNote {
+    /// The number of the file, from 0.
     pub file: u16,
+    /// The line, from 1.
     pub line: u64,
+    /// What is said there.
     pub note: Note,
 }
 

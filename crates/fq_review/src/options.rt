@@ -40,7 +40,9 @@ impl Display for NullOption<'_> {
 /// `--decimal` or `--date` with the name of a column, as a shell takes it.
 #[derive(Clone, Copy)]
 pub enum NotationOption<'a> {
+    /// `--decimal`: the name of the column, and how many places its decimals have behind their point.
     Decimal(&'a str, usize),
+    /// `--date`: the name of the column.
     Date(&'a str),
 }
 

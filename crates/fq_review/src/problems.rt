@@ -10,7 +10,9 @@ use std::fmt::{Display, Formatter, Write};
 /// A row with more or fewer fields than the header.
 #[derive(Clone, Copy)]
 pub struct Width {
+    /// How many fields the row has.
     pub fields: usize,
+    /// How many columns the header has.
     pub columns: usize,
 }
 
@@ -25,8 +27,11 @@ impl Display for Width {
 /// A field that is not a cell of its column.
 #[derive(Clone, Copy)]
 pub struct BadField<'a> {
+    /// The name of its column.
     pub column: &'a str,
+    /// What it has to be.
     pub wanted: Wanted,
+    /// The bytes of the field.
     pub field: &'a [u8],
 }
 
@@ -51,11 +56,15 @@ impl Display for BadField<'_> {
 /// What a field has to be.
 #[derive(Clone, Copy)]
 pub enum Wanted {
+    /// An int, in digits.
     Int,
     /// A number with so many places at most behind its point.
     Decimal(u8),
+    /// A date, as YYYY-MM-DD.
     Date,
+    /// Valid UTF-8.
     Text,
+    /// A bool.
     Truth,
 }
 
@@ -104,11 +113,17 @@ impl Display for Places {
 /// What is wrong at a place of a file.
 #[derive(Clone, Copy)]
 pub enum Problem<'a> {
+    /// The file has no header.
     NoHeader,
+    /// The header has not the names that it has to have.
     Header(Header<'a>),
+    /// A row has more or fewer fields than the header.
     Width(Width),
+    /// A field is not a cell of its column.
     Field(BadField<'a>),
+    /// The file is not written as RFC 4180 says.
     Flaw(Flaw),
+    /// The file has more than [`MAX_ROWS`] rows.
     TooLong,
 }
 

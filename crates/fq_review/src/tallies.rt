@@ -14,6 +14,7 @@ const MAX_TEXT: usize = 256;
 /// How often a text occurs, and where it does first.
 #[derive(Clone, Copy)]
 pub struct Seen {
+    /// How often the text occurs.
     pub count: u64,
     /// The number of the file and the line.
     pub first: (u16, u64),
@@ -35,7 +36,7 @@ impl Seen {
     }
 }
 
-/// How often each of some texts occurs. Of many texts only the first 1,000 are counted by themselves, and no long one is.
+/// How often each of some texts occurs. Of many texts only the first 1,000 are counted by themselves, and none of more than 256 bytes.
 #[derive(Drop)]
 pub struct Tally {
     texts: IndexMap<Vec<u8>, Seen>,
@@ -61,10 +62,7 @@ impl Tally {
         if let Some(seen) = self.texts.get_mut(text) {
             seen.count = seen.count.saturating_add(1);
         } else if self.texts.len() < MAX_TEXTS && text.len() <= MAX_TEXT {
-            let seen = Seen {
-                count: 1,
-                first: place,
-            };
+            let seen = Seen::after(None, place);
             self.texts.insert(Vec::from_slice(alloc, text)?, seen)?;
         }
         Ok(())

@@ -96,8 +96,8 @@ impl Texts {
     }
 }
 
-/// How many digits a field has after its decimal point, if it is a number with one: digits, of which there may be none before the point,
-/// after at most one sign.
+/// How many digits a field has after its decimal point, at least one, if it is a number with one: digits, of which there may be none before the
+/// point, after at most one sign. `None` for `5.` too, which `--decimal` reads.
 pub fn decimal_places(field: &[u8]) -> Option<u64> {
     let digits = match field {
         [b'+' | b'-', digits @ ..] => digits,
