@@ -58,11 +58,6 @@ length-taken file out gs = sym (length-map (taken_in file out gs) shape) ∙ ap 
 pub columns-taken : (file : ℕ) (out : Worked) (gs : List SideSource) → map (λ (g : SideSource). g.batch.fields) (taken_in file out gs) ≡ map (λ (g : SideSource). g.batch.fields) gs
 columns-taken file out gs = columns-of-shapes (taken_in file out gs) ∙ ap (map (λ (s : ℕ × Fields). s.1)) (shape-taken file out gs) ∙ sym (columns-of-shapes gs)
 
-pub shape-kept : (first : List SideSource) (log : List (ℕ × ℕ × Worked)) (last : List SideSource) → Took Takes first log last → map shape last ≡ map shape first
-shape-kept first [] last t = ap (map shape) t
-shape-kept first (e ∷ log) last t =
-    shape-kept t.0 log last t.2 ∙ ap (map shape) t.1 ∙ shape-taken e.0 e.2 first
-
 -- ---- faults
 
 sound-then : (u v : Stream Fault) → IsSound u.fault → IsSound v.fault → IsSound (then_stream u v).fault

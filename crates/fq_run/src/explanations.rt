@@ -108,7 +108,8 @@ fn write_source<W: Write>(
     write_changes(f, schema, schema)
 }
 
-// The names and kinds of the columns after a step, a `+` before those that the step adds, and the line's end.
+// The names and kinds of the columns after a step, a `+` before those whose name the step adds or whose kind it
+// changes, and the line's end.
 fn write_changes<W: Write>(f: &mut Formatter<W>, before: &Schema, after: &Schema) -> fmt::Result {
     for column in 0..after.len() {
         let (name, kind) = (after.name(column), after.kind(column));

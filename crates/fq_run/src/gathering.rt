@@ -32,7 +32,8 @@ impl SideSource {
         })
     }
 
-    // Adds a worked item; a batch of other columns is dropped.
+    // Adds a worked item; a batch of other columns is dropped. No batch has other columns, but that is known only once the feeds' threads
+    // are joined.
     fn gather(&mut self, out: Worked) -> Result<(), Memory>
         ensures ok { OnOk result (self.new ≡ gathered self.old out) }
         ensures err { OnErr result (self.new ≡ self.old) }
@@ -63,7 +64,7 @@ impl SideSource {
         }
     }
 
-    // Adds rows and the fault that ends them, to rows that no fault ends; a batch of other columns is dropped.
+    // Adds rows and the fault that ends them, to rows that no fault ends; a batch of other columns is dropped, as in `gather`.
     fn append(&mut self, piece: Piece) -> Result<(), Memory>
         requires { self.old.fault ≡ None }
         ensures ok { OnOk result (self.new ≡ gathered self.old (Worked.Piece piece)) }

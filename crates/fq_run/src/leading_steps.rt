@@ -60,7 +60,8 @@ impl LeadingSteps {
         }
     }
 
-    // A batch after the steps; one of a source before the main one, or of other columns, is left as it is.
+    // A batch after the steps; one of a source before the main one, or of other columns, is left as it is. No batch of the main source has
+    // other columns, but that is known only once the feeds' threads are joined.
     fn step(&self, file: u16, batch: Batch) -> Result<Piece, Memory>
         ensures { IfOk result (λ p. p ≡ piece_of self.now.front self.now.side_files file batch) }
     {

@@ -16,7 +16,8 @@ pub(crate) struct Passed {
 }
 
 impl Passed {
-    /// What a worked item adds to rows of a schema; a batch of other columns is dropped.
+    /// What a worked item adds to rows of a schema; a batch of other columns is dropped. No batch has other columns, but that is known only
+    /// once the feeds' threads are joined.
     pub(crate) fn from_worked(out: Worked, schema: &Schema) -> Passed
         ensures columns { IsUnder schema.now result.batch }
         ensures stream { passed_stream result ≡ added_stream schema.now out }
@@ -40,7 +41,7 @@ impl Passed {
         }
     }
 
-    // What a piece adds to rows of a schema; a batch of other columns is dropped.
+    // What a piece adds to rows of a schema; a batch of other columns is dropped, as in `from_worked`.
     fn from_piece(piece: Piece, schema: &Schema) -> Passed
         ensures columns { IsUnder schema.now result.batch }
         ensures stream { passed_stream result ≡ added_stream schema.now (Worked.Piece piece) }

@@ -116,6 +116,7 @@ impl<'a> Pipeline<'a> {
             };
             made = self.operators[place].go_on(alloc, probe)?;
         }
+        // Not reached: a join gives at most 4,294,967,295 rows, and each part but the last has some.
         Err(Fault::Memory)
     }
 }

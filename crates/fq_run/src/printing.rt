@@ -16,7 +16,7 @@ use std::{mem, thread};
 
 /// How many rows are gathered before a thread is started that prints them: by half as many the starts cost more than is gained, and by
 /// more of them the rows have left the caches, and the run waits longer for the last of them.
-pub(crate) const ROWS_AT_ONCE: usize = 2_048;
+pub(crate) const ROWS_GATHERED: usize = 2_048;
 
 /// How many rows are few: at most eight batches of more rows are gathered.
 const FEW_ROWS: usize = 256;
@@ -67,7 +67,7 @@ pub(crate) struct PrintSettings<'r, T> {
 impl<'r, T: Threads> PrintSettings<'r, T> {
     // How many rows are gathered before they are printed.
     fn rows_at_once(&self) -> usize {
-        if self.threads > 1 { ROWS_AT_ONCE } else { 0 }
+        if self.threads > 1 { ROWS_GATHERED } else { 0 }
     }
 
     // Starts a thread that prints batches, or prints them here if none may be started.

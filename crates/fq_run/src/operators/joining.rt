@@ -15,7 +15,7 @@ use fq_ops::{How, JoinTable, Part, Probe, Rest};
 use std::alloc::Global;
 
 /// The most rows that a join makes at once, whatever the matches: as many as the largest batch has.
-const ROWS_AT_ONCE: usize = 65_536;
+const ROWS_OF_A_PART: usize = 65_536;
 
 /// The most rows that a join gives.
 pub const MAX_JOINED_ROWS: u64 = 4_294_967_295;
@@ -79,7 +79,7 @@ impl Joining {
         ensures { IfOk result (λ p. (m : Transform) (rows : List Row) (batch : Frame) (given : List Row) → IsGiving (running.Join self.old) m rows batch given probe →
             Makes (running.Join self.new) m rows batch given p) }
     {
-        let Part { batch, rest } = self.table.probe_part(alloc, probe, ROWS_AT_ONCE)?;
+        let Part { batch, rest } = self.table.probe_part(alloc, probe, ROWS_OF_A_PART)?;
         self.room -= batch.rows() as u64;
         let (fault, rest) = match rest {
             Rest::More(probe) => (None, Some(probe)),

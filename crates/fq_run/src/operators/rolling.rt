@@ -16,9 +16,9 @@ use std::alloc::Global;
 pub struct RollingSum {
     /// The name of the column.
     pub column: String,
-    /// How many rows a sum goes over at most.
+    /// How many rows a sum goes over at most, from 1 to 65,536.
     pub window: u32,
-    /// How many values it needs at least.
+    /// How many values it needs at least, from 1 to `window`.
     pub min_samples: u32,
     /// The name of the sums' column.
     pub name: String,
