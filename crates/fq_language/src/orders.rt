@@ -27,12 +27,12 @@ struct Origin<'a> {
 }
 
 impl TextOrder<'_> {
-    /// The number of the source.
+    /// The number of the source, from 0.
     pub fn source(&self) -> usize {
         self.origin.source
     }
 
-    /// The number of the column in the source.
+    /// The number of the column in the source, from 0.
     pub fn column(&self) -> usize {
         self.origin.column
     }
@@ -52,6 +52,7 @@ impl Plan {
         let mut found = Vec::new(alloc);
         let main = self.sources.len().saturating_sub(1);
         let Some(source) = self.sources.get(main) else {
+            // Not reached: a plan has a source.
             return Ok(found);
         };
         let mut frame = Frame::of(alloc, main, source)?;

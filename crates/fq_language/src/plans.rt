@@ -25,8 +25,11 @@ pub const MAX_NULL_VALUES: usize = 16;
 /// The number of a source's files, its columns, and the texts that are null in each of them.
 #[derive(Debug, Drop)]
 pub struct Source {
+    /// How many files it has; in a plan from 1 to [`MAX_FILES`].
     pub files: u16,
+    /// The names and the kinds of its columns, in order.
     pub columns: Vec<(String, Kind)>,
+    /// The texts that are null in each column; in a plan at most [`MAX_NULL_VALUES`].
     pub nulls: NullValues,
 }
 
@@ -39,7 +42,7 @@ pub enum Version {
     Two,
 }
 
-/// A step of a plan.
+/// A step of a plan. Numbers are as the text spells them; the check judges them.
 #[derive(Debug, Drop)]
 pub enum Step {
     /// `filter`, `with_columns` or `select`.
@@ -133,7 +136,7 @@ impl Plan {
 }
 
 impl Source {
-    /// How many files the source has, from 1 to [`MAX_FILES`].
+    /// How many files the source has; in a plan from 1 to [`MAX_FILES`].
     pub fn files(&self) -> u16
         ensures { result ≡ (source_data self.now).files }
     {
@@ -147,7 +150,7 @@ impl Source {
         self.columns.as_slice()
     }
 
-    /// The texts that are read as null in each column.
+    /// The texts that are read as null in each column; in a plan at most [`MAX_NULL_VALUES`].
     pub fn nulls(&self) -> &NullValues
         ensures { result.now ≡ (source_data self.now).nulls }
     {
@@ -176,8 +179,8 @@ pub fn read_plan(alloc: Global, text: &[u8]) -> Result<Plan, PlanFault>
 
 /// Why a text spells no plan, for people; `None` if it spells one. `Memory` if an allocation fails.
 ///
-/// The first reason, in the order of the language: of an object that it is none, or has another member than it may have, and then
-/// of each member that it is missing, or what is wrong with it.
+/// The first reason, in the order of the language. A text that is not JSON: where it stops being so. An object: that the value is not one, that
+/// it has a member that it may not have, and then, member by member, that one is missing or what is wrong with it.
 pub fn reason_of(alloc: Global, text: &[u8]) -> Result<Option<Reason>, Memory>
     ensures { IfOk result (λ reason. (reason ≡ None) ↔ IsOk (read_as_plan text.now)) }
 {

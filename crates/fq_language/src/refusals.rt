@@ -31,7 +31,7 @@ pub struct Refusal {
 impl Plan {
     /// What the check's refusal is about; `None` if the check refuses nothing. `Memory` if an allocation fails.
     ///
-    /// Sources and steps are judged as `Plan::check` judges them, in the same order.
+    /// Sources and steps are judged in the order of `specs/Judged.antt`, as the check of `fq_plan` judges them.
     pub fn refusal(&self, alloc: Global) -> Result<Option<Refusal>, Memory>
         ensures { IfOk result (λ refusal. (refusal ≡ None) ↔ IsOk (judged self.now)) }
     {

@@ -62,7 +62,7 @@ fn of_rows(function: &Value) -> Option<What>
     }
 }
 
-// An aggregate's second item that is no function of this form. Of those of the other it is said what they take.
+// The second item of an aggregate is not a function of this form. If it is one of the other form, `takes` says what that takes.
 fn no_function(alloc: Global, version: Version, function: &Value, takes: &str) -> PartFault {
     other_word(alloc, version, function, AGGREGATES, AGGREGATES, takes).within(Segment::Item(1))
 }

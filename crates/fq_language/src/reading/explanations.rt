@@ -20,13 +20,13 @@ pub fn missing(alloc: Global, name: &str) -> PartFault {
     PartFault::of(alloc, format!(in alloc; "\"{name}\" is missing"))
 }
 
-/// A value that is no array of such items.
+/// A value that is not an array of such items.
 pub fn no_list(alloc: Global, value: &Value, items: &str) -> PartFault {
     let text = format!(in alloc; "{} is not an array of {items}", Found(value));
     PartFault::of(alloc, text)
 }
 
-/// A value that is no array of the right length.
+/// A value that is not an array of the right length.
 pub fn wrong_length(alloc: Global, value: &Value, form: &str) -> PartFault {
     let found = Found(value);
     let text = match value.as_array() {
@@ -59,7 +59,7 @@ pub fn no_word(alloc: Global, version: Version, value: &Value, words: Words) -> 
     }
 }
 
-/// A value that is not one of these words. It may be one of others, of which it is said what they take.
+/// A value that is not one of these words. If it is one of `others`, `takes` says what that takes.
 pub fn other_word(
     alloc: Global,
     version: Version,
@@ -74,7 +74,7 @@ pub fn other_word(
     }
 }
 
-/// A value that is no object, or one with other members than those of the version.
+/// A value that is not an object, or one with other members than those of the version.
 pub fn other_members(alloc: Global, version: Version, value: &Value, members: Words) -> PartFault {
     let allowed = members.of(version);
     let text = match first_other(value, allowed) {
@@ -91,7 +91,7 @@ pub fn other_members(alloc: Global, version: Version, value: &Value, members: Wo
     PartFault::of(alloc, text)
 }
 
-/// What reading an object answered. If it spells nothing, and is no object or has another member than these, that comes first.
+/// What reading an object answered. If it spells nothing, and is not an object or has another member than these, that comes first.
 pub fn of_members<T: Drop>(
     alloc: Global,
     version: Version,
@@ -109,7 +109,7 @@ pub fn of_members<T: Drop>(
     }
 }
 
-// Whether a value is no object, or has a member that is not one of these.
+// Whether a value is not an object, or has a member that is not one of these.
 fn has_others(value: &Value, allowed: Words) -> bool {
     !value.is_object() || first_other(value, allowed).is_some()
 }

@@ -90,7 +90,7 @@ fn read_leaf(alloc: Global, version: Version, value: &Value) -> Explained<Expr>
     }
 }
 
-// A null, which is no expression.
+// A null, which is not an expression.
 fn no_expression(alloc: Global, value: &Value) -> PartFault {
     let what = "is not an expression; a null has a kind: {\"null\": KIND}";
     wrong(alloc, value, what)
@@ -102,19 +102,19 @@ fn no_operation(alloc: Global, value: &Value) -> PartFault {
     wrong_length(alloc, value, form)
 }
 
-// A first item of two that is no operation on one value.
+// A first item of two that is not an operation on one value.
 fn no_unary(alloc: Global, version: Version, name: &Value) -> PartFault {
     let takes = "takes two operands: [OPERATOR, LEFT, RIGHT]";
     no_operator(alloc, version, name, UNARIES, BINARIES, takes)
 }
 
-// A first item of three that is no operation on two values.
+// A first item of three that is not an operation on two values.
 fn no_binary(alloc: Global, version: Version, name: &Value) -> PartFault {
     let takes = "takes one operand: [OPERATOR, OPERAND]";
     no_operator(alloc, version, name, BINARIES, UNARIES, takes)
 }
 
-// A first item that is not one of these operations. It may be one of others, of which it is said what they take.
+// A first item that is not one of these operations. If it is one of `others`, `takes` says what that takes.
 fn no_operator(
     alloc: Global,
     version: Version,

@@ -64,7 +64,7 @@ fn read_files(alloc: Global, value: &Value) -> Explained<u16>
     }
 }
 
-// A value that is no number of files.
+// A value that is not a number of files.
 fn no_files(alloc: Global, value: &Value) -> PartFault {
     let fault = match value.as_i64() {
         None => wrong(alloc, value, "is not a whole number of 64 bits"),

@@ -57,7 +57,7 @@ impl Listed for Step {
     const ITEMS: &'static str = "steps";
 }
 
-// A value that is no object of one step.
+// A value that is not an object of one step.
 fn no_step(alloc: Global, version: Version, value: &Value) -> PartFault {
     if has_members(value, 1) {
         return other_members(alloc, version, value, STEPS);
