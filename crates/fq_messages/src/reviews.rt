@@ -26,8 +26,11 @@ use fq_shell::{Opener, Options};
 use std::alloc::Global;
 use std::io::Write;
 
-/// Writes on `err` what is wrong in the data files by the plan's sources, and each comparison of constants in its steps. `Problems` if
-/// anything is wrong in a file.
+/// Writes on `err` what is wrong in the data files by the plan's sources, each comparison of constants in its steps, and each step that orders
+/// the texts of a column of numbers.
+///
+/// `Problems` if anything is wrong in a file; `Run(Read)` with the first file that cannot be opened or read; `Failure::MEMORY` if an
+/// allocation fails.
 pub fn check_files<O: Opener, E: Write>(
     alloc: Global,
     plan: &Plan,
@@ -186,8 +189,10 @@ fn answer_to(read: Result<(), Unread>, failure: Failure) -> Result<(), Failure>
     }
 }
 
-/// What the data files draft, with ints in these notations. `DraftTooLarge` if a plan may not have as many files, sources or texts that
-/// are null. If there is no draft, writes on `err` what is said of each file that was read.
+/// What the data files draft, with ints in these notations. If there is no draft, writes on `err` what is said of each file that was read.
+///
+/// `DraftTooLarge` if a plan may not have as many files, sources or texts that are null; `Draft` with the fault of the first file that drafts
+/// nothing, `Run(Read)` with the first that cannot be opened or read, `Failure::MEMORY` if an allocation fails.
 pub fn draft_of<O: Opener, E: Write>(
     alloc: Global,
     named: NamedNotations,
