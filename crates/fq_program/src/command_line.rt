@@ -26,16 +26,17 @@ use std::thread::Threads;
 
 /// Does what the arguments ask for, and answers the exit status. The program's own name is not among these.
 ///
-/// `--plan PLAN [--batch N] [--workers N] [--decimal LIST].. [--date LIST].. [--output OUT] [--progress] FILE...` runs a plan over files and
-/// writes the frame to `out`, or in the place of a file, which stays as it was if there is no frame. `--plan PLAN --explain [FILE...]` writes
-/// there what the plan's steps leave, and opens no file of data; `--help` and `--version` write a text. At any status but 0 `err` says why, in
-/// one line (of arguments that are refused, as `clap` has it), and with `--details` in lines after it, and nothing is written to `out`, except
-/// that at 5, if the write itself failed, an unknown part may be. A failed write to `err` changes no status. The arguments are judged first,
-/// then the plan file, the plan, and the number of files; then the files are opened in order, and read as the run goes on.
+/// `--plan PLAN [--batch N] [--workers N] [--decimal LIST].. [--date LIST].. [--output OUT] [--details] [--progress] FILE...` runs a plan over
+/// files and writes the frame to `out`, or in the place of a file, which stays as it was if there is no frame.
+/// `--plan PLAN --explain [FILE...]` writes there what the plan's steps leave, and opens no file of data; `--help` and `--version` write a
+/// text. At any status but 0 `err` says why, in one line (of arguments that are refused, as `clap` has it), and with `--details` in lines after
+/// it, and nothing is written to `out`, except that at 5, if the write itself failed, an unknown part may be. A failed write to `err` changes no
+/// status. The arguments are judged first, with the entries of `--decimal`; then the plan file, the plan, the number of files, and the names of
+/// `--decimal` and `--date`; then the files are opened in order, and read as the run goes on.
 ///
-/// `--plan PLAN --check [--limit N] [--decimal LIST].. [--date LIST].. FILE...` writes on `err` what is wrong in the files, and runs no step;
-/// `--draft [--null-values TEXTS] [--decimal LIST].. [--date LIST].. FILE...` writes a plan without steps to `out`, whose sources are the
-/// files.
+/// `--plan PLAN --check [--limit N] [--decimal LIST].. [--date LIST].. [--details] FILE...` writes on `err` what is wrong in the files, and
+/// runs no step; `--draft [--null-values TEXTS] [--decimal LIST].. [--date LIST].. FILE...` writes a plan without steps to `out`, whose sources
+/// are the files.
 pub fn with_words<T: Threads + Wait + Sync, O: Opener, W: Write, E: Write>(
     rt: &T,
     alloc: Global,
