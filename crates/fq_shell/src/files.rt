@@ -30,7 +30,7 @@ pub enum OpenFault {
 }
 
 impl OpenFault {
-    /// Why a file that a system did not open, or put in its place, is not there.
+    /// The fault of a call that the system refused: `Memory` if memory was lacking, else `Failed` with its error.
     pub fn of(error: io::Error) -> OpenFault {
         match error.kind() {
             ErrorKind::OutOfMemory => OpenFault::Memory,
@@ -72,8 +72,7 @@ pub trait Opener {
     fn discard(&mut self, output: Self::Output)
         ensures { bytes_of self.new ≡ bytes_of self.old };
 
-    /// Whether two names are those of one file. An opener may know no more of this than the names say, and does not if it tells the bytes of
-    /// the second.
+    /// Whether two names are those of one file. An opener that tells the bytes of the second goes by the names alone.
     fn is_same_file(&mut self, one: &str, other: &str) -> bool
         ensures same { bytes_of self.new ≡ bytes_of self.old }
         ensures named { one.now ≡ other.now → result ≡ true }

@@ -68,7 +68,7 @@ impl<'a> Options<'a> {
         self.lists("file")
     }
 
-    /// The rows of a batch.
+    /// The rows of a batch, from 1 to 65,536; 1,024 without `--batch`.
     pub fn batch_size(&self) -> u32
         ensures positive { 1 ≤ result }
         ensures not_too_many { result ≤ MAX_BATCH_SIZE }
@@ -78,7 +78,7 @@ impl<'a> Options<'a> {
         size.clamp(1, MAX_BATCH_SIZE)
     }
 
-    /// The number of workers.
+    /// The number of workers, from 1 to 16; 2 without `--workers`.
     pub fn workers(&self) -> u16
         ensures positive { 1 ≤ result }
         ensures not_too_many { result ≤ MAX_WORKERS }
@@ -153,7 +153,7 @@ impl<'a> Options<'a> {
         self.0.get_flag("check")
     }
 
-    /// The most lines that a check writes of problems.
+    /// The most lines that a check writes of problems: 100 without `--limit`, and `u64::MAX` for `--limit 0`.
     pub fn limit(&self) -> u64 {
         match self.0.get_one("limit").unwrap_or(LIMIT) {
             0 => u64::MAX,

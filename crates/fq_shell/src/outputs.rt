@@ -127,8 +127,8 @@ impl<'a, F: Files<File = File>, L: Write + Drop> SystemOutput<'a, F, L> {
 
 /// A new file of a system beside the one whose place it is to take.
 ///
-/// Until it takes the place, nobody else may read a new file that is to replace one, and it is locked: so what a run has left that was
-/// killed is told from what another run still writes, and is removed by the next one.
+/// Until it takes the place, a file that is to replace another can be read by its owner alone. It is locked, so that the next run can tell it
+/// from what a killed run has left, which it removes.
 #[derive(Drop)]
 pub struct NewFile<'a, F: Files<File = File>> {
     files: &'a F,
