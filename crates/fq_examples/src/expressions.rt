@@ -1,7 +1,7 @@
 //! Expressions, and the steps that work row by row.
 ghost use Rattle.fq_expr.specs.Examples.{LogicValues, LogicKinds, EarliestRow, EarliestRowFirst, EarliestRowByBatches, NumberedFrom, DivisionValues, DivisionFault, RemainderOfLowest, ExpressionKinds, ExpressionValues, StepSchemas, FilteredRows, NeededColumns, ReplacedInPlace};
 
-/// The examples of its definitions.
+/// The examples of the definitions of `fq_expr`.
 pub fn worked_examples()
     ensures logic { LogicValues }
     ensures logic_kinds { LogicKinds }

@@ -1,7 +1,7 @@
 //! Joins, groupings and rolling sums.
 ghost use Rattle.fq_ops.specs.Examples.{SumExamples, GroupExamples, AggregateExamples, GroupSchemaExamples, JoinExamples, EqualNullsExamples, SuffixExamples, RoomExamples, RollExamples, RollSchemaExamples, TakeExamples};
 
-/// The examples of its definitions.
+/// The examples of the definitions of `fq_ops`.
 pub fn worked_examples()
     ensures sums { SumExamples }
     ensures groups { GroupExamples }
