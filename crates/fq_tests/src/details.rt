@@ -542,6 +542,10 @@ fn steps_that_the_check_refuses(rt: HostRuntime) -> Result<(), Fail> {
             "wrong kind\n  gt: text and int; a column is {\"col\": \"id\"}",
         ),
         (
+            r#"{"filter":["gt",{"col":"id"},"2024-02-01"]}"#,
+            "wrong kind\n  gt: int and text; as an int, this date is 20240201",
+        ),
+        (
             r#"{"filter":["eq",{"col":"id"},"north"]}"#,
             "wrong kind\n  eq: int and text",
         ),
