@@ -361,14 +361,17 @@ impl Draft {
         }
     }
 
-    // Writes each column of a source that is a text and nearly something else.
+    // Writes each column of a source that is a text and nearly something else, or for which a notation is named that it has not.
     fn write_guesses<E: Write>(&self, source: &Source, names: &[&str], err: &mut E) -> Option<()> {
         for column in &source.columns {
-            if column.1.is_notable() {
+            let is_notable = column.1.is_notable();
+            if is_notable || column.1.misses_its_notation() {
                 write!(err, "{} is text: ", Quoted(column.0.as_bytes())).ok()?;
                 column.1.write(names, err)?;
-                self.write_null_option(&column.1, err)?;
-                write_notation_option(column.0.as_str(), &column.1, err)?;
+                if is_notable {
+                    self.write_null_option(&column.1, err)?;
+                    write_notation_option(column.0.as_str(), &column.1, err)?;
+                }
                 writeln!(err, "").ok()?;
             }
         }

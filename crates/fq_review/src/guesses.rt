@@ -144,6 +144,11 @@ impl Guess {
         is_text && most > 0 && (are_few || self.lone_text().is_some())
     }
 
+    /// Whether the column is a text though it is in a notation: a field of it is not written so.
+    pub fn misses_its_notation(&self) -> bool {
+        matches!(self.kind(), Kind::Text) && !matches!(self.notation, Notation::Plain)
+    }
+
     /// Whether no field was counted.
     pub fn is_empty(&self) -> bool {
         self.total() == 0
