@@ -280,9 +280,8 @@ impl Check {
                 unreachable!()
             };
             let (column, kind) = (columns[place].0.as_str(), columns[place].1);
-            let notation = notations.of(place);
-            if !is_cell(field, kind, notation, nulls) {
-                let bad = BadField::of(column, kind, notation, field);
+            if !is_cell(field, kind, notations.of(place), nulls) {
+                let bad = BadField::of(column, kind, notations.of(place), field);
                 self.tell(file, line, Problem::Field(bad), err);
                 self.count(file, line, column, field)?;
             }
