@@ -8,7 +8,7 @@ use Rattle.fq_language.specs.declared.faults.PlanFault.{PlanFault}
 use Rattle.fq_language.specs.declared.faults.PlanFault.TheVariants as plan
 use Rattle.fq_messages.specs.declared.failures.Failure.{Failure}
 use Rattle.fq_shell.specs.declared.files.OpenFault.{OpenFault}
-use Rattle.fq_shell.specs.declared.files.OpenFault.TheVariants as open
+use Rattle.fq_shell.specs.declared.files.OpenFault.TheVariants as opening
 use Rattle.fq_plan.specs.declared.noted.NotationFault.{NotationFault}
 use Rattle.fq_plan.specs.declared.noted.NotationFault.TheVariants as notation
 use Rattle.fq_review.specs.declared.drafts.DraftFault.{DraftFault}
@@ -71,8 +71,8 @@ undrafted fault = Draft fault
 
 -- why a file cannot be made or put in its place, as a failure of the program
 abbrev pub unplaced : OpenFault → Failure
-unplaced open.Memory = Run Memory
-unplaced (open.Failed error) = Run Write
+unplaced opening.Memory = Run Memory
+unplaced (opening.Failed error) = Run Write
 
 -- the failures that no input explains: of a device, or an allocation that failed
 abbrev pub IsOutside : Failure → Type 0

@@ -15,7 +15,7 @@ use Rattle.fq_run.specs.Run.{Tell}
 use Rattle.fq_run.specs.declared.faults.Fault.TheVariants.{Inputs, Memory, Write}
 use Rattle.fq_shell.specs.Arguments.{Names, plan_text}
 use Rattle.fq_shell.specs.declared.files.OpenFault.{OpenFault}
-use Rattle.fq_shell.specs.declared.files.OpenFault.TheVariants as open
+use Rattle.fq_shell.specs.declared.files.OpenFault.TheVariants as opening
 use Rattle.fq_messages.specs.Ending.{IsOutside, code_of, done, no_memory, number_of, status_of, unnoted, unplaced}
 use Rattle.fq_messages.proofs.EndingLemmas.{ended-well}
 use Rattle.fq_messages.specs.declared.status.Status.TheVariants.{BadDevice, NoMemory}
@@ -166,8 +166,8 @@ on_ok_known (Err e) known = tt
 -- ---- failures of devices and allocations
 
 pub outside-unplaced : (fault : OpenFault) → IsOutside (unplaced fault)
-outside-unplaced open.Memory = inr refl
-outside-unplaced (open.Failed error) = inl refl
+outside-unplaced opening.Memory = inr refl
+outside-unplaced (opening.Failed error) = inl refl
 
 pub outside-opened : (f failure : Failure) → status_of failure ≡ BadDevice → (f ≡ failure) ⊎ (f ≡ Run Memory) → IsOutside f
 outside-opened f failure device why = elim why [ inl same ↦ inl (ap status_of same ∙ device) | inr memory ↦ inr (ap status_of memory) ]
