@@ -136,20 +136,20 @@ unchanged : (file : Option (List ℕ)) (known known_after : List ℕ → Option 
 unchanged file known known_after same = λ name bytes other was. ap (λ k. k name) same ∙ was
 
 -- whatever it came to
-module _ {X : Type 0} (file before after : Option (List ℕ)) (known known_after : List ℕ → Option (List ℕ)) where
-  pub guarded-here : (r : Result X Failure) → file ≡ None → known_after ≡ known → IfErr r (λ f. f ≢ Run Write → Keeps before after) → IsGuarded file before after known known_after r
-  guarded-here r none same unwritten = record { elsewhere = λ some. absurd (cc); unwritten = unwritten; untouched = untouched r; others = unchanged file known known_after same }
+module _ {X : Type 0} (file : Option (List ℕ)) (known known_after : List ℕ → Option (List ℕ)) where
+  pub guarded-here : (before after : Option (List ℕ)) (r : Result X Failure) → file ≡ None → known_after ≡ known → IfErr r (λ f. f ≢ Run Write → Keeps before after) → IsGuarded file before after known known_after r
+  guarded-here before after r none same unwritten = record { elsewhere = λ some. absurd (cc); unwritten = unwritten; untouched = untouched r; others = unchanged file known known_after same }
     where
       untouched : (r : Result X Failure) → IfErr r (λ _. known_after ≡ known)
       untouched (Ok x) = tt
       untouched (Err f) = same
 
-  pub guarded-there : (r : Result X Failure) → IfErr r (λ _. known_after ≡ known) → OnlyChanges file known known_after → IsGuarded file before before known known_after r
-  guarded-there r untouched others = record { elsewhere = λ _. Keeps-refl before; unwritten = unwritten r; untouched = untouched; others = others }
+  pub guarded-there : (out : Option (List ℕ)) (r : Result X Failure) → IfErr r (λ _. known_after ≡ known) → OnlyChanges file known known_after → IsGuarded file out out known known_after r
+  guarded-there out r untouched others = record { elsewhere = λ _. Keeps-refl out; unwritten = unwritten r; untouched = untouched; others = others }
     where
-      unwritten : (r : Result X Failure) → IfErr r (λ f. f ≢ Run Write → Keeps before before)
+      unwritten : (r : Result X Failure) → IfErr r (λ f. f ≢ Run Write → Keeps out out)
       unwritten (Ok x) = tt
-      unwritten (Err f) = λ _. Keeps-refl before
+      unwritten (Err f) = λ _. Keeps-refl out
 
 -- what was written is all that the file holds, which was empty
 pub written-whole : (before after : Option (List ℕ)) (text : List ℕ) → Appends before after text → before ≡ Some [] → after ≡ Some text
@@ -181,18 +181,17 @@ outside-memory text other (Err f) same h = elim h [ inl refused ↦ inl (ap chec
 -- a run that was refused before it began
 pub guarded-refused : (X : Type 0) (f : Failure) (file out : Option (List ℕ)) (known known_after : List ℕ → Option (List ℕ)) → known_after ≡ known →
     (let r : Result X Failure = Err f in IsGuarded file out out known known_after r)
-guarded-refused X f file out known known_after same = guarded-there file out out known known_after (Err f) same (unchanged file known known_after same)
+guarded-refused X f file out known known_after same = guarded-there file known known_after out (Err f) same (unchanged file known known_after same)
 
 -- ---- how a run of named files ends
 
 -- it was refused
-pub answers-refused : (X : Type 0) (plan : Result PlanData Failure) (f : Failure) (told : List (List ℕ) → Type 0) (file before after : Option (List ℕ))
-    (known known_after : List ℕ → Option (List ℕ)) → (plan ≡ Err f) ⊎ IsOutside f →
-    (let r : Result X Failure = Err f in AnswersBy plan r (LeavesPlan told file before after known known_after r))
-answers-refused X (Err g) f told file before after known known_after (inl same) = inl (cc)
-answers-refused X (Err g) f told file before after known known_after (inr outside) = inr outside
-answers-refused X (Ok p) f told file before after known known_after (inl same) = absurd (cc)
-answers-refused X (Ok p) f told file before after known known_after (inr outside) = λ files tell. inr outside
+pub answers-refused : (X : Type 0) (plan : Result PlanData Failure) (f : Failure) (Holds : PlanData → Type 0) → (plan ≡ Err f) ⊎ IsOutside f → ((p : PlanData) → IsOutside f → Holds p) →
+    (let r : Result X Failure = Err f in AnswersBy plan r Holds)
+answers-refused X (Err g) f Holds (inl same) whatever = inl (cc)
+answers-refused X (Err g) f Holds (inr outside) whatever = inr outside
+answers-refused X (Ok p) f Holds (inl same) whatever = absurd (cc)
+answers-refused X (Ok p) f Holds (inr outside) whatever = whatever p outside
 
 -- or has a plan
 pub answers-planned : {X : Type 0} (plan : Result PlanData Failure) (p : PlanData) (r : Result X Failure) (Holds : PlanData → Type 0) → plan ≡ Ok p → Holds p → AnswersBy plan r Holds
@@ -246,6 +245,11 @@ module _ {X : Type 0} (names : Names) (known mid known_after : List ℕ → Opti
       whole : (text : List ℕ) (files : List (List ℕ)) → plan_text known names ≡ Some text → Tell known names.files files → ended ≡ done →
           (frame : List ℕ) × (written (planned names text) files ≡ Ok frame) × IsLeft names.output out out_after known mid frame
       whole text files told tell well = ended-well r (sym code ∙ well) (left _ _ _ _ _ _ r (ends text files told tell))
+
+pub ends-of-names : (one other : Names) (known known_after : List ℕ → Option (List ℕ)) (out out_after err err_after : Option (List ℕ)) (ended : ℕ) → one ≡ other →
+    RunEnds one known known_after out out_after err err_after ended → RunEnds other known known_after out out_after err err_after ended
+ends-of-names one other known known_after out out_after err err_after ended same ends =
+    subst (λ (names : Names). RunEnds names known known_after out out_after err err_after ended) same ends
 
 -- no memory was left for its arguments
 any-early : (early : Option Failure) (status : ℕ) → ((code : ℕ) → EndsAt code status) → IfSome early (λ refusal. EndsAt (number_of (status_of refusal)) status)

@@ -1,4 +1,4 @@
-use Rattle.std.proofs.Common.{◌∙◌, Unit}
+use Rattle.std.proofs.Common.{◌∙◌, inr}
 use Rattle.std.proofs.lemmas.Result.{err_from_is_err_and}
 use Rattle.fq_shell.specs.Arguments.{named_by}
 use Rattle.fq_program.specs.Named.{planned}
@@ -9,7 +9,7 @@ pub returns-in_err-named-clause-ended : goal.returns-in_err-named-clause-ended
 returns-in_err-named-clause-ended g c text known =
     let exit = err_from_is_err_and c.from_residual.result c.from_residual.ensures.1 in
     let names = named_by c.args.options.now in
-    rw (exit.1, exit.2) (answers-refused (Unit {0}) (planned names text) _ _ _ _ _ _ _ (named-fails names text _ (c.in_err-named.ensures.told text known)))
+    rw (exit.1, exit.2) (answers-refused (Unit {0}) (planned names text) _ _ (named-fails names text _ (c.in_err-named.ensures.told text known)) (λ p outside files tell. inr outside))
 
 pub returns-in-Ok-clause-ended : goal.returns-in-Ok-clause-ended
 returns-in-Ok-clause-ended g c text known =
@@ -23,8 +23,9 @@ pub returns-clause-ended : goal.returns-clause-ended
 returns-clause-ended g c text known =
     let names = named_by c.args.options.now in
     let told = c.in_ok-named.ensures.told text known in
-    answers-refused (Unit {0}) (planned names text) c.in-Err.failure _ _ _ _ _ _
+    answers-refused (Unit {0}) (planned names text) c.in-Err.failure _
     (plan-fails names text c.in_ok-named.named c.in-Err.failure told.0 told.1 (c.in-Err.ensures.planned text (rw c.judge_names.ensures.same known)))
+    (λ p outside files tell. inr outside)
 
 pub returns-in_err-named-clause-guarded : goal.returns-in_err-named-clause-guarded
 returns-in_err-named-clause-guarded g c =

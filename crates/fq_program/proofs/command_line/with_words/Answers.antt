@@ -1,13 +1,12 @@
-use Rattle.std.proofs.Common.{◌≡◌, map, subst, inr, string_bytes}
-use Rattle.fq_shell.specs.Arguments.{Names, names_of, named_by}
-use Rattle.fq_program.specs.Named.{RunEnds}
-use Rattle.fq_program.proofs.NamedLemmas.{unstarted}
+use Rattle.std.proofs.Common.{◌≡◌, map, inr, string_bytes}
+use Rattle.fq_shell.specs.Arguments.{names_of, named_by}
+use Rattle.fq_program.proofs.NamedLemmas.{ends-of-names, unstarted}
 use Rattle.fq_program.proofs.command_line.with_words.Goals as goal
 
 pub returns-in-Ok-clause-run : goal.returns-in-Ok-clause-run
 returns-in-Ok-clause-run g c ran =
     let named : named_by c.in-Ok.options ≡ names_of (map string_bytes c.args.words.items) = rw c.as_slice.ensures.value at c.in-Ok.ensures.taken.1 in
-    subst (λ (names : Names). RunEnds names _ _ _ _ _ _ c.answer_run.result) named c.answer_run.ensures.run
+    ends-of-names _ _ _ _ _ _ _ _ _ named c.answer_run.ensures.run
 
 pub returns-in-OutOfMemory-clause-run : goal.returns-in-OutOfMemory-clause-run
 returns-in-OutOfMemory-clause-run g c ran = unstarted _ _ _ _ _ _ c.report.ensures.code

@@ -1,4 +1,4 @@
-use Rattle.std.proofs.Common.{Unit, inr, refl, subst, sym}
+use Rattle.std.proofs.Common.{inr, refl, subst, sym}
 use Rattle.fq_messages.specs.Ending.{IsOutside}
 use Rattle.fq_program.proofs.NamedLemmas.{guarded-here, guarded-refused, guarded-there, left-here, left-there, outside-unplaced, settings-in-range, text-ends}
 use Rattle.fq_program.proofs.command_line.write_frame.Goals as goal
@@ -23,7 +23,7 @@ returns-in-None-clause-guarded g c = guarded-here _ _ _ _ _ c.run_over.result (s
 
 pub returns-in-Ok-clause-guarded : goal.returns-in-Ok-clause-guarded
 returns-in-Ok-clause-guarded g c =
-    guarded-there _ _ _ _ _ c.run_to_file.result (rw c.in-Ok.ensures.same at c.run_to_file.ensures.untouched)
+    guarded-there _ _ _ _ c.run_to_file.result (rw c.in-Ok.ensures.same at c.run_to_file.ensures.untouched)
     (rw (c.in-Ok.ensures.same, c.in-Some.ensures) at c.run_to_file.ensures.others)
 
 pub returns-in-Err-clause-guarded : goal.returns-in-Err-clause-guarded
