@@ -386,7 +386,7 @@ fn drafts_that_refuse_a_notation(rt: HostRuntime) -> Result<(), Fail> {
         (
             "--draft --date a,b --details 0",
             "a,b\n2024-02-29,2023-02-29\n",
-            "frameq: --decimal, --date: no such int column\n  \"b\" is not an int column\n  source 0: \"a\"\n  the frame: \"a\"\n",
+            "\"b\" is text: 1 other (first \"2023-02-29\", line 2)\nframeq: --decimal, --date: no such int column\n  \"b\" is not an int column\n  source 0: \"a\"\n  the frame: \"a\"\n",
         ),
         (
             "--draft --date a --decimal a=1 0",
