@@ -103,7 +103,7 @@ DETAILS = [
     ("an amount", plan([source(1, "x int")], ""), "x\n1.5\n1.25\n", 4, "file 0, row 2, column 0: bad cell",
         '  F:3: column "x": "1.25" is not a decimal of at most 1 place\n', "--decimal", "x=1"),
     ("a scale", plan([source(1, "x int")], ""), "x\n", 2, "--decimal takes NAME=SCALE, with a scale from 1 to 18",
-        "  --decimal \"x=2,y\"\n", "--decimal", "x=2,y"),
+        "  --decimal \"y\"\n", "--decimal", "x=2,y"),
     ("a name", plan([source(1, "x int", "t text")], ""), "x,t\n", 2, "--decimal, --date: no such int column",
         '  "t" is not an int column\n  source 0: "x"\n  the frame: "x"\n', "--decimal", "x=2", "--date", "t"),
 ]
