@@ -1,10 +1,12 @@
 //! The program without arguments.
-ghost use Rattle.std.specs.Prelude.{◌≡◌, ◌≢◌, ◌⊎◌, ◌∷◌, [], ℕ, List, Some, Ok, Err, IfErr, OnOk, MatchResult};
+ghost use Rattle.std.specs.Prelude.{◌≡◌, ◌≢◌, ◌⊎◌, ◌∷◌, [], ℕ, List, Some, Ok, Err, IfErr, OnOk, MatchResult, vec_len};
 ghost use Rattle.std.specs.Io.KnownBytes.{Appends, Keeps};
 ghost use Rattle.fq_column.specs.Frame.{Frame};
 ghost use Rattle.fq_csv.specs.Printed.{printed, printed_in};
+ghost use Rattle.fq_language.specs.Plan.{files_wanted};
+ghost use Rattle.fq_run.specs.declared.faults.Fault.{Fault as FaultData};
 ghost use Rattle.fq_run.specs.declared.faults.Fault.TheVariants as fault;
-ghost use Rattle.fq_run.specs.Run.{Tell};
+ghost use Rattle.fq_run.specs.Run.{Tell, start_refusal};
 ghost use Rattle.fq_messages.specs.Ending.{code_of, done, bad_device, no_memory, status_of, IsOutside};
 ghost use Rattle.fq_program.specs.Program.{AreSettings, program, checked_plan as checked_plan_of, frame_of};
 ghost use Rattle.fq_messages.specs.declared.failures.Failure.TheVariants as failure;
@@ -90,7 +92,8 @@ fn run_file<T: Threads + Wait + Sync, W: Write>(
     run_over(rt, alloc, plan, inputs, out, BATCH_SIZE, WORKERS)
 }
 
-/// Writes the frame of a plan over inputs, by batches of so many rows and so many workers.
+/// Writes the frame of a plan over inputs, by batches of so many rows, from 1 to 65,536, and so many workers, from 1 to 16. Other settings, and
+/// a number of inputs that is not the plan's, are refused before anything is read, as [`Checked::run`] refuses them.
 pub fn run_over<T: Threads + Wait + Sync, R: Read + Drop + Send, W: Write>(
     rt: &T,
     alloc: Global,
@@ -104,6 +107,7 @@ pub fn run_over<T: Threads + Wait + Sync, R: Read + Drop + Send, W: Write>(
         OnOk result ((frame : Frame) × (frame_of plan.now files ≡ Ok frame) × Appends (W.contents out.old) (W.contents out.new) (printed_in plan.now.notations frame)) }
     ensures failed { (files : List (List ℕ)) → Tell R.remaining inputs.items files → AreSettings batch_size workers →
         IfErr result (λ f. (frame_of plan.now files ≡ Err f) ⊎ IsOutside f) }
+    ensures refused { (f : FaultData) → start_refusal (files_wanted plan.now) (vec_len inputs) batch_size workers ≡ Some f → result ≡ Err (failure.Run f) }
     ensures unwritten { IfErr result (λ f. f ≢ failure.Run fault.Write → Keeps (W.contents out.old) (W.contents out.new)) }
 {
     plan.run(rt, alloc, inputs, out, batch_size, workers)?;
