@@ -1,7 +1,7 @@
 -- Lemmas on the words of specs/Lists.antt.
-use Rattle.std.proofs.Common.{◌≡◌, ℕ, zero, suc, ◌+◌, ◌<◌, ◌≤◌, Bool, true, false, List, [], ◌∷◌, ◌++◌, length, take, drop, refl, ap, sym, ◌∙◌, arith, cond, get_or, set, inl, inr, append-nil, Some, map}
+use Rattle.std.proofs.Common.{◌≡◌, ℕ, zero, suc, ◌+◌, ◌<◌, ◌≤◌, Bool, true, false, ◌||◌, List, [], ◌∷◌, ◌++◌, length, take, drop, refl, ap, sym, ◌∙◌, arith, cond, get_or, set, inl, inr, append-nil, Some, map}
 use Rattle.std.specs.Prelude.{slice_get}
-use Rattle.std.specs.List.{swap}
+use Rattle.std.specs.List.{list_any, swap}
 use Rattle.std.proofs.lemmas.List.{take-set-le, drop-set-lt, get_or_default, set-get_or, get_or-drop, drop-drop, length-take-le, length-set}
 use Rattle.std.proofs.Math.Seq.{take-suc-set, take-suc}
 use Rattle.std.proofs.Math.Nat.{eq-or-lt_of_le}
@@ -114,3 +114,8 @@ pub take-map : {X Y : Type 0} (f : X → Y) (n : ℕ) (xs : List X) → map f (t
 take-map f zero xs = refl
 take-map f (suc n) [] = refl
 take-map f (suc n) (x ∷ xs) = ap (λ ys. f x ∷ ys) (take-map f n xs)
+
+-- a test of items, and one of what is made of them
+pub any-mapped : {A B : Type 0} (f : A → B) (p : A → Bool) (q : B → Bool) → ((a : A) → p a ≡ q (f a)) → (xs : List A) → list_any p xs ≡ list_any q (map f xs)
+any-mapped f p q same [] = refl
+any-mapped f p q same (x ∷ xs) = λ i. same x i || any-mapped f p q same xs i

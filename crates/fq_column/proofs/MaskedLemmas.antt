@@ -1,5 +1,5 @@
 -- A row of which only marked columns are kept agrees with the row in these, and fits the columns that it fits; streams of such rows.
-use Rattle.std.proofs.Common.{◌≡◌, ◌++◌, ℕ, zero, suc, Bool, true, false, List, [], ◌∷◌, length, map, Option, Some, None, Result, Ok, Err, refl, ap, sym, ◌∙◌, arith}
+use Rattle.std.proofs.Common.{◌≡◌, ◌++◌, suc, Bool, true, false, List, [], ◌∷◌, length, map, Result, Ok, Err, refl, ap, sym, ◌∙◌, arith}
 use Rattle.std.specs.Prelude.{All, slice_index_or}
 use Rattle.std.specs.Cmp.{first_so, second_so}
 use Rattle.std.specs.Result.{result_map_both}
@@ -7,7 +7,6 @@ use Rattle.std.proofs.lemmas.Bool.{and_from}
 use Rattle.std.proofs.lemmas.List.{map-append}
 use Rattle.std.proofs.lemmas.List.Elements.{All-head, All-tail}
 use Rattle.fq_column.specs.declared.cells.Cell.{Cell}
-use Rattle.fq_column.specs.declared.cells.Kind.{Kind}
 use Rattle.fq_column.specs.Agreement.{AgreeOn, AllAgreeOn}
 use Rattle.fq_column.specs.Cell.{has_kind}
 use Rattle.fq_column.specs.Frame.{Fields, Row, row_fits}

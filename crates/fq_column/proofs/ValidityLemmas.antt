@@ -3,6 +3,7 @@ use Rattle.std.proofs.Common.{◌≡◌, ◌<◌, ◌≤◌, ◌⊎◌, ◌+◌,
 use Rattle.std.specs.Prelude.{slice_get, if◌then◌else◌}
 use Rattle.std.specs.Bool.{◌==◌}
 use Rattle.std.specs.Int.{bit_at}
+use Rattle.std.specs.List.{filter}
 use Rattle.std.proofs.lemmas.Bool.{cases_eq, cases_lt, eq-eqb, ne_eqb}
 use Rattle.std.proofs.lemmas.List.{append-nil, append_assoc, get_or_append_left, get_or-append-add, get_or-replicate, get_or-take, get_or_past, get_or-set_same, get_or-set_other, length-replicate, length-set, length-take-le, same_lists, take_all, take_more}
 use Rattle.std.proofs.lemmas.List.FromFn.{get_or-map-range_with_len, length-map-range_with_len, map-range_with_len_more, take-map-range_with_len}
@@ -143,6 +144,23 @@ kept-more mask words i l =
     ap (λ ms. keep ms (marks words (i + 1))) (take_more mask i false l)
     ∙ ap (keep (take i mask ++ get_or mask i false ∷ [])) (marks-more words i)
     ∙ keep-snoc (take i mask) (marks words i) (get_or mask i false) (mark_at words i) (length-take-le i mask (omega (arith, l)) ∙ sym (length-marks words i))
+
+-- what a mask keeps of places that all have a value
+keep-marked_places : (mask : List Bool) → replicate (length (filter (λ marked. marked) mask)) true ≡ keep mask (replicate (length mask) true)
+keep-marked_places [] = refl
+keep-marked_places (true ∷ mask) = ap (λ ms. true ∷ ms) (keep-marked_places mask)
+keep-marked_places (false ∷ mask) = keep-marked_places mask
+
+-- no word: each place has a value
+marks-none : (words : List ℕ) (n : ℕ) → length words ≡ 0 → marks words n ≡ replicate n true
+marks-none words n none =
+    same_lists (marks words n) (replicate n true) (length-marks words n ∙ sym (length-replicate n true))
+    (λ k d l. let below : k < n = omega (arith, l, length-marks words n) in
+    mark-at words n k d below ∙ mark-behind words k (omega (arith, none)) ∙ sym (get_or-replicate n k true d below))
+
+pub keep-marks-none : (words : List ℕ) (mask : List Bool) → length words ≡ 0 → marks words (length (filter (λ marked. marked) mask)) ≡ keep mask (marks words (length mask))
+keep-marks-none words mask none =
+    marks-none words (length (filter (λ marked. marked) mask)) none ∙ keep-marked_places mask ∙ ap (keep mask) (sym (marks-none words (length mask) none))
 
 -- the first words of a list, and of what stands behind others
 front-word : (others : List ℕ) (k q : ℕ) → (q < k) ⊎ (length others ≤ q) → k ≤ length others → word_at (take k others) q ≡ word_at others q

@@ -1,6 +1,7 @@
 //! Which places of an array have a value.
 ghost use Rattle.std.specs.Prelude.{◌≡◌, ◌<◌, ◌≤◌, ◌/◌, ◌*◌, ◌^◌, ◌+◌, ◌++◌, [], ◌∷◌, ℕ, List, take, length, replicate, if◌then◌else◌, IfOk, OnOk, OnErr, slice_get, slice_set, true, false, Some};
 ghost use Rattle.std.specs.Bool.{◌==◌};
+ghost use Rattle.std.specs.List.{filter};
 ghost use Rattle.fq_column.specs.Lists.{keep as kept};
 ghost use Rattle.fq_column.specs.Validity.{mark_at, marks};
 
@@ -171,17 +172,11 @@ fn write_mark(words: &mut Vec<u64>, i: usize, mark: bool)
     words[i / BITS] = written;
 }
 
-// How many places a mask marks. If no mark lies in a word, all of these have a value.
+// How many places a mask marks.
 fn count_marked(mask: &[bool]) -> usize
-    ensures { (words : List ℕ) → length words ≡ 0 → marks words result ≡ kept mask.now (marks words (length mask.now)) }
+    ensures { result ≡ length (filter (λ marked. marked) mask.now) }
 {
-    let mut count = 0;
-    for i in 0..mask.len() {
-        if mask[i] {
-            count += 1;
-        }
-    }
-    count
+    mask.iter().filter(|marked| **marked).count()
 }
 
 // Moves the marks of the places that the mask marks to the front, and says how many they are.

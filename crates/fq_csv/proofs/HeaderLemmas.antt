@@ -1,9 +1,10 @@
 -- The names of a schema, and the fields of a record.
 use Rattle.std.specs.Prelude.{slice_get, nat_eq, option_map}
 use Rattle.std.proofs.Common.{◌≡◌, ◌≢◌, ◌<◌, ℕ, zero, suc, ◌++◌, ◌∙◌, ap, List, [], ◌∷◌, Bool, true, false, Option, Some, length, refl, sym, arith, inl, inr}
-use Rattle.std.specs.Prelude.{◌&&◌, not}
+use Rattle.std.specs.Prelude.{not}
 use Rattle.std.specs.Cmp.Lexicographic.{pointwise, bytes_decides}
 use Rattle.std.proofs.lemmas.Bool.{cases_Bool, false_from_ne_true}
+use Rattle.std.proofs.Math.Bool.{and-false}
 use Rattle.fq_column.specs.Frame.{Name, same_name}
 use Rattle.csv.specs.Reading.{default_config, records}
 use Rattle.fq_column.specs.Frame.{Fields, names_of}
@@ -14,10 +15,6 @@ use Rattle.fq_csv.specs.Taking.{records_after, records_under_header}
 
 abbrev pub same_names : List Name → Record → Bool
 same_names names fs = pointwise same_name names fs
-
-and-false : (b : Bool) → (b && false) ≡ false
-and-false true = refl
-and-false false = refl
 
 -- the names below i are the fields below i
 abbrev pub SameBelow : List Name → Record → ℕ → Type 0

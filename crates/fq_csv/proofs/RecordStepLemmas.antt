@@ -1,7 +1,8 @@
 -- The run that a step makes, and the stream of records that it leaves.
 use Rattle.std.specs.Prelude.{option_map}
-use Rattle.std.proofs.Common.{◌≡◌, ◌<◌, ◌≤◌, ◌+◌, ◌++◌, ◌∙◌, ℕ, List, [], ◌∷◌, Option, Some, length, take, refl, sym, ap, subst, arith}
-use Rattle.std.proofs.lemmas.List.{drop_all, take_all}
+use Rattle.std.proofs.Common.{◌≡◌, ◌<◌, ◌≤◌, ◌+◌, ◌++◌, ◌∙◌, ℕ, List, Option, Some, length, take, refl, sym, ap, subst, arith}
+use Rattle.std.proofs.lemmas.List.{drop_all, take_all, nil_from_length}
+use Rattle.std.proofs.Math.Seq.{drop-append_seam, take-append_seam}
 use Rattle.fq_column.specs.Frame.{Fields}
 use Rattle.csv.specs.Reading.{default_config, records}
 use Rattle.fq_csv.specs.File.{Record}
@@ -14,7 +15,6 @@ use Rattle.fq_csv.specs.declared.scanning.spans.Span.{Span}
 use Rattle.fq_csv.specs.declared.scanning.stages.Stage.{Stage}
 use Rattle.fq_csv.specs.declared.scanning.stages.Stage.TheVariants as stage
 use Rattle.fq_csv.proofs.RecordLemmas.{mapped}
-use Rattle.fq_csv.proofs.TakingLemmas.{drop-first, take-first}
 
 cut : (after : Stage) (size : ℕ) (rs : List Record) (u : RecordStream) (v : Option RecordStream) (fields : Fields) (limit at : ℕ) (new : Unread)
     → EndsAt after size (length rs) → RecordsGoOn after rs u v → v ≡ option_map (records_after new.file limit at) new.upcoming
@@ -23,8 +23,8 @@ cut stage.Header size rs u v fields limit at new n g e = absurd n
 cut stage.Rows size rs u v fields limit at new n g e =
     let rest = g.0 in
     let same : u ≡ then_records rs rest = g.2 in (
-      sym (ap (λ (w : RecordStream). take size w.records) same ∙ ap (λ k. take k (rs ++ rest.records)) (sym n) ∙ take-first rs rest.records),
-      sym e ∙ g.1 ∙ ap Some (sym (ap (without_records size) same ∙ ap (λ k. without_records k (then_records rs rest)) (sym n) ∙ ap (λ xs. let w : RecordStream = record { records = xs; fault = rest.fault } in w) (drop-first rs rest.records))),
+      sym (ap (λ (w : RecordStream). take size w.records) same ∙ ap (λ k. take k (rs ++ rest.records)) (sym n) ∙ take-append_seam rs rest.records),
+      sym e ∙ g.1 ∙ ap Some (sym (ap (without_records size) same ∙ ap (λ k. without_records k (then_records rs rest)) (sym n) ∙ ap (λ xs. let w : RecordStream = record { records = xs; fault = rest.fault } in w) (drop-append_seam rs rest.records))),
     )
 cut (stage.Closed fault) size rs u v fields limit at new n g e =
     let few : length rs ≤ size = omega (arith, n.0) in (
@@ -61,10 +61,6 @@ module _ (span : Span) (layout : Layout) (old new : Unread) (after : Stage) (tex
   pub gives-no-run : ReadsRecords span old new after text count → count ≡ 0 → GivesNoRun span layout.schema old new stage.Rows after
   gives-no-run r none = go after r.ends r.goes_on
     where
-      no-rs : (xs : List Record) → length xs ≡ 0 → xs ≡ []
-      no-rs [] e = refl
-      no-rs (x ∷ xs) e = absurd (omega (arith, e))
-
       go : (s : Stage) → EndsAt s span.size count → ((before : List Record) → old.upcoming ≡ Some before → RecordsGoOn s rs (records_after old.file span.limit span.from before) (option_map (records_after old.file span.limit (span.from + count)) new.upcoming))
           → GivesNoRun span layout.schema old new stage.Rows s
       go stage.Header ends goes = absurd ends
@@ -74,5 +70,5 @@ module _ (span : Span) (layout : Layout) (old new : Unread) (after : Stage) (tex
         λ _. ends.1,
         λ u e.
             let m = mapped (records_after old.file span.limit span.from) old.upcoming u e in
-            m.2 ∙ goes m.0 m.1 ∙ ap (λ xs. let w : RecordStream = record { records = xs; fault = fault } in w) (no-rs rs (r.number ∙ none)),
+            m.2 ∙ goes m.0 m.1 ∙ ap (λ xs. let w : RecordStream = record { records = xs; fault = fault } in w) (nil_from_length rs (r.number ∙ none)),
       )

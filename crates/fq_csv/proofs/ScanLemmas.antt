@@ -1,9 +1,10 @@
 -- The rows of a stream of records, run by run.
 use Rattle.std.specs.Prelude.{nat_lt, option_map, Result}
-use Rattle.std.proofs.Common.{◌≡◌, ◌<◌, ◌≤◌, ◌+◌, ◌-◌, ◌++◌, ◌⊎◌, inl, inr, ◌∙◌, ℕ, zero, suc, List, [], ◌∷◌, false, Option, Some, None, Ok, Err, length, take, drop, refl, sym, ap, subst, arith}
+use Rattle.std.proofs.Common.{◌≡◌, ◌≤◌, ◌+◌, ◌-◌, ◌++◌, ◌⊎◌, inl, inr, ◌∙◌, ℕ, suc, List, [], ◌∷◌, false, Option, Some, None, Ok, Err, length, take, drop, refl, sym, ap, subst, arith}
 use Rattle.std.proofs.lemmas.Bool.{cases_Bool}
 use Rattle.std.proofs.lemmas.List.{append-nil, drop_all, length-take, length-take-le, take-append-drop, take_all}
 use Rattle.std.specs.Cmp.Lexicographic.{pointwise}
+use Rattle.std.proofs.Math.Seq.{drop-append_seam, take-append_seam}
 use Rattle.fq_column.specs.Frame.{Frame, Row, names_of, same_name}
 use Rattle.fq_column.specs.Stream.{Stream, done, then_stream}
 use Rattle.fq_column.proofs.StreamLemmas.{then_stream-assoc}
@@ -17,23 +18,15 @@ use Rattle.fq_csv.specs.Taking.{FieldRun, HasNoRow, ReadsRun, RecordStream, over
 use Rattle.fq_csv.specs.declared.faults.ScanFault.{ScanFault}
 use Rattle.fq_csv.specs.declared.cells.layouts.Layout.{Layout}
 use Rattle.fq_csv.specs.declared.faults.ScanFault.TheVariants.{TooLong}
-use Rattle.fq_csv.proofs.RecordLemmas.{mapped}
+use Rattle.fq_csv.proofs.BlockLemmas.{le-or-lt}
+use Rattle.fq_csv.proofs.RecordLemmas.{mapped, option-case}
 use Rattle.fq_csv.proofs.HeldRowLemmas.{no-item}
 use Rattle.fq_csv.proofs.FileStreamLemmas.{after-fault, after-rows}
-use Rattle.fq_csv.proofs.TakingLemmas.{drop-first, fault-first, record-first, take-first}
-
-le-or-lt : (i j : ℕ) → (i ≤ j) ⊎ (j < i)
-le-or-lt zero j = inl (omega arith)
-le-or-lt (suc i) zero = inr (omega arith)
-le-or-lt (suc i) (suc j) = elim (le-or-lt i j) [ inl l ↦ inl (omega (arith, l)) | inr l ↦ inr (omega (arith, l)) ]
+use Rattle.fq_csv.proofs.TakingLemmas.{fault-first, record-first}
 
 result-case : {A E : Type 0} (r : Result A E) → ((x : A) × (r ≡ Ok x)) ⊎ ((e : E) × (r ≡ Err e))
 result-case (Ok x) = inl (x, refl)
 result-case (Err e) = inr (e, refl)
-
-option-case : {A : Type 0} (o : Option A) → (o ≡ None) ⊎ ((x : A) × (o ≡ Some x))
-option-case None = inl refl
-option-case (Some x) = inr (x, refl)
 
 -- ---- the rows of records are those of the records that may be rows
 
@@ -93,7 +86,7 @@ module _ (file : ℕ) (layout : Layout) (limit : ℕ) where
 -- ---- one run
 
 cut-here : (size : ℕ) (xs ys : List Row) → (length xs ≡ size) ⊎ ((length xs ≤ size) × (ys ≡ [])) → (take size (xs ++ ys) ≡ xs) × (drop size (xs ++ ys) ≡ ys)
-cut-here size xs ys (inl e) = (ap (λ n. take n (xs ++ ys)) (sym e) ∙ take-first xs ys, ap (λ n. drop n (xs ++ ys)) (sym e) ∙ drop-first xs ys)
+cut-here size xs ys (inl e) = (ap (λ n. take n (xs ++ ys)) (sym e) ∙ take-append_seam xs ys, ap (λ n. drop n (xs ++ ys)) (sym e) ∙ drop-append_seam xs ys)
 cut-here size xs ys (inr (few, none)) = rw (none, append-nil xs) (take_all size xs few, drop_all size xs few)
 
 -- what is left of the rows after a run

@@ -1,7 +1,8 @@
 -- Records that are taken from a file.
 use Rattle.std.specs.Prelude.{option_map}
-use Rattle.std.proofs.Common.{◌≡◌, ◌<◌, ◌≤◌, ◌+◌, ◌++◌, ◌∙◌, ℕ, suc, List, [], ◌∷◌, Option, Some, None, length, take, drop, refl, sym, ap, subst, arith, append-nil}
+use Rattle.std.proofs.Common.{◌≡◌, ◌<◌, ◌≤◌, ◌+◌, ◌++◌, ◌∙◌, ℕ, suc, List, [], ◌∷◌, Option, Some, None, length, refl, sym, ap, subst, arith, append-nil}
 use Rattle.std.proofs.lemmas.Bool.{le-ltb, lt-ltb}
+use Rattle.std.proofs.lemmas.List.{nil_from_length}
 use Rattle.csv.specs.Reading.{default_config, records}
 use Rattle.fq_csv.specs.File.{Record}
 use Rattle.fq_csv.specs.Records.{IsOfText, Takes, Unread}
@@ -11,14 +12,6 @@ use Rattle.fq_csv.specs.declared.faults.ScanFault.TheVariants.{TooLong}
 use Rattle.fq_csv.specs.declared.scanning.spans.Span.{Span}
 use Rattle.fq_csv.specs.declared.scanning.stages.Stage.{Stage}
 use Rattle.fq_csv.specs.declared.scanning.stages.Stage.TheVariants as stage
-
-pub take-first : {X : Type 0} (xs ys : List X) → take (length xs) (xs ++ ys) ≡ xs
-take-first [] ys = refl
-take-first (x ∷ xs) ys = ap (λ zs. x ∷ zs) (take-first xs ys)
-
-pub drop-first : {X : Type 0} (xs ys : List X) → drop (length xs) (xs ++ ys) ≡ ys
-drop-first [] ys = refl
-drop-first (x ∷ xs) ys = drop-first xs ys
 
 -- ---- the stream of records, one at a time
 
@@ -111,11 +104,7 @@ module _ (span : Span) (old now : Unread) (text : List ℕ) (wanted count : ℕ)
 pub no-more : (old new : Unread) (text : List ℕ) (more : ℕ) → Takes old 1 text more new → more ≡ 0 → EndsAtLimit old (stage.Closed None)
 no-more old new text more t none before e =
     let r = t.rest before e in
-    (r.2 ∙ ap (λ xs. xs ++ r.0) (nothing (records default_config text) (t.number ∙ none)) ∙ r.3 (omega (arith, none)))
-  where
-    nothing : (xs : List Record) → length xs ≡ 0 → xs ≡ []
-    nothing [] e = refl
-    nothing (x ∷ xs) e = absurd (omega (arith, e))
+    (r.2 ∙ ap (λ xs. xs ++ r.0) (nil_from_length (records default_config text) (t.number ∙ none)) ∙ r.3 (omega (arith, none)))
 
 pub one-more : (old new : Unread) (text : List ℕ) (more : ℕ) (fault : ScanFault) → Takes old 1 text more new → 0 < more → fault ≡ TooLong old.file → EndsAtLimit old (stage.Closed (Some fault))
 one-more old new text more fault t some f = (f, λ before e. (let r = t.rest before e in go (records default_config text) r.0 before r.2 (omega (arith, t.number, some))))

@@ -2,6 +2,7 @@
 use Rattle.std.specs.Prelude.{◌==◌}
 use Rattle.std.proofs.Common.{◌≡◌, ◌≤◌, ◌+◌, ◌++◌, ◌∙◌, ℕ, suc, true, List, [], ◌∷◌, Some, None, Ok, Err, length, refl, sym, ap, arith, append-nil, length-append}
 use Rattle.std.proofs.lemmas.Bool.Decides.{nat_tests}
+use Rattle.std.proofs.lemmas.List.{nil_from_length}
 use Rattle.fq_column.specs.declared.cells.Kind.{Kind}
 use Rattle.fq_column.specs.Column.{Cells}
 use Rattle.fq_column.specs.Frame.{Row, kinds_of}
@@ -84,7 +85,7 @@ module _ (layout : Layout) where
   -- all of them are rows
   pub HasRows-all : (all rs rest : List Record) (columns : List Cells) → all ≡ rs ++ rest → length rs ≡ length all → HasRows layout rs columns → HoldsRowsOf layout all columns None
   HasRows-all all rs rest columns split number h =
-      let none : rest ≡ [] = nothing rest (omega (arith, ap length split ∙ length-append rs rest, number)) in
+      let none : rest ≡ [] = nil_from_length rest (omega (arith, ap length split ∙ length-append rs rest, number)) in
       let same : all ≡ rs = split ∙ ap (λ ys. rs ++ ys) none ∙ append-nil rs in
       record {
         rows = h.rows;
@@ -93,7 +94,3 @@ module _ (layout : Layout) where
         place = tt;
         stream = λ file before limit room. ap (rows_after file layout limit before) same ∙ h.stream file before limit (omega (arith, room, number));
       }
-    where
-      nothing : (xs : List Record) → length xs ≡ 0 → xs ≡ []
-      nothing [] e = refl
-      nothing (x ∷ xs) e = absurd (omega (arith, e))

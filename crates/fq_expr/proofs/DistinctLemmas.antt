@@ -4,6 +4,7 @@ use Rattle.std.specs.List.{list_any}
 use Rattle.std.proofs.lemmas.List.{length-map}
 use Rattle.std.specs.Cmp.{first_so, second_so}
 use Rattle.std.specs.Cmp.Lexicographic.{bytes_decides}
+use Rattle.std.proofs.lemmas.Bool.{or_right}
 use Rattle.fq_column.specs.Frame.{Name, same_name, has_name, put_named, put_all}
 use Rattle.fq_column.specs.Lists.{is_distinct}
 use Rattle.fq_expr.proofs.OutputLemmas.{has_name-put_named}
@@ -45,13 +46,9 @@ distinct-le (x ∷ xs) ys d h =
     let self : same_name x x ≡ true = (bytes_decides x x).1 refl in
     let here : has_name ys x ≡ true = h x (ap (λ b. b || has_name xs x) self) in
     let apart : not (list_any (same_name x) xs) ≡ true = first_so (not (list_any (same_name x) xs)) (is_distinct same_name xs) d in
-    let rest = distinct-le xs (without x ys) (second_so (not (list_any (same_name x) xs)) (is_distinct same_name xs) d) (λ n e. has-without x n ys (other x xs n apart e) (h n (either (same_name n x) (has_name xs n) e))) in
+    let rest = distinct-le xs (without x ys) (second_so (not (list_any (same_name x) xs)) (is_distinct same_name xs) d) (λ n e. has-without x n ys (other x xs n apart e) (h n (or_right (same_name n x) (has_name xs n) e))) in
     omega (arith, rest, length-without x ys here)
   where
-    either : (a b : Bool) → b ≡ true → (a || b) ≡ true
-    either true b e = refl
-    either false b e = e
-
     other : (x : Name) (xs : List Name) (n : Name) → not (list_any (same_name x) xs) ≡ true → has_name xs n ≡ true → same_name x n ≡ false
     other x xs n a e = go (same_name x n) refl
       where
@@ -65,13 +62,9 @@ has-own : {X : Type 0} (ps : List (Name × X)) (x : Name × X) (n : Name) → sa
 has-own [] x n e = ap (λ b. b || false) e
 has-own (p ∷ ps) x n e = go (same_name x.0 p.0) (has-own ps x n e)
   where
-    right : (a b : Bool) → b ≡ true → (a || b) ≡ true
-    right true b h = refl
-    right false b h = h
-
     go : (b : Bool) → has_name (map (λ p. p.0) (put_named ps x)) n ≡ true → has_name (map (λ p. p.0) (cond b (x ∷ ps) (p ∷ put_named ps x))) n ≡ true
     go true h = ap (λ b. b || has_name (map (λ p. p.0) ps) n) e
-    go false h = right (same_name n p.0) (has_name (map (λ p. p.0) (put_named ps x)) n) h
+    go false h = or_right (same_name n p.0) (has_name (map (λ p. p.0) (put_named ps x)) n) h
 
 has-put_all : {X : Type 0} (ps outs : List (Name × X)) (n : Name) → has_name (map (λ p. p.0) ps) n ≡ true → has_name (map (λ p. p.0) (put_all ps outs)) n ≡ true
 has-put_all ps [] n h = h

@@ -16,6 +16,7 @@ use Rattle.fq_expr.specs.Steps.{fields_after}
 use Rattle.fq_expr.specs.Kinds.{item_fields, item_names, count_new, step_schema}
 use Rattle.fq_expr.specs.Outputs.{all_kinds}
 use Rattle.std.proofs.lemmas.List.{length-map}
+use Rattle.std.proofs.lemmas.Bool.{not-false}
 use Rattle.fq_expr.proofs.DistinctLemmas.{outputs-le}
 use Rattle.fq_expr.proofs.OutputLemmas.{item_fields-all_kinds, length-all_kinds, length-put_all, names-fields_of}
 
@@ -153,10 +154,6 @@ checks-pass false false x s e = (refl, refl, cc)
 not_below : (m n : ℕ) → nat_lt m n ≡ false → n ≤ m
 not_below m n e = grind (arith, nat_tests)
 
-untwisted : (b : Bool) → not b ≡ false → b ≡ true
-untwisted true e = refl
-untwisted false e = cc
-
 pub record Adds (fields : Fields) (items : List Item) (after : Fields) (ks : List Kind) : Type 0 where
   pub kinds : all_kinds fields items ≡ Ok ks
   pub columns : put_all fields (fields_of (item_names items) ks) ≡ after
@@ -169,7 +166,7 @@ with_columns-ok fields items after e = go (all_kinds fields items) refl
     go : (r : Result (List Kind) StepFault) → all_kinds fields items ≡ r → (ks : List Kind) × Adds fields items after ks
     go (Err f) k = absurd (let h = sym (with_columns-refused fields items f k) ∙ e in cc)
     go (Ok ks) k = let p = checks-pass (nat_lt 64 (length fields + count_new fields (item_names items))) (not (is_distinct same_name (item_names items))) (put_all fields (fields_of (item_names items) ks)) after (sym (with_columns-names fields items ks k) ∙ e) in
-        (ks, record { kinds = k; columns = p.2; room = not_below 64 (length fields + count_new fields (item_names items)) p.0; distinct = untwisted (is_distinct same_name (item_names items)) p.1 })
+        (ks, record { kinds = k; columns = p.2; room = not_below 64 (length fields + count_new fields (item_names items)) p.0; distinct = not-false (is_distinct same_name (item_names items)) p.1 })
 
 pub record Selects (fields : Fields) (items : List Item) (after : Fields) (ks : List Kind) : Type 0 where
   pub kinds : all_kinds fields items ≡ Ok ks

@@ -7,6 +7,7 @@ use Rattle.std.proofs.lemmas.Bool.Decides.{nat_tests}
 use Rattle.std.proofs.Math.Seq.{get_or-append_seam}
 use Rattle.std.proofs.lemmas.List.{append_assoc, get_or_append_left, get_or-map, get_or-set_other, length-append, length-map, length-take-le, map-append, reverse-append, take_all}
 use Rattle.std.proofs.lemmas.List.Elements.{All-append, All-cons, All-nil}
+use Rattle.std.proofs.lemmas.Bool.{or_right}
 use Rattle.fq_column.specs.declared.cells.Cell.TheVariants as cell
 use Rattle.fq_column.specs.declared.cells.Kind.TheVariants as kind
 use Rattle.fq_column.specs.Batch.{StandsIn, frame_of, height_of, kind_of_cells, without_cells}
@@ -144,11 +145,7 @@ any-at place [] = ap (λ b. b || false) (same_place place)
   where
     same_place : (n : ℕ) → (n == n) ≡ true
     same_place n = grind (arith, nat_tests)
-any-at place (m ∷ ms) = or-true-right (is_at place m) (list_any (is_at place) (ms ++ Place place ∷ [])) (any-at place ms)
-  where
-    or-true-right : (a b : Bool) → b ≡ true → (a || b) ≡ true
-    or-true-right true b e = refl
-    or-true-right false b e = e
+any-at place (m ∷ ms) = or_right (is_at place m) (list_any (is_at place) (ms ++ Place place ∷ [])) (any-at place ms)
 
 pub any-before : (place : ℕ) (made : List Made) (one : Made) → list_any (is_at place) made ≡ true → list_any (is_at place) (made ++ one ∷ []) ≡ true
 any-before place [] one e = absurd (cc)

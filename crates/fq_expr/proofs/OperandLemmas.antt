@@ -2,7 +2,7 @@
 use Rattle.std.proofs.Common.{◌≡◌, ℕ, zero, suc, ◌+◌, ◌<◌, ◌≤◌, List, [], ◌∷◌, ◌++◌, length, map, take, drop, replicate, refl, ap, sym, ◌∙◌, arith, append_assoc, append-nil, Option, Some, None}
 use Rattle.std.specs.Prelude.{slice_get}
 use Rattle.std.specs.Option.{option_copied}
-use Rattle.std.proofs.lemmas.List.{length-map, length-take-le}
+use Rattle.std.proofs.lemmas.List.{length-map, length-take-le, length-replicate}
 use Rattle.fq_column.specs.declared.cells.Cell.{Cell}
 use Rattle.fq_column.specs.Column.{nullable}
 use Rattle.fq_column.specs.Lists.{before_missing, zip_with}
@@ -26,10 +26,6 @@ slice_get-replicate zero i x h = absurd (omega (arith, h))
 slice_get-replicate (suc n) zero x h = refl
 slice_get-replicate (suc n) (suc i) x h = slice_get-replicate n i x (omega (arith, h))
 
-pub length-replicate' : {X : Type 0} (n : ℕ) (x : X) → length (replicate n x) ≡ n
-length-replicate' zero x = refl
-length-replicate' (suc n) x = ap suc (length-replicate' n x)
-
 module _ {T : Type 0} (make : T → Cell) where
   -- the cell in a row is that of its value
   pub cells_in-at : (n : ℕ) (o : Operand T) (i : ℕ) (v : Option T) → i < n → IsInRow i o v → slice_get (cells_in make n o) i ≡ Some (nullable make v)
@@ -40,7 +36,7 @@ module _ {T : Type 0} (make : T → Cell) where
   pub length-cells_in : (n : ℕ) (o : Operand T) → HasRows n o → length (cells_in make n o) ≡ n
   length-cells_in n (Borrowed array) h = length-map (take n array.now) (nullable make) ∙ length-take-le n array.now h
   length-cells_in n (Owned array) h = length-map (take n array) (nullable make) ∙ length-take-le n array h
-  length-cells_in n (Scalar x) h = length-map (replicate n (option_copied x)) (nullable make) ∙ length-replicate' n (option_copied x)
+  length-cells_in n (Scalar x) h = length-map (replicate n (option_copied x)) (nullable make) ∙ length-replicate n (option_copied x)
 
 -- one more place of two lists
 pub zip_with-drop : {X Y Z : Type 0} (f : X → Y → Z) (xs : List X) (ys : List Y) (i : ℕ) (x : X) (y : Y) → slice_get xs i ≡ Some x → slice_get ys i ≡ Some y →

@@ -112,19 +112,11 @@ enum Made {
     Place(usize),
 }
 
-// What the items of a step were evaluated to: their columns, which may go on after the rows before the first that faults, how many those
-// rows are, and the lowest item that faults there.
+// What the items of a step were evaluated to: their columns, how many rows stand before the first that faults, and the lowest item that
+// faults there. The columns go on after those rows as long as they are `Made`, and have those rows alone once they are columns themselves.
 #[derive(Drop)]
-struct Evaluated {
-    made: Vec<Made>,
-    rows: usize,
-    item: Option<u16>,
-}
-
-// The same, with the columns themselves, of those rows alone.
-#[derive(Drop)]
-struct Outputs {
-    columns: Vec<Column>,
+struct Evaluated<C> {
+    columns: Vec<C>,
     rows: usize,
     item: Option<u16>,
 }
@@ -134,10 +126,10 @@ fn evaluate_items(
     alloc: Global,
     items: &[(String, Expr)],
     batch: &Batch,
-) -> Result<Evaluated, Memory>
+) -> Result<Evaluated<Made>, Memory>
     requires kinds { IsOk (all_kinds batch.now.fields (items_of items.now)) }
     requires bound { length items.now ≤ MAX_COLUMNS }
-    ensures { IfOk result (λ e. AreEvaluated batch.now (items_of items.now) e.made.items e.rows e.item) }
+    ensures { IfOk result (λ e. AreEvaluated batch.now (items_of items.now) e.columns.items e.rows e.item) }
 {
     let mut made = Vec::with_capacity(alloc, items.len())?;
     let mut rows = batch.rows();
@@ -150,7 +142,11 @@ fn evaluate_items(
         }
         made.push(made_of(alloc, outcome, place_of(&items[i].1, batch))?)?;
     }
-    Ok(Evaluated { made, rows, item })
+    Ok(Evaluated {
+        columns: made,
+        rows,
+        item,
+    })
 }
 
 // The column of an item's values, which may be one of the batch.
@@ -176,12 +172,20 @@ fn place_of(expr: &Expr, batch: &Batch) -> Option<usize>
 }
 
 // The items' columns, of which those of the batch are copied.
-fn with_copies(alloc: Global, evaluated: Evaluated, batch: &Batch) -> Result<Outputs, Memory>
-    requires places { ArePlaces (length batch.now.fields) evaluated.made.items }
-    ensures columns { IfOk result (λ outputs. outputs.columns.items ≡ map (λ m. first_of_column evaluated.rows (made_column batch.now m)) evaluated.made.items) }
+fn with_copies(
+    alloc: Global,
+    evaluated: Evaluated<Made>,
+    batch: &Batch,
+) -> Result<Evaluated<Column>, Memory>
+    requires places { ArePlaces (length batch.now.fields) evaluated.columns.items }
+    ensures columns { IfOk result (λ outputs. outputs.columns.items ≡ map (λ m. first_of_column evaluated.rows (made_column batch.now m)) evaluated.columns.items) }
     ensures rows { IfOk result (λ outputs. (outputs.rows ≡ evaluated.rows) × (outputs.item ≡ evaluated.item)) }
 {
-    let Evaluated { made, rows, item } = evaluated;
+    let Evaluated {
+        columns: made,
+        rows,
+        item,
+    } = evaluated;
     let mut columns = Vec::with_capacity(alloc, made.len())?;
     for one in made {
         columns.push(match one {
@@ -190,7 +194,7 @@ fn with_copies(alloc: Global, evaluated: Evaluated, batch: &Batch) -> Result<Out
         })?;
     }
     cut_columns(columns.as_mut_slice(), rows);
-    Ok(Outputs {
+    Ok(Evaluated {
         columns,
         rows,
         item,
@@ -198,16 +202,24 @@ fn with_copies(alloc: Global, evaluated: Evaluated, batch: &Batch) -> Result<Out
 }
 
 // The items' columns, of which those of the batch are moved; one that several items name is copied for all but the first of these.
-fn with_moves(alloc: Global, evaluated: Evaluated, batch: Batch) -> Result<Outputs, Memory>
-    requires places { ArePlaces (length batch.fields) evaluated.made.items }
-    ensures columns { IfOk result (λ outputs. outputs.columns.items ≡ map (λ m. first_of_column evaluated.rows (made_column batch m)) evaluated.made.items) }
+fn with_moves(
+    alloc: Global,
+    evaluated: Evaluated<Made>,
+    batch: Batch,
+) -> Result<Evaluated<Column>, Memory>
+    requires places { ArePlaces (length batch.fields) evaluated.columns.items }
+    ensures columns { IfOk result (λ outputs. outputs.columns.items ≡ map (λ m. first_of_column evaluated.rows (made_column batch m)) evaluated.columns.items) }
     ensures rows { IfOk result (λ outputs. (outputs.rows ≡ evaluated.rows) × (outputs.item ≡ evaluated.item)) }
 {
-    let Evaluated { made, rows, item } = evaluated;
+    let Evaluated {
+        columns: made,
+        rows,
+        item,
+    } = evaluated;
     let (_, mut from) = batch.into_parts();
     let mut columns = take_columns(alloc, made, &mut from)?;
     cut_columns(columns.as_mut_slice(), rows);
-    Ok(Outputs {
+    Ok(Evaluated {
         columns,
         rows,
         item,
@@ -240,14 +252,8 @@ fn take_columns(
 fn has_place(made: &[Made], place: usize) -> bool
     ensures { result ≡ list_any (is_at place) made.now }
 {
-    for one in made {
-        if let Made::Place(at) = one {
-            if *at == place {
-                return true;
-            }
-        }
-    }
-    false
+    made.iter()
+        .any(|one| matches!(one, Made::Place(at) if *at == place))
 }
 
 // The items alone.
@@ -266,7 +272,7 @@ fn project(alloc: Global, items: &[(String, Expr)], batch: Batch) -> Result<Piec
         Err(_) => unreachable!(),
     };
     let outputs = with_moves(alloc, evaluated, batch)?;
-    let Outputs { columns, item, .. } = outputs;
+    let Evaluated { columns, item, .. } = outputs;
     Ok(Piece {
         batch: Batch::new(schema, columns),
         fault: item,
@@ -284,7 +290,7 @@ fn add_columns(alloc: Global, items: &[(String, Expr)], batch: Batch) -> Result<
 {
     let evaluated = evaluate_items(alloc, items, &batch)?;
     let outputs = with_copies(alloc, evaluated, &batch)?;
-    let Outputs {
+    let Evaluated {
         columns: made,
         rows,
         item,

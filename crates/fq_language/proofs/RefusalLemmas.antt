@@ -1,8 +1,7 @@
 -- What is told of a refusal is that of the check: sources one after another, then steps.
-use Rattle.std.proofs.Common.{◌≡◌, ℕ, ◌+◌, ◌-◌, List, [], ◌∷◌, ◌++◌, map, take, length, String, Global, string_bytes, Option, Some, None, Result, Ok, Err, refl, ap, sym, ◌∙◌, subst, arith, length-append}
+use Rattle.std.proofs.Common.{◌≡◌, ℕ, ◌+◌, ◌-◌, List, [], ◌∷◌, ◌++◌, map, String, Global, string_bytes, Option, Some, None, Result, Ok, Err, refl, ap, sym, ◌∙◌, subst}
 use Rattle.std.specs.Prelude.{IfErr, IfOk, IsErr, IsOk, IsSome, OnOk}
 use Rattle.std.specs.Result.{result_map_both}
-use Rattle.std.proofs.lemmas.List.{length-map, take-map}
 use Rattle.fq_column.specs.declared.cells.Kind.{Kind}
 use Rattle.fq_column.specs.declared.faults.StepFault.{StepFault}
 use Rattle.fq_column.specs.Frame.{Fields, Name, names_of}
@@ -107,9 +106,6 @@ module _ (sides : List Fields) (n : ℕ) (fields : Fields) (s : PlanStep) (rest 
       go (Err code) g = refl
 
 -- ---- the sources before the last, and the last
-
-but_last-map : {X Y : Type 0} (f : X → Y) (xs : List X) → but_last (map f xs) ≡ map f (but_last xs)
-but_last-map f xs = ap (λ n. take (n - 1) (map f xs)) (length-map xs f) ∙ take-map f (length xs - 1) xs
 
 -- below, the columns of a plan's sources are those of `sides`, and then `main`
 module _ (p : PlanData) (sides : List Fields) (main : Fields) (parts : map (λ (s : Source). s.fields) p.sources ≡ sides ++ main ∷ []) where

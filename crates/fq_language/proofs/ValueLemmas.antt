@@ -1,5 +1,5 @@
 -- Arrays and objects of a JSON value, by the number of their items and members.
-use Rattle.std.proofs.Common.{◌≡◌, ℕ, suc, ◌+◌, Bool, false, List, [], ◌∷◌, map, length, Some, None, refl, ap, sym, ◌∙◌, arith, String, Global}
+use Rattle.std.proofs.Common.{◌≡◌, ℕ, suc, ◌+◌, Bool, List, [], ◌∷◌, map, length, Some, None, refl, ap, sym, ◌∙◌, arith, String, Global}
 use Rattle.std.specs.Prelude.{◌==◌, if◌then◌else◌}
 use Rattle.std.proofs.Common.{Ordering}
 use Rattle.std.specs.Ordering.{nat_cmp, match_ordering, is_eq}

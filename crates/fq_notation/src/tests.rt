@@ -54,8 +54,8 @@ const DECIMAL_TEXTS: [(i64, u8, &[u8]); 10] = [
     (99, 2, b"0.99"),
 ];
 
-/// Fields, and the ints of the days that Python's `datetime.date.fromisoformat` reads, but for other forms than `YYYY-MM-DD`, such as
-/// `20240305`, which Python reads since 3.11.
+/// Fields, and the ints of the days that Python's `datetime.date.fromisoformat` reads in them. Python 3.11 and later also read forms other
+/// than `YYYY-MM-DD`, such as `20240305`; such a field is no date here.
 const DATES: [(&[u8], Option<i64>); 18] = [
     (b"2024-03-05", Some(20_240_305)),
     (b"2024-02-29", Some(20_240_229)),

@@ -9,6 +9,7 @@ use Rattle.std.specs.Cmp.{first_so, second_so, signed_Decides}
 use Rattle.std.specs.Cmp.Lexicographic.{bytes_decides, pointwise_decides}
 use Rattle.std.proofs.lemmas.List.{length-append, length-map, map-append}
 use Rattle.std.proofs.lemmas.List.Elements.{filter-append}
+use Rattle.std.proofs.lemmas.Bool.{not-false}
 use Rattle.fq_column.specs.declared.cells.Cell.{Cell}
 use Rattle.fq_column.specs.declared.cells.Cell.TheVariants.{Null, Whole, Text, Truth}
 use Rattle.fq_column.specs.declared.faults.StepFault.{StepFault}
@@ -107,11 +108,7 @@ distinct-grouped fields keys outputs ok =
     let many : List (Option StepFault) = refuse_if (nat_lt MAX_COLUMNS (length names)) TooMany ∷ [] in
     let none = none-first (refuse_if (length keys == 0) NoColumn ∷ (refusals (grouped_kinds fields keys outputs) ++ (refuse_if (nat_lt MAX_COLUMNS (length names)) TooMany ∷ last))) (grouped_fields fields keys outputs) ok in
     let none_after = none-behind (refusals (grouped_kinds fields keys outputs)) (many ++ last) (none-behind (refuse_if (length keys == 0) NoColumn ∷ []) (refusals (grouped_kinds fields keys outputs) ++ (many ++ last)) none) in
-    turned (is_distinct same_name names) (not-refused (not (is_distinct same_name names)) DoubleName (none-behind many last none_after))
-  where
-    turned : (b : Bool) → not b ≡ false → b ≡ true
-    turned true e = refl
-    turned false e = absurd (cc)
+    not-false (is_distinct same_name names) (not-refused (not (is_distinct same_name names)) DoubleName (none-behind many last none_after))
 
 -- ---- a row's values under names
 

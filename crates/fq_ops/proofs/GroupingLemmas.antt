@@ -1,16 +1,14 @@
 -- Names and kinds that a grouping judges, as its code has them and as its definition has.
-use Rattle.std.proofs.Common.{◌≡◌, ◌+◌, ◌∙◌, Option, List, String, Global, map, length, string_bytes, sym, ap, length-append}
+use Rattle.std.proofs.Common.{◌≡◌, ◌+◌, ◌∙◌, List, String, Global, map, length, string_bytes, sym, ap, length-append}
 use Rattle.std.proofs.lemmas.List.{length-map}
-use Rattle.fq_column.specs.declared.faults.StepFault.{StepFault}
 use Rattle.fq_column.specs.Frame.{Field, Fields, Name}
-use Rattle.fq_column.specs.Refusal.{first_refusal}
 use Rattle.fq_column.specs.Schema.{kind_named}
 use Rattle.fq_ops.specs.declared.aggregates.Agg.{Agg}
 use Rattle.fq_ops.specs.Aggregate.{Output}
 use Rattle.fq_ops.specs.AggregateData.{aggregate_of, outputs_of}
-use Rattle.fq_ops.specs.Fields.{Judged, refusals, settled}
+use Rattle.fq_ops.specs.Fields.{Judged}
 use Rattle.fq_ops.specs.Group.{aggregate_kind, grouped_fields, grouped_names}
-use Rattle.fq_ops.proofs.RefusalLemmas.{fields-grouped, map-map, names-grouped}
+use Rattle.fq_ops.proofs.RefusalLemmas.{map-map, names-grouped}
 
 module _ (fields : Fields) where
   by_name : Name → Judged

@@ -1,5 +1,5 @@
 -- Sets of keys that are kept in another form.
-use Rattle.std.proofs.Common.{◌≡◌, ℕ, zero, suc, ◌+◌, ◌<◌, ℤ, Bool, true, false, not, ◌||◌, List, [], ◌∷◌, ◌++◌, map, length, get_or, nat_lt, Option, Some, None, Result, Ok, Err, refl, sym, ap, subst, ◌∙◌, if◌then◌else◌, cond, arith, true≢false}
+use Rattle.std.proofs.Common.{◌≡◌, ℕ, zero, suc, ◌+◌, ◌<◌, ℤ, Bool, true, false, not, List, [], ◌∷◌, ◌++◌, map, length, get_or, nat_lt, Option, Some, None, Result, Ok, Err, refl, sym, ap, subst, ◌∙◌, if◌then◌else◌, cond, arith, true≢false}
 use Rattle.std.specs.Prelude.{IsOk, position, slice_get, option_map}
 use Rattle.std.specs.List.{list_any, position_or_len}
 use Rattle.std.proofs.lemmas.List.{map-append, length-map}
@@ -22,14 +22,11 @@ use Rattle.fq_ops.specs.declared.joins.How.{How}
 use Rattle.fq_ops.proofs.JudgedFieldLemmas.{TellsName, tells-name}
 use Rattle.fq_ops.proofs.KeyLemmas.{cell-read}
 use Rattle.fq_ops.proofs.RefusalLemmas.{join-agree, join-known}
+use Rattle.fq_column.proofs.ListLemmas.{any-mapped}
 use Rattle.fq_column.proofs.PutLemmas.{position-cons, some_under}
 
 -- a test of keys, and one of their forms
 module _ {A B : Type 0} (f : A → B) (p : A → Bool) (q : B → Bool) (same : (a : A) → p a ≡ q (f a)) where
-  pub any-mapped : (xs : List A) → list_any p xs ≡ list_any q (map f xs)
-  any-mapped [] = refl
-  any-mapped (x ∷ xs) = λ i. same x i || any-mapped xs i
-
   pub place-mapped : (xs : List A) → position_or_len p xs ≡ position_or_len q (map f xs)
   place-mapped [] = refl
   place-mapped (x ∷ xs) = λ i. cond (not (same x i)) (1 + place-mapped xs i) 0

@@ -1,6 +1,6 @@
 -- Whether a join, a grouping or a rolling sum needs a column.
 use Rattle.std.proofs.Common.{◌≡◌, Bool, not, ◌&&◌, ◌||◌, List, [], ◌∷◌, ◌++◌, refl, ap, sym, ◌∙◌}
-use Rattle.std.specs.Prelude.{filter, flat_map}
+use Rattle.std.specs.Prelude.{flat_map}
 use Rattle.std.specs.List.{list_any}
 use Rattle.fq_column.specs.Frame.{Name, has_name, same_name}
 use Rattle.fq_column.proofs.HasNameLemmas.{has_name-append, has_name-kept}

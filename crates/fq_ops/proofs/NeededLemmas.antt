@@ -7,6 +7,7 @@ use Rattle.std.specs.List.{zip}
 use Rattle.std.specs.Result.{result_map_both}
 use Rattle.std.specs.Cmp.Lexicographic.{nat_list_eq_equiv}
 use Rattle.std.proofs.lemmas.List.{length-map, length-replicate}
+use Rattle.std.proofs.lemmas.Bool.{not-false}
 use Rattle.fq_column.specs.declared.cells.Cell.{Cell}
 use Rattle.fq_column.specs.declared.cells.Cell.TheVariants as cell
 use Rattle.fq_column.specs.declared.cells.Cell.TheVariants.{Null}
@@ -274,11 +275,7 @@ joined-distinct how left right on after e =
     let ends = (none-both (flat_map (key_checks left right) on) ending begins.1).1 in
     let last = none-first (not (once && distinct)) DoubleName [] (none-first many TooMany (refuse_if (not (once && distinct)) DoubleName ∷ []) ends).1 in
     let is = unless-ok (refuse_if (length on == 0) NoColumn ∷ (flat_map (key_checks left right) on ++ ending)) (joined_fields how left right on) after e in
-    (is, ap (λ (fs : Fields). is_distinct same_name (names_of fs)) (sym is) ∙ second_so once distinct (turned (once && distinct) last.0))
-  where
-    turned : (b : Bool) → not b ≡ false → b ≡ true
-    turned true e = refl
-    turned false e = cc
+    (is, ap (λ (fs : Fields). is_distinct same_name (names_of fs)) (sym is) ∙ second_so once distinct (not-false (once && distinct) last.0))
 
 -- a rolling sum puts its column
 pub roll-after : (fields : Fields) (column : Name) (window min_samples : ℤ) (name : Name) (after : Fields) → roll_schema fields column window min_samples name ≡ Ok after → put_named fields (name, Whole) ≡ after

@@ -18,13 +18,14 @@ use Rattle.fq_column.specs.Refusal.{first_refusal, refuse_if, unless_refused, an
 use Rattle.fq_column.specs.Schema.{kind_named, schema_checks}
 use Rattle.fq_ops.specs.Aggregate.{Output}
 use Rattle.fq_ops.specs.declared.joins.How.{How}
-use Rattle.fq_ops.specs.Join.{join_schema, joined_fields, renamed, key_checks, kinds_differ, right_name, taken, without_keys}
+use Rattle.fq_ops.specs.Join.{join_schema, joined_fields, renamed, key_checks, kinds_differ, right_name, without_keys}
 use Rattle.fq_ops.specs.Fields.{Judged, refusals, settled, unless_double, with_kind}
 use Rattle.fq_ops.specs.Roll.{roll_schema, is_from_to}
 use Rattle.std.specs.Option.{option_map}
 use Rattle.std.specs.Cmp.Lexicographic.{nat_list_eq_equiv, bytes_decides}
-use Rattle.std.proofs.lemmas.Bool.{or_parts, and_parts}
+use Rattle.std.proofs.lemmas.Bool.{or_parts, and_parts, not-false}
 use Rattle.std.proofs.lemmas.List.Folds.{list_any-append}
+use Rattle.std.proofs.Math.Bool.{or-false}
 use Rattle.fq_column.specs.declared.cells.Kind.TheVariants.{Whole}
 use Rattle.fq_ops.specs.Group.{group_schema, grouped_kinds, grouped_names, grouped_fields, aggregate_kind}
 use Rattle.fq_column.proofs.NameLemmas.{position-here, position-past, unnamed}
@@ -302,10 +303,6 @@ distinct-push (m ∷ ns) n e d =
     ap (λ b. not b && is_distinct same_name (ns ++ n ∷ [])) (list_any-append (same_name m) ns (n ∷ []) ∙ ap (λ b. has_name ns m || (b || false)) other ∙ or-false (has_name ns m))
     ∙ ap (λ b. b && is_distinct same_name (ns ++ n ∷ [])) whole.0
     ∙ distinct-push ns n apart.1 whole.1
-  where
-    or-false : (b : Bool) → (b || false) ≡ b
-    or-false true = refl
-    or-false false = refl
 
 -- the names of fields with one under a name, which differ if the fields' do
 pub distinct-put : (fs : Fields) (n : Name) (k : Kind) (o : Option ℕ) → position_of n (names_of fs) ≡ o → is_distinct same_name (names_of fs) ≡ true → is_distinct same_name (names_of (put_named fs (n, k))) ≡ true
@@ -393,10 +390,6 @@ none-each checks [] e k d low = absurd (omega (arith, low))
 none-each checks (x ∷ xs) e zero d low = (none-both (checks x) (flat_map checks xs) e).0
 none-each checks (x ∷ xs) e (suc k) d low = none-each checks xs (none-both (checks x) (flat_map checks xs) e).1 k d (omega (arith, low))
 
-pub kept-true : (b : Bool) → not b ≡ false → b ≡ true
-kept-true true e = refl
-kept-true false e = absurd (cc)
-
 -- what is judged is not refused if the answer is a value
 pub judged-ok : {X : Type 0} (expected : Result X StepFault) (x : X) → IsJudgement expected (Ok x) → IsOk expected
 judged-ok expected x (inl h) = sym (ap is_ok h)
@@ -431,10 +424,10 @@ module _ (how : How) (left right : Fields) (on : List Name) (ok : IsOk (join_sch
   join-some = some-of on join-begins.0
 
   pub join-known : AllPass (has_name (names_of left)) on
-  join-known k d low = kept-true (has_name (names_of left) (get_or on k d)) (key-parts k d low).0
+  join-known k d low = not-false (has_name (names_of left) (get_or on k d)) (key-parts k d low).0
 
   pub join-known_right : AllPass (has_name (names_of right)) on
-  join-known_right k d low = kept-true (has_name (names_of right) (get_or on k d)) (key-parts k d low).1
+  join-known_right k d low = not-false (has_name (names_of right) (get_or on k d)) (key-parts k d low).1
 
   pub join-distinct : IsTrue (is_distinct same_name on)
   join-distinct =
@@ -442,7 +435,7 @@ module _ (how : How) (left right : Fields) (on : List Name) (ok : IsOk (join_sch
       let distinct = is_distinct same_name (names_of (joined_fields how left right on)) in
       let many = nat_lt MAX_COLUMNS (length (joined_fields how left right on)) in
       let both = none-first (not (once && distinct)) DoubleName [] (none-first many TooMany (refuse_if (not (once && distinct)) DoubleName ∷ []) join-parts.1).1 in
-      (and_parts once distinct (kept-true (once && distinct) both.0)).0
+      (and_parts once distinct (not-false (once && distinct) both.0)).0
 
   pub join-output : join_schema how left right on ≡ Ok (joined_fields how left right on)
   join-output = ap (chosen (joined_fields how left right on)) (accepted join_checks (joined_fields how left right on) ok)

@@ -4,7 +4,8 @@ use Rattle.std.specs.Prelude.{slice_get}
 use Rattle.std.specs.Option.{option_map}
 use Rattle.std.specs.List.{range_with_len}
 use Rattle.std.proofs.lemmas.List.{map-append, length-map, drop-drop, drop-set-lt, length-set}
-use Rattle.std.proofs.Math.Seq.{take_all, take-suc-set}
+use Rattle.std.proofs.Math.Seq.{take_all, take-suc-set, drop-append_seam}
+use Rattle.std.proofs.lemmas.List.FromFn.{length-range_with_len}
 use Rattle.circular_buffer.specs.Buffer.{keep_last}
 use Rattle.fq_column.specs.declared.cells.Cell.{Cell}
 use Rattle.fq_column.specs.declared.cells.Cell.TheVariants.{Whole}
@@ -62,22 +63,14 @@ module _ (n m : ℕ) where
       ∙ ap (λ w. rolled n m cells ++ (sum_of_window m w ∷ sums_along n m w more)) (sym (keep_last-append n cells (c ∷ [])))
 
   length-rolled : (cells : List Cell) → length (rolled n m cells) ≡ length cells
-  length-rolled cells = length-map (numbers (length cells)) (rolled_at n m cells) ∙ length-range 0 (length cells)
-    where
-      length-range : (a k : ℕ) → length (range_with_len a k) ≡ k
-      length-range a zero = refl
-      length-range a (suc k) = ap suc (length-range (a + 1) k)
-
-  drop-front : {X : Type 0} (xs ys : List X) → drop (length xs) (xs ++ ys) ≡ ys
-  drop-front [] ys = refl
-  drop-front (x ∷ xs) ys = drop-front xs ys
+  length-rolled cells = length-map (numbers (length cells)) (rolled_at n m cells) ∙ length-range_with_len 0 (length cells)
 
   -- the sums that a column adds
   pub rolled-added : (cells more : List Cell) → drop (length cells) (rolled n m (cells ++ more)) ≡ sums_along n m (keep_last n cells) more
   rolled-added cells more =
       ap (drop (length cells)) (rolled-append cells more)
       ∙ ap (λ k. drop k (rolled n m cells ++ sums_along n m (keep_last n cells) more)) (sym (length-rolled cells))
-      ∙ drop-front (rolled n m cells) (sums_along n m (keep_last n cells) more)
+      ∙ drop-append_seam (rolled n m cells) (sums_along n m (keep_last n cells) more)
 
 -- ---- the first that is missing
 

@@ -22,7 +22,7 @@ use crate::field_lists::{place_of, positions};
 use crate::key_sets::{KeySet, Mostly, RowKey, is_whole_key};
 use crate::output_schemas::group_schema;
 use crate::running::push_cell;
-use fq_column::{Batch, Column, Kind, Memory, Schema};
+use fq_column::{Batch, Column, Kind, Memory, Schema, StepFault};
 use std::alloc::Global;
 use std::marker::Model;
 use thiserror::Error;
@@ -98,8 +98,10 @@ impl Grouper {
         ensures ok { IfOk result (λ g. g.failed ≡ false) }
         ensures taken { IfOk result (λ g. HasTakenRows g (map string_bytes keys.now) (outputs_of aggs.now) []) }
     {
-        let Ok(output) = group_schema(alloc, &schema, keys, aggs) else {
-            return Err(Memory);
+        let output = match group_schema(alloc, &schema, keys, aggs) {
+            Ok(output) => output,
+            Err(StepFault::Memory) => return Err(Memory),
+            Err(_) => unreachable!(),
         };
         let places = positions(alloc, &schema, keys)?;
         let is_whole = is_whole_key(&schema, keys);
@@ -195,7 +197,8 @@ impl Grouper {
 
 /// Grouping the groups of parts of rows, in the order of the parts, is grouping all the rows: by the same keys, with the sum of the
 /// sums and of the numbers of rows and of values, the least of the least, the greatest of the greatest, the first of the first and
-/// the last of the last. It holds where the sums of the parts fit 64 bits, and so does the number of the rows.
+/// the last of the last. It holds where the sums of the parts fit 64 bits, and so does the number of the rows. A number of distinct values
+/// is left out: those of the parts do not tell that of all rows.
 pub fn groups_of_parts()
     ensures { (fields : Fields) (keys : List Name) (outputs again : List Output) (parts : List (List Row × List Row)) →
         IsOk (judged_grouping fields keys outputs) → map output_over_parts outputs ≡ map Some again →

@@ -20,7 +20,7 @@ use crate::key_sets::{KeySet, Mostly, RowKey, is_whole_key};
 use crate::output_schemas::{contains, join_schema};
 use crate::pairs::Pairs;
 use crate::probes::{Cursor, Next, Part, Probe, Rest};
-use fq_column::{Batch, Column, Memory, Piece, copy_strings};
+use fq_column::{Batch, Column, Memory, Piece, StepFault, copy_strings};
 use smallvec::SmallVec;
 use std::alloc::Global;
 use std::marker::Model;
@@ -201,8 +201,10 @@ impl JoinTable {
     {
         let Probe { left, how, from } = probe;
         let on = self.on.as_slice();
-        let Ok(schema) = join_schema(alloc, left.schema(), self.right.schema(), on, how) else {
-            return Err(Memory);
+        let schema = match join_schema(alloc, left.schema(), self.right.schema(), on, how) {
+            Ok(schema) => schema,
+            Err(StepFault::Memory) => return Err(Memory),
+            Err(_) => unreachable!(),
         };
         let places = positions(alloc, left.schema(), on)?;
         let places = places.as_slice();
@@ -360,8 +362,8 @@ fn add_place(
     ensures beside { OnOk result (length groups.new.items ≡ length seen.new.keys) }
 {
     let i = seen.number_of(alloc, key, Mostly::New)?;
-    if i == groups.len() && groups.push(Places::new(alloc)).is_err() {
-        return Err(Memory);
+    if i == groups.len() {
+        groups.push(Places::new(alloc))?;
     }
     let group = &mut groups[i];
     group.push(row)

@@ -1,6 +1,7 @@
 -- The sources of a plan, of which the last keeps the columns that the plan needs.
 use Rattle.std.proofs.Common.{◌≡◌, ◌-◌, Bool, List, [], ◌∷◌, ◌++◌, map, drop, length, refl, ap, sym, ◌∙◌, arith, length-append}
 use Rattle.std.proofs.lemmas.List.{map-append}
+use Rattle.std.proofs.Math.Seq.{drop-append_seam}
 use Rattle.fq_csv.specs.Sources.{Source, source_of_files}
 use Rattle.fq_csv.specs.declared.sources.SourceFiles.{SourceFiles}
 use Rattle.fq_language.specs.declared.plans.Source.{Source as Declared}
@@ -8,16 +9,12 @@ use Rattle.fq_language.specs.View.{source_data}
 use Rattle.fq_plan.specs.Stages.{keeping, narrowed, whole_source}
 use Rattle.fq_csv.proofs.LastLemmas.{but_last-snoc}
 
-drop-front : {X : Type 0} (xs ys : List X) → drop (length xs) (xs ++ ys) ≡ ys
-drop-front [] ys = refl
-drop-front (x ∷ xs) ys = drop-front xs ys
-
 pub narrowed-snoc : (marks : List Bool) (sources : List Source) (s : Source) → narrowed marks (sources ++ s ∷ []) ≡ sources ++ keeping marks s ∷ []
 narrowed-snoc marks sources s =
     let all = sources ++ s ∷ [] in
     let count : length all - 1 ≡ length sources = omega (arith, length-append sources (s ∷ [])) in
     (λ i. but_last-snoc sources s i ++ map (keeping marks) (drop (count i) all))
-    ∙ ap (λ ss. sources ++ map (keeping marks) ss) (drop-front sources (s ∷ []))
+    ∙ ap (λ ss. sources ++ map (keeping marks) ss) (drop-append_seam sources (s ∷ []))
 
 -- each column of a plan's sources is kept
 pub whole-data : (sources : List Declared) → map whole_source (map source_data sources) ≡ map source_data sources

@@ -30,7 +30,8 @@ use Rattle.fq_run.specs.Noted as run
 use Rattle.fq_run.specs.Noted.{has_int_column, noted_source}
 use Rattle.fq_run.specs.Physical.{Physical, last_columns}
 use Rattle.fq_run.specs.declared.stages.Stage.{Stage}
-use Rattle.fq_run.proofs.SameSourceLemmas.{but_last-map, same-fields, same-files, same-side-fields}
+use Rattle.fq_csv.proofs.LastLemmas.{but_last-map}
+use Rattle.fq_run.proofs.SameSourceLemmas.{same-fields, same-files, same-side-fields}
 use Rattle.fq_run.proofs.StageLemmas.{fields-after-all}
 use Rattle.fq_run.proofs.StageOutcomeLemmas.{fit-last}
 

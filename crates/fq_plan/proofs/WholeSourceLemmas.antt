@@ -12,7 +12,8 @@ use Rattle.fq_language.specs.Plan.{PlanData, files_wanted, main_fields, side_fie
 use Rattle.fq_plan.specs.Meaning.{meaning, meaning_of_sources, outcome}
 use Rattle.fq_plan.specs.Stages.{whole_plan, whole_source}
 use Rattle.fq_language.proofs.RefusalLemmas.{or_later}
-use Rattle.fq_run.proofs.SameSourceLemmas.{but_last-map, same-fields, same-files, same-side-fields, same-side-files}
+use Rattle.fq_csv.proofs.LastLemmas.{but_last-map}
+use Rattle.fq_run.proofs.SameSourceLemmas.{same-fields, same-files, same-side-fields, same-side-files}
 use Rattle.fq_run.specs.Sources.{concat_streams, first_fault, frames_of, scan_fault, source_streams}
 use Rattle.fq_run.specs.declared.faults.Fault.{Fault}
 

@@ -1,6 +1,6 @@
 -- The columns of its main source that a plan needs, backwards from its last step, after which all columns are needed, as they are printed
 -- (Polars, "projection pushdown"; the live variables of a compiler), files that differ in the other columns alone, and files without these.
-use Rattle.std.specs.Prelude.{◌≡◌, All, Bool, List, [], ◌∷◌, ◌++◌, length, map, take, drop}
+use Rattle.std.specs.Prelude.{◌≡◌, All, Bool, List, [], ◌∷◌, ◌++◌, fold, length, map, take, drop}
 use Rattle.std.specs.Result.{result_unwrap_or}
 use Rattle.fq_column.specs.Agreement.{StreamsAgreeOn, marked}
 use Rattle.fq_column.specs.Frame.{Fields, Name, names_of}
@@ -24,10 +24,13 @@ abbrev pub needed_before_all : List PlanStep → List Name → List Name
 needed_before_all [] needed = needed
 needed_before_all (s ∷ steps) needed = needed_before_step s (needed_before_all steps needed)
 
--- the columns that steps need of rows with these columns, where `sides` are the columns of the sources before the last
+-- the columns after steps that are not refused, of rows with these columns, where `sides` are the columns of the sources before the last
+abbrev pub fields_after_steps : List Fields → Fields → List PlanStep → Fields
+fields_after_steps sides fields steps = fold (λ before s. result_unwrap_or (judged_step sides before s) before) fields steps
+
+-- the columns that steps need, where all that they leave are needed
 abbrev pub needed_before_steps : List Fields → Fields → List PlanStep → List Name
-needed_before_steps sides fields [] = names_of fields
-needed_before_steps sides fields (s ∷ steps) = needed_before_step s (needed_before_steps sides (result_unwrap_or (judged_step sides fields s) fields) steps)
+needed_before_steps sides fields steps = needed_before_all steps (names_of (fields_after_steps sides fields steps))
 
 -- a mark for each column of the main source: whether the plan needs it
 abbrev pub needed_columns : PlanData → List Bool

@@ -4,6 +4,7 @@ use Rattle.std.specs.Prelude.{option_map}
 use Rattle.std.specs.Option.{option_or}
 use Rattle.std.proofs.lemmas.List.{length-map, map-append}
 use Rattle.std.proofs.lemmas.Bool.Decides.{nat_tests}
+use Rattle.std.proofs.lemmas.List.FromFn.{length-range_with_len}
 use Rattle.fq_column.specs.Batch.{row_with}
 use Rattle.fq_column.specs.declared.cells.Cell.{Cell}
 use Rattle.fq_column.specs.Frame.{Fields, Frame, Name, Row, value_named}
@@ -34,7 +35,7 @@ use Rattle.fq_run.specs.declared.faults.Fault.{Fault}
 use Rattle.fq_run.specs.declared.faults.Fault.TheVariants.{JoinRows, Overflow, RollRange}
 use Rattle.fq_run.specs.declared.operators.joining.Joining.{Joining}
 use Rattle.fq_run.specs.declared.operators.rolling.Summing.{Summing}
-use Rattle.fq_run.proofs.StageLemmas.{length-before, length-range, length-sums, steps-on-stream, sums_of, with-sums}
+use Rattle.fq_run.proofs.StageLemmas.{length-before, length-sums, steps-on-stream, sums_of, with-sums}
 
 abbrev stream : {F : Type 0} → List Row → Option F → Stream F
 stream rows fault = record { rows = rows; fault = fault }
@@ -229,7 +230,7 @@ zip-append (x ∷ xs) us [] vs e = absurd (omega (arith, e))
 zip-append (x ∷ xs) us (y ∷ ys) vs e = ap (λ l. (x, y) ∷ l) (zip-append xs us ys vs (omega (arith, e)))
 
 length-rolled : (n m : ℕ) (cells : List Cell) → length (rolled n m cells) ≡ length cells
-length-rolled n m cells = length-map (numbers (length cells)) (rolled_at n m cells) ∙ length-range 0 (length cells)
+length-rolled n m cells = length-map (numbers (length cells)) (rolled_at n m cells) ∙ length-range_with_len 0 (length cells)
 
 module _ (n m : ℕ) (fields : Fields) (column name : Name) (rows more : List Row) where
   abbrev cells : List Row → List Cell

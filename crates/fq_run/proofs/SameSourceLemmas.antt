@@ -1,6 +1,6 @@
 -- Plans whose sources differ in how their fields are read alone.
-use Rattle.std.proofs.Common.{◌≡◌, ◌+◌, ◌-◌, ◌∷◌, [], ℕ, List, map, take, length, sum_by, refl, ap, sym, subst, ◌∙◌, arith}
-use Rattle.std.proofs.lemmas.List.{length-map, take-map}
+use Rattle.std.proofs.Common.{◌≡◌, ◌+◌, ◌-◌, ◌∷◌, [], ℕ, List, map, sum_by, refl, ap, sym, subst, ◌∙◌, arith}
+use Rattle.std.proofs.lemmas.List.{length-map}
 use Rattle.std.proofs.lemmas.List.Sums.{sum_by-cons}
 use Rattle.fq_column.specs.Frame.{Fields}
 use Rattle.fq_expr.specs.Front.{NumberedSteps}
@@ -11,9 +11,6 @@ use Rattle.fq_notation.specs.Notation.{Named}
 use Rattle.fq_run.specs.Noted.{noted_files, noted_source}
 use Rattle.fq_run.specs.Stages.{Fit, IsRunnable}
 use Rattle.fq_run.specs.declared.stages.Stage.{Stage}
-
-pub but_last-map : {X Y : Type 0} (f : X → Y) (xs : List X) → but_last (map f xs) ≡ map f (but_last xs)
-but_last-map f xs = ap (λ n. take (n - 1) (map f xs)) (length-map xs f) ∙ take-map f (length xs - 1) xs
 
 -- the numbers of files, and the columns, of sources that have the same
 module _ (f : Source → Source) (files : (s : Source) → (f s).files ≡ s.files) (fields : (s : Source) → (f s).fields ≡ s.fields) where

@@ -1,11 +1,12 @@
 -- What operators make of a stream.
-use Rattle.std.proofs.Common.{◌≡◌, ℕ, suc, ◌+◌, ◌≤◌, nat_lt, Bool, true, false, not, List, [], ◌∷◌, map, length, take, zip, Option, Some, None, is_none, Result, Ok, Err, pos, refl, ap, sym, ◌∙◌, arith, append-nil, zero}
+use Rattle.std.proofs.Common.{◌≡◌, ℕ, suc, ◌+◌, ◌≤◌, nat_lt, false, not, List, [], ◌∷◌, map, length, take, zip, Option, Some, None, is_none, Result, Ok, Err, pos, refl, ap, sym, ◌∙◌, arith, append-nil}
 use Rattle.std.specs.Prelude.{IsOk, option_map}
 use Rattle.std.specs.Option.{option_or}
 use Rattle.std.specs.Result.{result_unwrap_or}
-use Rattle.std.specs.List.{range_with_len}
 use Rattle.std.proofs.lemmas.List.{length-map}
 use Rattle.std.proofs.lemmas.Bool.Decides.{nat_tests}
+use Rattle.std.proofs.lemmas.Bool.{not-false}
+use Rattle.std.proofs.lemmas.List.FromFn.{length-range_with_len}
 use Rattle.fq_column.specs.declared.cells.Cell.{Cell}
 use Rattle.fq_column.specs.declared.cells.Kind.{Kind}
 use Rattle.fq_column.specs.declared.cells.Kind.TheVariants.{Whole}
@@ -87,10 +88,6 @@ roll-accepted fields column window min_samples name ok = go (kind_named fields c
     kind_checks : Kind → List (Option StepFault)
     kind_checks k = refuse_if (not (same_kind k Whole)) WrongKind ∷ window_checks
 
-    kept : (b : Bool) → not b ≡ false → b ≡ true
-    kept true e = refl
-    kept false e = absurd (cc)
-
     not_more : (n : ℕ) → nat_lt MAX_COLUMNS n ≡ false → n ≤ MAX_COLUMNS
     not_more n e = grind (arith, nat_tests)
 
@@ -102,7 +99,7 @@ roll-accepted fields column window min_samples name ok = go (kind_named fields c
         let b = none-first (not (is_from_to (pos 1) (pos MAX_WINDOW) (pos window))) Window sample_checks a.1 in
         let c = none-first (not (is_from_to (pos 1) (pos window) (pos min_samples))) Samples room_checks b.1 in
         let d = none-first (nat_lt MAX_COLUMNS (length (put_named fields (name, Whole)))) TooMany [] c.1 in
-        let whole : k ≡ Whole = (same_kind_decides k Whole).0 (kept (same_kind k Whole) a.0) in
+        let whole : k ≡ Whole = (same_kind_decides k Whole).0 (not-false (same_kind k Whole) a.0) in
         record { kind = e ∙ (λ i. Ok (whole i)); room = not_more (length (put_named fields (name, Whole))) d.0 }
 
 there-later : (o : Option ℕ) → option_map (λ (_ : ℕ). let t : Unit {0} = tt in t) (option_map suc o) ≡ option_map (λ (_ : ℕ). let t : Unit {0} = tt in t) o
@@ -124,14 +121,10 @@ with-sums fields name (Some c ∷ sums) (r ∷ rows) e =
 abbrev pub sums_of : Fields → Name → ℕ → ℕ → List Row → List (Option Cell)
 sums_of fields column n m rows = rolled n m (map (value_named fields column) rows)
 
-pub length-range : (a n : ℕ) → length (range_with_len a n) ≡ n
-length-range a zero = refl
-length-range a (suc n) = ap suc (length-range (a + 1) n)
-
 pub length-sums : (fields : Fields) (column : Name) (n m : ℕ) (rows : List Row) → length (sums_of fields column n m rows) ≡ length rows
 length-sums fields column n m rows =
     let cells = map (value_named fields column) rows in
-    length-map (numbers (length cells)) (rolled_at n m cells) ∙ length-range 0 (length cells) ∙ length-map rows (value_named fields column)
+    length-map (numbers (length cells)) (rolled_at n m cells) ∙ length-range_with_len 0 (length cells) ∙ length-map rows (value_named fields column)
 
 pub length-before : (sums : List (Option Cell)) → length (before_missing sums) ≤ length sums
 length-before [] = omega arith

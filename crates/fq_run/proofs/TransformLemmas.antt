@@ -1,5 +1,5 @@
 -- The transforms of operators: what they have passed on is never taken back, and what they make of a stream is the steps' meaning.
-use Rattle.std.proofs.Common.{◌≡◌, ℕ, ◌+◌, ◌-◌, List, [], ◌++◌, length, Option, Some, None, refl, ap, sym, ◌∙◌, append-nil, zip}
+use Rattle.std.proofs.Common.{◌≡◌, ℕ, ◌+◌, ◌-◌, List, [], ◌++◌, length, Option, Some, None, refl, ap, sym, ◌∙◌, zip}
 use Rattle.fq_column.specs.declared.cells.Cell.{Cell}
 use Rattle.fq_column.specs.Frame.{Fields, Name, Row}
 use Rattle.fq_column.specs.Stream.{Stream, done, ended_as, one_by_one, rename_fault, then_stream}
@@ -18,18 +18,12 @@ use Rattle.fq_run.specs.declared.operators.joining.TheConstants.{MAX_JOINED_ROWS
 use Rattle.fq_run.specs.Transforms.{IsCausal, Transform, given, group_transform, join_transform, roll_transform, row_by_row, steps_transform, whole}
 use Rattle.fq_run.specs.declared.faults.Fault.{Fault}
 use Rattle.fq_run.specs.declared.faults.Fault.TheVariants.{JoinRows, Overflow, RollRange, SumRange}
+use Rattle.fq_run.proofs.GatheringLemmas.{then-nothing}
 use Rattle.fq_run.proofs.OperatorLemmas.{more-sums, roll-on}
 use Rattle.fq_run.proofs.StageLemmas.{apply_steps-none, rows-then-end}
 
 abbrev stream : List Row → Option Fault → Stream Fault
 stream rows fault = record { rows = rows; fault = fault }
-
-then-none : (v : Stream Fault) → then_stream v (done []) ≡ v
-then-none v = go v.rows v.fault
-  where
-    go : (rows : List Row) (fault : Option Fault) → then_stream (stream rows fault) (done []) ≡ stream rows fault
-    go rows None = λ i. stream (append-nil rows i) None
-    go rows (Some f) = refl
 
 -- what comes after an end is nothing
 then-ended : (v : Stream Fault) (f : Fault) (w : Stream Fault) → then_stream (ended_as (Some f) v) w ≡ ended_as (Some f) v
@@ -53,7 +47,7 @@ module _ (takes gives : Fields) (out : List Row → Stream Fault) where
   whole-given u = go u.rows u.fault
     where
       go : (rows : List Row) (fault : Option Fault) → whole transform (stream rows fault) ≡ given transform (stream rows fault)
-      go rows None = sym (then-none (out rows))
+      go rows None = sym (then-nothing (out rows))
       go rows (Some f) = refl
 
   pub row-causal : Continues out → IsCausal transform
@@ -66,7 +60,7 @@ module _ (takes gives : Fields) (out : List Row → Stream Fault) where
         whole-given (stream (rows ++ w.rows) w.fault)
             ∙ ap (ended_as w.fault) next.1
             ∙ then_stream-assoc (out rows) next.0 (stream [] w.fault)
-            ∙ ap (λ (a : Stream Fault). then_stream a (ended_as w.fault next.0)) (sym (then-none (out rows))),
+            ∙ ap (λ (a : Stream Fault). then_stream a (ended_as w.fault next.0)) (sym (then-nothing (out rows))),
       )
 
 pub steps-causal : (f : NumberedSteps) → IsCausal (steps_transform f)

@@ -89,7 +89,7 @@ impl PhysicalPlan {
         }
     }
 
-    /// How many files the plan wants, from 1 to [`MAX_FILES`]: those of the first source, then those of the next, and so on.
+    /// How many files the plan wants, at most [`MAX_FILES`]: those of the first source, then those of the next, and so on.
     pub fn inputs(&self) -> u16
         ensures { result ≡ files_wanted self.now }
     {

@@ -23,7 +23,7 @@ use Rattle.fq_expr.proofs.application.add_columns.Goals.{After-into_parts-schema
 outputs : (c : In_ok-outputs) → AreOutputs c.args.batch.fields (items_of c.args.items.now) c.args.batch.rows c.in_ok-outputs.outputs.columns.items c.in_ok-outputs.outputs.rows c.in_ok-outputs.outputs.item
 outputs c =
     let made = c.in_ok-evaluated.evaluated in
-    made-outputs c.args.batch (items_of c.args.items.now) made.made.items made.rows c.in_ok-outputs.outputs.rows made.item c.in_ok-outputs.outputs.item c.in_ok-outputs.outputs.columns.items c.in_ok-evaluated.ensures c.in_ok-outputs.ensures.columns c.in_ok-outputs.ensures.rows
+    made-outputs c.args.batch (items_of c.args.items.now) made.columns.items made.rows c.in_ok-outputs.outputs.rows made.item c.in_ok-outputs.outputs.item c.in_ok-outputs.outputs.columns.items c.in_ok-evaluated.ensures c.in_ok-outputs.ensures.columns c.in_ok-outputs.ensures.rows
 
 pub evaluate_items-requires-clause-kinds : goal.evaluate_items-requires-clause-kinds
 evaluate_items-requires-clause-kinds c =

@@ -29,7 +29,7 @@ loop-one-preserved c =
 pub returns-clause-columns : goal.returns-clause-columns
 returns-clause-columns c =
     let columns = c.loop-one.columns.items in
-    let made = c.args.evaluated.made.items in
+    let made = c.args.evaluated.columns.items in
     let f = changed (take c.args.evaluated.rows) in
     let cut : c.cut_columns.new.columns ≡ map f columns = c.cut_columns.ensures ∙ ap (map f) c.as_mut_slice.ensures.value in
     let size : length c.cut_columns.new.columns ≡ length columns = ap length cut ∙ length-map columns f in

@@ -6,5 +6,5 @@ use Rattle.fq_expr.proofs.application.with_copies.Given as goal
 abbrev pub invariant-loop-one : goal.invariant-loop-one
 invariant-loop-one l = record {
   columns : l.columns.items ≡ map (made_column l.batch) l.yielded;
-  all : l.fn.evaluated.made.items ≡ l.yielded ++ into_iter_items l.one-iterator;
+  all : l.fn.evaluated.columns.items ≡ l.yielded ++ into_iter_items l.one-iterator;
 }

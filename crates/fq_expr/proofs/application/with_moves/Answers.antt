@@ -8,7 +8,7 @@ use Rattle.fq_expr.proofs.application.with_moves.Goals as goal
 pub returns-clause-columns : goal.returns-clause-columns
 returns-clause-columns c =
     let batch = c.args.batch in
-    let made = c.args.evaluated.made.items in
+    let made = c.args.evaluated.columns.items in
     let columns = c.in_ok-columns.columns.items in
     let f = changed (take c.args.evaluated.rows) in
     let cut : c.cut_columns.new.columns ≡ map f columns = c.cut_columns.ensures ∙ ap (map f) c.as_mut_slice.ensures.value in

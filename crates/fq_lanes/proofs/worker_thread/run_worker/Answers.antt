@@ -4,7 +4,6 @@ use Rattle.fq_lanes.specs.WorkerThread.{Replied}
 use Rattle.fq_lanes.specs.declared.messages.ToWorker.TheVariants.{Do, Stop}
 use Rattle.fq_lanes.proofs.WorkerThreadLemmas.{replied_ahead, replied_both}
 use Rattle.fq_lanes.proofs.worker_thread.run_worker.Goals as goal
-use Rattle.fq_lanes.proofs.worker_thread.run_worker.Goals.{in-Ok, in_default}
 
 pub returns-in-Some-Stop-clause-replied : goal.returns-in-Some-Stop-clause-replied
 returns-in-Some-Stop-clause-replied g c =

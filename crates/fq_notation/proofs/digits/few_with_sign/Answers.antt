@@ -2,7 +2,6 @@ use Rattle.std.proofs.Common.{◌≡◌, ◌<◌, ◌^◌, ◌∙◌, ◌-ℤ◌
 use Rattle.std.proofs.Math.IntN.{+ℤ_idl}
 use Rattle.std.proofs.lemmas.Int.{to_z-of_z, to_z_pos}
 use mir.Val.{SFits}
-use Rattle.fq_notation.proofs.DigitLemmas.{fits-few}
 use Rattle.fq_notation.proofs.digits.few_with_sign.Goals as goal
 
 -- as it comes back from a cast and an operation

@@ -1,29 +1,29 @@
-use Rattle.std.proofs.Common.{◌≡◌, [], ◌∷◌, ◌++◌, length, sym, ap, ◌∙◌, arith, inl, inr, if◌then◌else◌}
+use Rattle.std.proofs.Common.{◌≡◌, [], ◌∷◌, ◌++◌, length, sym, ap, ◌∙◌, arith, inl, inr}
 use Rattle.std.proofs.lemmas.Result.{on_ok_weaker}
 use Rattle.std.proofs.lemmas.List.{length-set, length-append}
 use Rattle.indexmap.specs.IndexSet.{insert_key}
 use Rattle.fq_ops.specs.Group.{same_key}
 use Rattle.fq_ops.proofs.GroupLemmas.{Grown, grown-written, position-within, length-insert_key}
 use Rattle.fq_ops.proofs.joins.add_place.Goals as goal
-use Rattle.fq_ops.proofs.joins.add_place.Goals.{else-i-len-via-then-i-len+else-is_err, else-i-len-via-else-i-len}
+use Rattle.fq_ops.proofs.joins.add_place.Goals.{then-i-len+in_ok-push, else-i-len}
 
-grown : (c : goal.After-groups-1) → Grown c.args.groups.now.items c.else-i-len.groups.items c.in_ok-i.i []
+grown : (c : goal.After-groups-1) → Grown c.args.groups.now.items c.if-i-len.groups.items c.in_ok-i.i []
 grown c =
     let xs = c.args.groups.now.items in
     let low = position-within (same_key c.args.key.now.cells) c.args.seen.now.keys in
-    elim c.else-i-len.branch [
-      | else-i-len-via-then-i-len+else-is_err w ↦ inl (omega arith, ap (λ v. v.items) w.groups-is ∙ w.push.ensures.items ∙ ap (λ b. if b then xs ++ w.new.result ∷ [] else xs) (w.if-is_err.ensures).negation ∙ ap (λ g. xs ++ g ∷ []) w.new.ensures)
-      | else-i-len-via-else-i-len w ↦ inr (omega (arith, low, c.in_ok-i.ensures.index), ap (λ v. v.items) w.groups-is)
+    elim c.if-i-len.branch [
+      | then-i-len+in_ok-push w ↦ inl (omega arith, ap (λ v. v.items) w.groups-is ∙ w.in_ok-push.ensures.items ∙ ap (λ g. xs ++ g ∷ []) w.new.ensures)
+      | else-i-len w ↦ inr (omega (arith, low, c.in_ok-i.ensures.index), ap (λ v. v.items) w.groups-is)
     ]
 
 pub returns-clause-groups : goal.returns-clause-groups
 returns-clause-groups c =
-    on_ok_weaker c.push-2.result (λ e. grown-written (λ g. g ++ c.args.row ∷ []) c.args.groups.now.items c.else-i-len.groups.items c.in_ok-i.i _ [] _ _ (grown c) c.in_ok-i.ensures.index c.index_mut-group.ensures.value e) c.push-2.ensures
+    on_ok_weaker c.push-2.result (λ e. grown-written (λ g. g ++ c.args.row ∷ []) c.args.groups.now.items c.if-i-len.groups.items c.in_ok-i.i _ [] _ _ (grown c) c.in_ok-i.ensures.index c.index_mut-group.ensures.value e) c.push-2.ensures
 
 pub returns-clause-beside : goal.returns-clause-beside
 returns-clause-beside c =
     let xs = c.args.groups.now.items in
-    let gs = c.else-i-len.groups.items in
+    let gs = c.if-i-len.groups.items in
     let grows = length-insert_key same_key c.args.key.now.cells c.args.seen.now.keys in
     let at = c.in_ok-i.ensures.index in
     let keys : length c.number_of.new.self.keys ≡ length (insert_key same_key c.args.seen.now.keys c.args.key.now.cells) = ap length c.in_ok-i.ensures.keys in

@@ -1,7 +1,8 @@
 use Rattle.std.proofs.Common.{◌∙◌}
+use Rattle.fq_column.proofs.ListLemmas.{any-mapped}
 use Rattle.fq_ops.specs.Group.{same_key}
 use Rattle.fq_ops.specs.KeySets.{whole_key}
-use Rattle.fq_ops.proofs.KeySetLemmas.{any-mapped, position-mapped}
+use Rattle.fq_ops.proofs.KeySetLemmas.{position-mapped}
 use Rattle.fq_ops.proofs.key_sets.find_whole.Goals as goal
 
 pub returns-clause-index : goal.returns-clause-index

@@ -1,25 +1,22 @@
-use Rattle.std.proofs.Common.{◌≡◌, ℕ, ◌<◌, ◌≤◌, get_or, Bool, not, true, false, String, Global, List, map, length, nat_lt, string_bytes, sym, ap, refl, Some, None, ◌∙◌, arith, take}
+use Rattle.std.proofs.Common.{◌≡◌, ℕ, ◌<◌, ◌≤◌, get_or, false, String, Global, List, map, length, nat_lt, string_bytes, sym, ap, Some, None, ◌∙◌, arith, take}
 use Rattle.std.specs.Prelude.{slice_get}
 use Rattle.std.specs.Bool.{◌==◌}
 use Rattle.std.proofs.lemmas.List.{length-map, get_or-map}
 use Rattle.std.proofs.Math.Seq.{take_all}
 use Rattle.std.specs.List.{flat_map}
 use Rattle.std.proofs.lemmas.Result.{err_from_is_err_and}
+use Rattle.std.proofs.lemmas.Bool.{not-false, not-true}
 use Rattle.fq_column.specs.Frame.{Fields, same_name}
 use Rattle.fq_column.specs.Lists.{is_distinct}
 use Rattle.fq_column.specs.declared.schemas.TheConstants.{MAX_COLUMNS}
 use Rattle.fq_column.specs.Refusal.{first_refusal}
 use Rattle.fq_column.proofs.SchemaLemmas.{slice_get-at}
 use Rattle.fq_ops.specs.Join.{key_checks}
-use Rattle.fq_ops.proofs.RefusalLemmas.{item-refused, item-passed, join-key_refused, join-many, join-passed, join-twice, kept-true, not-many, over-many}
+use Rattle.fq_ops.proofs.RefusalLemmas.{item-refused, item-passed, join-key_refused, join-many, join-passed, join-twice, not-many, over-many}
 use Rattle.fq_ops.proofs.output_schemas.check_join.Goals as goal
 
 some : (on : List (String Global)) → (length on == 0) ≡ false → (length (map string_bytes on) == 0) ≡ false
 some on e = ap (λ n. n == 0) (length-map on string_bytes) ∙ e
-
-turned : (b : Bool) → not b ≡ true → b ≡ false
-turned true e = cc
-turned false e = refl
 
 -- all keys were passed
 all-passed : (left right : Fields) (on : List (String Global)) (i : ℕ) → length on ≤ i → first_refusal (flat_map (key_checks left right) (take i (map string_bytes on))) ≡ None →
@@ -72,7 +69,7 @@ returns-then-has_double-clause-err c =
     let passed = all-passed left right c.args.on.now c.loop-name.name-index (omega arith) c.loop-name.invariant in
     let nonempty = some c.args.on.now (sym c.is_empty.ensures ∙ c.if-is_empty.false) in
     let few = ap (nat_lt MAX_COLUMNS) (sym c.joined_len.ensures) ∙ not-many c.joined_len.result (omega (arith, c.if-joined_len-gt-MAX_COLUMNS.false)) in
-    join-twice c.args.how left right on nonempty passed few (turned (is_distinct same_name on) (sym c.has_double.ensures ∙ c.if-has_double.true))
+    join-twice c.args.how left right on nonempty passed few (not-true (is_distinct same_name on) (sym c.has_double.ensures ∙ c.if-has_double.true))
 
 pub returns-clause-ok : goal.returns-clause-ok
 returns-clause-ok c =
@@ -82,5 +79,5 @@ returns-clause-ok c =
     let passed = all-passed left right c.args.on.now c.loop-name.name-index (omega arith) c.loop-name.invariant in
     let nonempty = some c.args.on.now (sym c.is_empty.ensures ∙ c.if-is_empty.false) in
     let few = ap (nat_lt MAX_COLUMNS) (sym c.joined_len.ensures) ∙ not-many c.joined_len.result (omega (arith, c.if-joined_len-gt-MAX_COLUMNS.false)) in
-    let once = kept-true (is_distinct same_name on) (sym c.has_double.ensures ∙ c.if-has_double.false) in
+    let once = not-false (is_distinct same_name on) (sym c.has_double.ensures ∙ c.if-has_double.false) in
     (omega (arith, c.joined_len.ensures, c.if-joined_len-gt-MAX_COLUMNS.false), once, join-passed c.args.how left right on nonempty passed few once)

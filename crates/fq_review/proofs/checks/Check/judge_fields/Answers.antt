@@ -6,6 +6,7 @@ use Rattle.std.specs.List.{list_all}
 use Rattle.std.specs.Option.{option_map}
 use Rattle.std.proofs.lemmas.List.{length-map}
 use Rattle.std.proofs.lemmas.Option.{slice_get-map}
+use Rattle.std.proofs.Math.Bool.{and-false}
 use Rattle.csv.specs.Records.{fields_of}
 use Rattle.fq_column.proofs.SchemaLemmas.{slice_get-at}
 use Rattle.fq_csv.proofs.ReaderLemmas.{field-gone, field-there}
@@ -15,7 +16,7 @@ use Rattle.fq_csv.specs.Field.{cell_under}
 use Rattle.fq_csv.proofs.NotedLemmas.{length-noted, noted-at}
 use Rattle.fq_review.specs.Checked.{layout_of}
 use Rattle.fq_review.specs.declared.checks.Check.{Check}
-use Rattle.fq_review.proofs.CheckLemmas.{and-false, and-true, cells-more, forms, is_of_column}
+use Rattle.fq_review.proofs.CheckLemmas.{and-true, cells-more, forms, is_of_column}
 use Rattle.fq_review.proofs.checks.Check.judge_fields.Goals as goal
 use Rattle.fq_review.proofs.checks.Check.judge_fields.Goals.{then-not-is_cell+in_ok-count, else-not-is_cell}
 

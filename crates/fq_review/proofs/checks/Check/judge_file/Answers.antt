@@ -2,12 +2,13 @@ use Rattle.std.proofs.Common.{◌∙◌, Ok, Err, ap, length, string_bytes, sym}
 use Rattle.std.specs.Prelude.{◌==◌, ◌&&◌, OnOk, Result}
 use Rattle.std.specs.Cmp.Lexicographic.{pointwise}
 use Rattle.std.proofs.lemmas.List.{length-map}
+use Rattle.std.proofs.Math.Bool.{and-false}
 use Rattle.csv.specs.Reading.{default_config, records, strip_bom}
 use Rattle.csv.specs.Records.{fields_of}
 use Rattle.fq_column.specs.Frame.{same_name}
 use Rattle.fq_places.specs.Marks.{marks_of}
 use Rattle.fq_review.specs.Checked.{are_rows, is_flawless, layout_of, names_in}
-use Rattle.fq_review.proofs.CheckLemmas.{and-false, clean-is, empty-is, one-more, other-width}
+use Rattle.fq_review.proofs.CheckLemmas.{clean-is, empty-is, one-more, other-width}
 use Rattle.fq_review.proofs.checks.Check.judge_file.Goals as goal
 
 on-ok : {T E P Q : Type 0} (r : Result T E) → (P → Q) → OnOk r P → OnOk r Q

@@ -1,10 +1,11 @@
 use Rattle.std.proofs.Common.{◌≡◌, ◌+◌, ◌∙◌, None, ap, arith, false, get_or, suc, sym, take}
 use Rattle.std.specs.Prelude.{◌==◌, ◌&&◌, is_none}
 use Rattle.std.proofs.Math.Seq.{take-suc}
+use Rattle.std.proofs.Math.Bool.{and-false}
 use Rattle.fq_places.specs.declared.marks.Mark.{Mark}
 use Rattle.fq_review.specs.Checked.{is_flawless}
 use Rattle.fq_review.specs.declared.checks.Check.{Check}
-use Rattle.fq_review.proofs.CheckLemmas.{and-false, and-true, flawless-more}
+use Rattle.fq_review.proofs.CheckLemmas.{and-true, flawless-more}
 use Rattle.fq_review.proofs.checks.Check.tell_flaws.Goals as goal
 use Rattle.fq_review.proofs.checks.Check.tell_flaws.Goals.{in-Some, in_default}
 

@@ -1,6 +1,7 @@
 use Rattle.std.proofs.Common.{◌≡◌, ◌++◌, ◌∷◌, [], Bool, true, false, List, map, ap, sym, refl, ◌∙◌}
 use Rattle.std.specs.Prelude.{◌||◌}
 use Rattle.std.specs.List.{list_any}
+use Rattle.std.proofs.Math.Bool.{or-false}
 use Rattle.fq_column.specs.Frame.{Name}
 use Rattle.fq_csv.specs.Sources.{Source, source_of_files}
 use Rattle.fq_csv.specs.declared.sources.SourceFiles.{SourceFiles}
@@ -19,10 +20,6 @@ taken-false a h v e t = t ∙ ap (λ b. b || h) (sym e)
 or-assoc : (a b c : Bool) → (a || (b || c)) ≡ ((a || b) || c)
 or-assoc true b c = refl
 or-assoc false b c = refl
-
-or-false : (b : Bool) → (b || false) ≡ b
-or-false true = refl
-or-false false = refl
 
 -- the sources before the last, and then the last
 one-by-one : (name : Name) (sides : List SourceFiles) (main : SourceFiles) →
