@@ -8,7 +8,7 @@ use Rattle.fq_column.specs.Frame.{Fields, Name, names_of}
 use Rattle.fq_column.specs.Refusal.{first_refusal}
 use Rattle.fq_column.specs.Schema.{fields_of, schema_checks}
 use Rattle.fq_csv.specs.Sources.{Source, but_last, last_or}
-use Rattle.fq_csv.proofs.LastLemmas.{but_last-snoc, last_or-snoc}
+use Rattle.fq_csv.proofs.LastLemmas.{but_last-map, but_last-snoc, last_or-snoc}
 use Rattle.fq_language.specs.Explained.{WrongOnlyIf}
 use Rattle.fq_language.specs.Judged.{judged, judged_step, judged_steps, refused_at, source_refusal}
 use Rattle.fq_language.specs.Plan.{PlanData, PlanStep, main_fields, side_fields}

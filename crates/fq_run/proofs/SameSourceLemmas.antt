@@ -6,6 +6,7 @@ use Rattle.fq_column.specs.Frame.{Fields}
 use Rattle.fq_expr.specs.Front.{NumberedSteps}
 use Rattle.fq_expr.specs.Steps.{fields_after_all}
 use Rattle.fq_csv.specs.Sources.{Source, but_last, last_or, source_of_files}
+use Rattle.fq_csv.proofs.LastLemmas.{but_last-map}
 use Rattle.fq_csv.specs.declared.sources.SourceFiles.{SourceFiles}
 use Rattle.fq_notation.specs.Notation.{Named}
 use Rattle.fq_run.specs.Noted.{noted_files, noted_source}
