@@ -1,10 +1,10 @@
 #!/usr/bin/env python3
 """Compares frameq with a second implementation of its definitions, on random plans and files.
 
-    tests/differential/compare.py [--cases N] [--seed S] [--version V] [--rows N] [--notations N] [--program PATH]
+    tests/differential/compare.py [--cases N] [--seed S] [--version V] [--rows N] [--notations N] [--once] [--program PATH]
 
-Each case runs at five settings, one of them random, and, if it has one file and no notations, also without arguments. If it has 16
-files, the random setting has 16 workers. Output, exit status and the line on standard error are compared byte by byte. At the first
+Each case runs at five settings, one of them random, and, if it has one file and no notations, also without arguments; with --once it
+runs at the random setting alone. If it has 16 files, that setting has 16 workers. Output, exit status and the line on standard error are compared byte by byte. At the first
 difference the case is kept in a folder, whose path is printed, and the status is 1. At the end a table says how many cases
 ended in which way.
 """
@@ -55,13 +55,13 @@ def write_case(folder, case):
         write(os.path.join(folder, name), data)
 
 
-def runs_of(case):
-    """The runs of a case: at each setting, and without arguments if there is one file and no notation."""
+def runs_of(case, once):
+    """The runs of a case: once, at its own setting; or at each, and without arguments if there is one file and no notation."""
     expected = oracle.answer(case.plan, case.files, case.notations)
     drawn = ["--batch", str(case.batch), "--workers", str(case.workers)]
     words = ["--plan", "plan.json", *(word for pair in case.notations for word in pair), *file_names(case)]
-    runs = [Run([*setting, *words], b"", expected) for setting in [*SETTINGS, drawn]]
-    if len(case.files) == 1 and not case.notations:
+    runs = [Run([*setting, *words], b"", expected) for setting in ([drawn] if once else [*SETTINGS, drawn])]
+    if not once and len(case.files) == 1 and not case.notations:
         standard_input = case.plan + b"\n" + case.files[0]
         runs.append(Run([], standard_input, oracle.answer_without_words(standard_input)))
     return runs
@@ -96,10 +96,10 @@ def ending_of(answer):
     return answer.status, line.removeprefix("frameq: ") or "a frame"
 
 
-def compare(program, folder, case):
+def compare(program, folder, case, once):
     """The answers that the runs of a case are to give, if the program gives them."""
     write_case(folder, case)
-    runs = runs_of(case)
+    runs = runs_of(case, once)
     for run in runs:
         actual = answer_of(program, run, folder)
         if actual != run.expected:
@@ -114,6 +114,7 @@ def arguments():
     parser.add_argument("--version", type=int, choices=[1, 2], help="the version of all plans [each with even odds]")
     parser.add_argument("--rows", type=int, help="the most rows of each file of the last source [12, seldom 1500]")
     parser.add_argument("--notations", type=int, default=40, metavar="N", help="how many cases in a hundred have notations [40]")
+    parser.add_argument("--once", action="store_true", help="each case at its random setting alone: four times as many cases in a time")
     parser.add_argument("--program", help="the frameq to compare [the one that tools/build builds]")
     return parser.parse_args()
 
@@ -126,7 +127,8 @@ def main():
     with tempfile.TemporaryDirectory() as folder:
         for number in range(given.cases):
             try:
-                answers = compare(program, folder, cases.case(given.seed, number, versions, given.rows, given.notations))
+                case = cases.case(given.seed, number, versions, given.rows, given.notations)
+                answers = compare(program, folder, case, given.once)
             except Difference as difference:
                 sys.exit(f"seed {given.seed}, case {number}: the answers differ; the case is in {difference}")
             endings[ending_of(answers[0])] += 1
