@@ -4,9 +4,9 @@
     tests/differential/compare.py [--cases N] [--seed S] [--version V] [--rows N] [--notations N] [--once] [--program PATH]
 
 Each case runs at five settings, one of them random, and, if it has one file and no notations, also without arguments; with --once it
-runs at the random setting alone. If it has 16 files, that setting has 16 workers. Output, exit status and the line on standard error are compared byte by byte. At the first
-difference the case is kept in a folder, whose path is printed, and the status is 1. At the end a table says how many cases
-ended in which way.
+runs at the random setting alone. If it has 16 files, that setting has 16 workers. Output, exit status and the line on standard error
+are compared byte by byte. At the first difference the case is kept in a folder, whose path is printed, and the status is 1. At the end
+a table says how many cases ended in which way.
 """
 import argparse
 import os
@@ -114,7 +114,7 @@ def arguments():
     parser.add_argument("--version", type=int, choices=[1, 2], help="the version of all plans [each with even odds]")
     parser.add_argument("--rows", type=int, help="the most rows of each file of the last source [12, seldom 1500]")
     parser.add_argument("--notations", type=int, default=40, metavar="N", help="how many cases in a hundred have notations [40]")
-    parser.add_argument("--once", action="store_true", help="each case at its random setting alone: four times as many cases in a time")
+    parser.add_argument("--once", action="store_true", help="each case at its random setting alone, in a third of the time")
     parser.add_argument("--program", help="the frameq to compare [the one that tools/build builds]")
     return parser.parse_args()
 
