@@ -39,10 +39,12 @@ def memory():
 
 class Processes:
     """The processes of checks: as many as there are cores, in equal parts for the crates that are left. Beside `rt ci`, which takes memory
-    too, one for each check, as long as there are 4 GB for it."""
+    too, one for each check, as long as there are 4 GB for it. The check that has waited longest begins first, so that no crate is left to the
+    end."""
 
     def __init__(self, crates, beside):
         self.used, self.crates, self.beside, self.changed = 0, crates, beside, threading.Condition()
+        self.waiting = []
 
     def is_beside(self):
         """Whether `rt ci` runs."""
@@ -62,10 +64,14 @@ class Processes:
     def some(self):
         """Waits for the processes of a check."""
         with self.changed:
-            while self.free() < self.share():
+            turn = object()
+            self.waiting.append(turn)
+            while self.waiting[0] is not turn or self.free() < self.share():
                 self.changed.wait(1)
+            self.waiting.pop(0)
             jobs = self.share()
             self.used += jobs
+            self.changed.notify_all()
         try:
             yield jobs
         finally:
