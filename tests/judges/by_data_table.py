@@ -10,6 +10,7 @@ from exact import MOST_EXACT, LeftOut
 SCRIPT = os.path.join(os.path.dirname(os.path.abspath(__file__)), "plans.R")
 NOT_EXACT = "not exact"  # as the script says it
 DEEPEST = 15  # of expressions: R's parser holds 50 brackets open
+LONGEST = 5_000_000  # of a plan's script with its rows: R's parser took one of 14 MB for an endless recursion
 
 NULLS = {"int": "NA_real_", "text": "NA_character_", "bool": "NA"}
 NONE = {"int": "numeric(0)", "text": "character(0)", "bool": "logical(0)"}
@@ -108,18 +109,18 @@ def after_select(step, columns, sources):
 
 def after_join(step, columns, sources):
     """A join takes nulls for equal."""
-    on, others = names_of(step.on), [name for name in sources[step.source] if name not in step.on]
-    renamed = [oracle.right_name(columns, name) for name in others]
-    lines = [f"r <- copy(s{step.source})"]
-    if others:
-        lines.append(f"setnames(r, {names_of(others)}, {names_of(renamed)})")
+    on, r = names_of(step.on), [f"r <- copy(s{step.source})"]
     if not step.nulls_equal:
-        lines.append(f"r <- r[{' & '.join(f'!is.na({named(name)})' for name in step.on)}]")
+        r.append(f"r <- r[{' & '.join(f'!is.na({named(name)})' for name in step.on)}]")
     if step.how in ("semi", "anti"):
-        lines.append(f"alone <- is.na(r[d, on = {on}, which = TRUE, mult = 'first'])")
-        return [*lines, "d <- d[!alone]" if step.how == "semi" else "d <- d[(alone)]"]
-    lines.append(f"d <- r[d, on = {on}, nomatch = {'NA' if step.how == 'left' else 'NULL'}, allow.cartesian = TRUE]")
-    return [*lines, f"setcolorder(d, {names_of([*columns, *renamed])})"]
+        alone = f"alone <- is.na(r[d, on = {on}, which = TRUE, mult = 'first'])"
+        return [*r, alone, "d <- d[!alone]" if step.how == "semi" else "d <- d[(alone)]"]
+    others = [name for name in sources[step.source] if name not in step.on]
+    renamed = [oracle.right_name(columns, name) for name in others]
+    if others:
+        r.append(f"setnames(r, {names_of(others)}, {names_of(renamed)})")
+    joined = f"d <- r[d, on = {on}, nomatch = {'NA' if step.how == 'left' else 'NULL'}, allow.cartesian = TRUE]"
+    return [*r, joined, f"setcolorder(d, {names_of([*columns, *renamed])})"]
 
 
 def after_group_by(step, columns, sources):
@@ -154,6 +155,8 @@ def script_of(case):
     lines = [*(f"s{place} <- {table}" for place, table in enumerate(sources)), f"d <- {main}"]
     for step, columns in zip(case.plan.steps, case.along):
         lines += STEPS[type(step)](step, columns, case.columns)
+    if sum(map(len, lines)) > LONGEST:
+        raise LeftOut
     return "\n".join([*lines, "d", ""])
 
 
