@@ -103,6 +103,15 @@ impl Answer {
         })
     }
 
+    // The last line of a case.
+    fn of_line(alloc: Global, line: &str) -> Result<Answer, Fail> {
+        if let Some(frame) = line.strip_prefix("> ") {
+            return Answer::of_frame(alloc, text_of(alloc, frame)?.as_str());
+        }
+        let (status, fault) = line.split_once(' ').unwrap_or(("", line));
+        Answer::of_fault(alloc, status.parse()?, fault)
+    }
+
     // What was written.
     fn of_bytes(status: u8, out: Vec<u8>, err: Vec<u8>) -> Result<Answer, Fail> {
         Ok(Answer {
@@ -113,6 +122,43 @@ impl Answer {
     }
 }
 
+/// Plans over files are answered as these cases say, at each setting.
+///
+/// An empty line stands between two cases. The lines of a case are what it is about, the plan, a `<`, a space and the text of each file, and
+/// last a `>`, a space and the frame, or the status, a space and the line of the fault. In files and frames `\n` and `\r` stand for the ends
+/// of lines.
+pub fn hold<R: Abort + Threads + Wait + Sync>(
+    rt: &R,
+    alloc: Global,
+    cases: &str,
+) -> Result<(), Fail> {
+    for case in cases.trim().split("\n\n") {
+        holds(rt, alloc, case)?;
+    }
+    Ok(())
+}
+
+// A case holds.
+fn holds<R: Abort + Threads + Wait + Sync>(rt: &R, alloc: Global, case: &str) -> Result<(), Fail> {
+    let (inputs, answer) = case.rsplit_once('\n').unwrap_or(("", case));
+    let mut lines = inputs.split('\n');
+    let about = lines.next().unwrap_or("");
+    let plan = lines.next().unwrap_or("");
+    let mut files = Vec::new(alloc);
+    for line in lines {
+        files.push(text_of(alloc, line.strip_prefix("< ").unwrap_or(""))?)?;
+    }
+    let wanted = Answer::of_line(alloc, answer)?;
+    let texts: Vec<&str> = files.iter().map(|file| file.as_str()).collect(alloc)?;
+    answers(rt, alloc, about, plan, texts.as_slice(), &wanted)
+}
+
+// The text of a file or a frame, as a case spells it.
+fn text_of(alloc: Global, spelled: &str) -> Result<String, Fail> {
+    let text = spelled.replace(alloc, "\\n", "\n")?;
+    Ok(text.replace(alloc, "\\r", "\r")?)
+}
+
 /// A plan over files gives a frame, at each setting.
 pub fn gives<'a, R: Abort + Threads + Wait + Sync>(
     rt: &R,
@@ -121,7 +167,8 @@ pub fn gives<'a, R: Abort + Threads + Wait + Sync>(
     files: &'a [&'a str],
     frame: &str,
 ) -> Result<(), Fail> {
-    answers(rt, alloc, plan, files, &Answer::of_frame(alloc, frame)?)
+    let wanted = Answer::of_frame(alloc, frame)?;
+    answers(rt, alloc, "a plan", plan, files, &wanted)
 }
 
 /// A plan over files ends in a status and a line on standard error, at each setting.
@@ -133,13 +180,8 @@ pub fn fails<'a, R: Abort + Threads + Wait + Sync>(
     status: u8,
     line: &str,
 ) -> Result<(), Fail> {
-    answers(
-        rt,
-        alloc,
-        plan,
-        files,
-        &Answer::of_fault(alloc, status, line)?,
-    )
+    let wanted = Answer::of_fault(alloc, status, line)?;
+    answers(rt, alloc, "a plan", plan, files, &wanted)
 }
 
 /// Arguments, given in one line, print a text, where standard input holds another.
@@ -157,7 +199,8 @@ pub fn prints_by<'a, R: Abort + Threads + Wait + Sync>(
         files,
         standard_input,
     };
-    answers_by(rt, alloc, line, inputs, &Answer::of_frame(alloc, text)?)
+    let wanted = Answer::of_frame(alloc, text)?;
+    answers_by(rt, alloc, "arguments", line, inputs, &wanted)
 }
 
 /// Arguments, given in one line, end in a status and a fault on standard error, where standard input holds a text.
@@ -176,13 +219,8 @@ pub fn fails_by<'a, R: Abort + Threads + Wait + Sync>(
         files,
         standard_input,
     };
-    answers_by(
-        rt,
-        alloc,
-        line,
-        inputs,
-        &Answer::of_fault(alloc, status, fault)?,
-    )
+    let wanted = Answer::of_fault(alloc, status, fault)?;
+    answers_by(rt, alloc, "arguments", line, inputs, &wanted)
 }
 
 /// Arguments, given in one line, end in a status and write these texts on standard output and standard error, where standard input holds a
@@ -207,13 +245,14 @@ pub fn writes_by<'a, R: Abort + Threads + Wait + Sync>(
         out: String::from_str(alloc, out)?,
         err: String::from_str(alloc, err)?,
     };
-    answers_by(rt, alloc, line, inputs, &answer)
+    answers_by(rt, alloc, "arguments", line, inputs, &answer)
 }
 
 // A plan over files is answered so at each setting, and from standard input, if it can stand there.
 fn answers<'a, R: Abort + Threads + Wait + Sync>(
     rt: &R,
     alloc: Global,
+    about: &str,
     plan: &'a str,
     files: &'a [&'a str],
     wanted: &Answer,
@@ -225,10 +264,10 @@ fn answers<'a, R: Abort + Threads + Wait + Sync>(
     };
     for (batch_size, workers) in SETTINGS {
         let line = line_at(alloc, files.len(), batch_size, workers)?;
-        answers_by(rt, alloc, line.as_str(), inputs, wanted)?;
+        answers_by(rt, alloc, about, line.as_str(), inputs, wanted)?;
     }
     match files {
-        [file] if !plan.contains('\n') => answers_from_input(rt, alloc, plan, *file, wanted),
+        [file] if !plan.contains('\n') => answers_from_input(rt, alloc, about, plan, *file, wanted),
         _ => Ok(()),
     }
 }
@@ -246,6 +285,7 @@ fn line_at(alloc: Global, files: usize, batch_size: u32, workers: u16) -> Result
 fn answers_by<R: Abort + Threads + Wait + Sync>(
     rt: &R,
     alloc: Global,
+    about: &str,
     line: &str,
     mut inputs: Inputs<'_>,
     wanted: &Answer,
@@ -259,7 +299,7 @@ fn answers_by<R: Abort + Threads + Wait + Sync>(
     assert_eq!(rt;
         &Answer::of_bytes(status, out.writer, err)?,
         wanted,
-        "by {line}"
+        "{about}, by {line}"
     );
     Ok(())
 }
@@ -268,6 +308,7 @@ fn answers_by<R: Abort + Threads + Wait + Sync>(
 fn answers_from_input<R: Abort + Threads + Wait + Sync>(
     rt: &R,
     alloc: Global,
+    about: &str,
     plan: &str,
     file: &str,
     wanted: &Answer,
@@ -278,7 +319,7 @@ fn answers_from_input<R: Abort + Threads + Wait + Sync>(
     assert_eq!(rt;
         &Answer::of_bytes(status, out, err)?,
         wanted,
-        "from standard input"
+        "{about}, from standard input"
     );
     Ok(())
 }
