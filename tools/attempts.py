@@ -3,6 +3,8 @@
 A check of an edit works on a copy of the crate, over what `rt check` kept of it, if it did, and over the libraries that it or `rt ci` built.
 """
 import contextlib
+import dataclasses
+import math
 import os
 import re
 import shutil
@@ -142,11 +144,13 @@ class Copy:
         words += ["--antt-project", f"{KIT}/rattle/logic/antt-project.json", "--logic-built", f"{KIT}/logic_built"]
         return [*words, "--incremental", f"{self.room}/kept", "--jobs", str(jobs)]
 
-    def check(self, functions, texts):
-        """What a check of some functions says, with these texts in place of the crate's own."""
+    def check(self, functions, texts, copies=()):
+        """What a check of some functions says, with these texts in place of the crate's own; `copies` are functions and their copies in them."""
         before = {path: read(f"{self.room}/{path}") for path in texts}
         for path, text in texts.items():
             write(f"{self.room}/{path}", text)
+        for function, its_copy in copies:
+            self.copy_proof(function, its_copy)
         chosen = [word for it in sorted(functions) for word in ("--only", it)]
         with self.processes.some() as jobs:
             words = [*self.words(jobs), *chosen]
@@ -156,7 +160,18 @@ class Copy:
                 ran = run(words, self.room)
         for path, text in before.items():
             write(f"{self.room}/{path}", text)
+        for _, its_copy in copies:
+            shutil.rmtree(f"{self.room}/proofs/{its_copy.folder}", ignore_errors=True)
         return ran.stdout
+
+    def copy_proof(self, function, its_copy):
+        """Gives a copy of a function the answers of the function."""
+        of, to = (f"{self.room}/proofs/{it.folder}" for it in (function, its_copy))
+        if os.path.isdir(of):
+            shutil.copytree(of, to)
+            names = [f"Rattle.{self.crate}.proofs.{it.folder.replace('/', '.')}." for it in (function, its_copy)]
+            for file in os.listdir(to):
+                write(f"{to}/{file}", read(f"{to}/{file}").replace(*names))
 
 
 # ---- edits
@@ -164,12 +179,30 @@ class Copy:
 
 class Edit:
     """A wrong edit of a crate: the texts that it replaces, each with its file, and the functions that show it: those that are named, or
-    those in which the texts stand."""
+    those in which the texts stand. It may be made in a copy of its function, beside another edit of the same one."""
 
     def __init__(self, name, crate, pairs, shown_by=()):
-        self.name, self.pairs, self.functions, self.is_alone = name, pairs, set(shown_by), bool(shown_by)
+        self.name, self.crate, self.pairs, self.functions, self.is_alone = name, crate, pairs, set(shown_by), bool(shown_by)
+        self.changed, self.copy = {function_at(crate, path, old) for path, old, _ in pairs} - {None}, None
         if not self.is_alone:
-            self.functions = {it for path, old, _ in pairs for it in [function_at(crate, path, old)] if it}
+            self.functions = {it.shown for it in self.changed}
+
+    def beside(self, others):
+        """This edit as it goes with others: as it is, or in a copy of its function; nothing if it does not go with them."""
+        edit = self if all(map(self.goes_with, others)) else self.in_copy(others)
+        return edit if edit and all(map(edit.goes_with, others)) else None
+
+    def in_copy(self, others):
+        """This edit in a copy of its function, by a name that no copy in the others has; nothing if the function cannot be copied."""
+        if self.is_alone or len(self.changed) != 1:
+            return None
+        (function,) = self.changed
+        if not function.can_be_copied:
+            return None
+        edit, copies = Edit(self.name, self.crate, self.pairs), sum(it.copy is not None and it.changed == self.changed for it in others)
+        edit.copy = dataclasses.replace(function, name=f"{function.name}_{copies + 2}")
+        edit.functions = {edit.copy.shown}
+        return edit
 
     def is_shown_by(self, name):
         """Whether a function of this name, or a closure in it, shows the edit."""
@@ -184,6 +217,8 @@ class Edit:
 
     def applied(self, texts, folder):
         """The texts of files, with this edit; none where a text that it replaces doesn't stand in its file once."""
+        if self.copy:
+            return self.added(texts, folder)
         texts = dict(texts)
         for path, old, new in self.pairs:
             text = texts.get(path) or read(f"{folder}/{path}")
@@ -192,17 +227,69 @@ class Edit:
             texts[path] = text.replace(old, new)
         return texts
 
+    def added(self, texts, folder):
+        """The texts of files, with a copy of the function after it, which has this edit; none where a text that it replaces doesn't stand in
+        it once."""
+        (function,) = self.changed
+        whole = read(f"{folder}/{function.path}").split("\n")
+        first = function.first
+        while whole[first - 1].lstrip().startswith("#["):
+            first -= 1
+        text = "\n".join(whole[first : function.last + 1]).replace(f"fn {function.name}", f"fn {self.copy.name}", 1)
+        for _, old, new in self.pairs:
+            if text.count(old) != 1:
+                return None
+            text = text.replace(old, new)
+        lines = texts[function.path].split("\n") if function.path in texts else whole
+        return texts | {function.path: "\n".join([*lines[: function.last + 1], "", text, *lines[function.last + 1 :]])}
+
+
+@dataclasses.dataclass(frozen=True)
+class Function:
+    """A function of a crate: its file, its first line and its last, the type that it is of, its name, and whether a trait has it."""
+
+    crate: str
+    path: str
+    first: int
+    last: int
+    owner: str
+    name: str
+    is_of_trait: bool
+
+    @property
+    def shown(self):
+        """The end of the name that a check prints: its module or its type, and its own."""
+        module = os.path.basename(self.path)[: -len(".rt")]
+        return self.name if not self.owner and module in ("lib", "main") else f"{self.owner or module}::{self.name}"
+
+    @property
+    def folder(self):
+        """The folder of its proof, below that of all proofs: its modules, its type and its name."""
+        modules = self.path[len("src/"): -len(".rt")]
+        return "/".join(it for it in ("" if modules in ("lib", "main") else modules, self.owner, self.name) if it)
+
+    @property
+    def can_be_copied(self):
+        """Whether a copy of it by another name can stand beside it, and be proved as it is: not if a trait has it, nor if it may call itself,
+        since functions that do have one proof in common."""
+        beside = os.path.dirname(f"{ROOT}/crates/{self.crate}/proofs/{self.folder}")
+        in_cycles = os.path.isdir(beside) and any(it.startswith("+") for it in os.listdir(beside))
+        text = "\n".join(read(f"{ROOT}/crates/{self.crate}/{self.path}").split("\n")[self.first + 1 : self.last])
+        return not self.is_of_trait and not in_cycles and not re.search(rf"(?<![\w:.]){self.name}\(|\b(Self::|self\.){self.name}\(", text)
+
 
 def function_at(crate, path, text):
-    """The function in which a text stands: the end of the name that a check prints, its module or its type and its own."""
+    """The function in which a text stands."""
     source = read(f"{ROOT}/crates/{crate}/{path}")
-    lines, at, owner = source.split("\n"), source[: source.find(text)].count("\n"), ""
+    lines, at, owner, is_of_trait = source.split("\n"), source[: source.find(text)].count("\n"), "", False
     for number, line in enumerate(lines[: at + 1]):
-        owner = "" if line.startswith("}") else owner_at(header(lines[number:])) or owner
+        whole = header(lines[number:])
+        owner = "" if line.startswith("}") else owner_at(whole) or owner
+        is_of_trait = not line.startswith("}") and (is_of_trait or bool(re.match(r"impl\b.* for |(?:pub(?:\(\w+\))? )?trait ", whole)))
         function = re.match(r"( *)(?:pub(?:\(\w+\))? )?(?:const )?fn (\w+)", line)
-        if function and at <= number + length(lines[number:], function[1]):
-            module = os.path.basename(path)[: -len(".rt")]
-            return function[2] if not owner and module in ("lib", "main") else f"{owner or module}::{function[2]}"
+        last = number + length(lines[number:], function[1]) if function else -1
+        if last >= at:
+            return Function(crate, path, number, last, owner, function[2], is_of_trait)
     return None
 
 
@@ -270,9 +357,10 @@ def first_lines(said):
 
 
 def made(copy, batch):
-    """The edits of a batch that can be made, and the texts of files with them."""
+    """The edits of a batch that can be made, and the texts of files with them. Copies of functions come last, and the lower ones of a file
+    first, so that a function stays in its lines until it is copied."""
     texts, edits = {}, []
-    for edit in batch:
+    for edit in sorted(batch, key=lambda it: -it.copy.first if it.copy else -math.inf):
         applied = edit.applied(texts, copy.room) if edit.functions else None
         if applied is not None:
             texts = applied
@@ -291,7 +379,8 @@ def attempt(copy, batch):
     for edit in batch:
         if edit not in tried:
             yield edit, False, NOT_MADE
-    said = copy.check(set().union(*(it.functions for it in tried)), texts) if tried else ""
+    copies = [(*it.changed, it.copy) for it in tried if it.copy]
+    said = copy.check(set().union(*(it.functions for it in tried)), texts, copies) if tried else ""
     left = goals_left(said, copy.crate)
     if not left and len(tried) > 1:
         for half in halves(tried):
