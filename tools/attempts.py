@@ -182,7 +182,7 @@ class Edit:
     those in which the texts stand. It may be made in a copy of its function, beside another edit of the same one."""
 
     def __init__(self, name, crate, pairs, shown_by=()):
-        self.name, self.crate, self.pairs, self.functions, self.is_alone = name, crate, pairs, set(shown_by), bool(shown_by)
+        self.name, self.pairs, self.functions, self.is_alone = name, pairs, set(shown_by), bool(shown_by)
         self.changed, self.copy = {function_at(crate, path, old) for path, old, _ in pairs} - {None}, None
         if not self.is_alone:
             self.functions = {it.shown for it in self.changed}
@@ -199,7 +199,8 @@ class Edit:
         (function,) = self.changed
         if not function.can_be_copied:
             return None
-        edit, copies = Edit(self.name, self.crate, self.pairs), sum(it.copy is not None and it.changed == self.changed for it in others)
+        edit = Edit(self.name, function.crate, self.pairs)
+        copies = sum(it.copy is not None and it.changed == self.changed for it in others)
         edit.copy = dataclasses.replace(function, name=f"{function.name}_{copies + 2}")
         edit.functions = {edit.copy.shown}
         return edit
