@@ -9,8 +9,6 @@ mod laws;
 mod named;
 mod notations;
 mod scales;
-#[cfg(test)]
-mod tests;
 mod texts;
 
 pub use columns::Notations;
