@@ -4,6 +4,8 @@ A check of an edit works on a copy of the crate, over what `rt check` kept of it
 """
 import contextlib
 import dataclasses
+import functools
+import glob
 import math
 import os
 import re
@@ -124,15 +126,15 @@ class Copy:
 
     def __init__(self, crate, room, processes):
         self.crate, self.room, self.processes = crate, f"{room}/crates/{crate}", processes
+        self.source = f"{ROOT}/crates/{crate}"
         subprocess.run([f"{ROOT}/tools/stage", "--alone", room, crate], check=True)
         for name in below(crate):
             built = f"{ROOT}/crates/{name}/out/rlib/{name}.rlib"
             if not os.path.isdir(built):
                 sys.exit(f"{name} is not built; rt ci, or rt check in crates/{crate}, builds it")
             link_tree(built, f"{self.room}/libraries/{name}.rlib")
-        kept = f"{ROOT}/crates/{crate}/out/incremental"
-        if os.path.isdir(kept):
-            link_tree(kept, f"{self.room}/kept")
+        if os.path.isdir(f"{self.source}/out/incremental"):
+            link_tree(f"{self.source}/out/incremental", f"{self.room}/kept")
 
     def words(self, jobs):
         """The words of a check by so many processes."""
@@ -144,24 +146,25 @@ class Copy:
         words += ["--antt-project", f"{KIT}/rattle/logic/antt-project.json", "--logic-built", f"{KIT}/logic_built"]
         return [*words, "--incremental", f"{self.room}/kept", "--jobs", str(jobs)]
 
-    def check(self, functions, texts, copies=()):
-        """What a check of some functions says, with these texts in place of the crate's own; `copies` are functions and their copies in them."""
-        before = {path: read(f"{self.room}/{path}") for path in texts}
+    def check(self, functions, texts, copies=(), stubs=()):
+        """What a check of some functions says, with these texts in place of the crate's own; `copies` are functions and their copies in them,
+        and `stubs` are functions whose bodies they leave out."""
         for path, text in texts.items():
             write(f"{self.room}/{path}", text)
         for function, its_copy in copies:
             self.copy_proof(function, its_copy)
+        for stub in stubs:
+            self.leave_open(stub)
         chosen = [word for it in sorted(functions) for word in ("--only", it)]
         with self.processes.some() as jobs:
-            words = [*self.words(jobs), *chosen]
+            words = [*self.words(jobs), "--allow-holes", *chosen]
             ran = run(words, self.room)
             if ran.returncode < 0:
                 # (the system stopped it, for want of memory, say)
                 ran = run(words, self.room)
-        for path, text in before.items():
-            write(f"{self.room}/{path}", text)
-        for _, its_copy in copies:
-            shutil.rmtree(f"{self.room}/proofs/{its_copy.folder}", ignore_errors=True)
+        for part in ("src", "proofs"):
+            shutil.rmtree(f"{self.room}/{part}")
+            shutil.copytree(f"{self.source}/{part}", f"{self.room}/{part}")
         return ran.stdout
 
     def copy_proof(self, function, its_copy):
@@ -169,9 +172,17 @@ class Copy:
         of, to = (f"{self.room}/proofs/{it.folder}" for it in (function, its_copy))
         if os.path.isdir(of):
             shutil.copytree(of, to)
-            names = [f"Rattle.{self.crate}.proofs.{it.folder.replace('/', '.')}." for it in (function, its_copy)]
             for file in os.listdir(to):
-                write(f"{to}/{file}", read(f"{to}/{file}").replace(*names))
+                write(f"{to}/{file}", read(f"{to}/{file}").replace(f"{function.proofs}.", f"{its_copy.proofs}."))
+
+    def leave_open(self, stub):
+        """Has a hole in the place of the proof of a function without its body."""
+        folder = f"{self.room}/proofs/{stub.folder}"
+        for it in (folder, f"{os.path.dirname(folder)}/+{stub.name}"):
+            shutil.rmtree(it, ignore_errors=True)
+        os.makedirs(folder)
+        lines = [f"use {stub.proofs}.Goals as goal", "", "pub unreachable-requires : goal.unreachable-requires", "unreachable-requires = ?", ""]
+        write(f"{folder}/Answers.antt", "\n".join(lines))
 
 
 # ---- edits
@@ -208,6 +219,10 @@ class Edit:
     def is_shown_by(self, name):
         """Whether a function of this name, or a closure in it, shows the edit."""
         return any(f"::{it}::" in f"::{name}::" for it in self.functions)
+
+    def needs(self, function):
+        """Whether the edit needs the body of a function."""
+        return self.is_shown_by(function.shown) or any(it.shown == function.shown for it in self.changed)
 
     def goes_with(self, other):
         """Whether both can be made at once: they change different functions, and neither writes what the other replaces."""
@@ -247,11 +262,13 @@ class Edit:
 
 @dataclasses.dataclass(frozen=True)
 class Function:
-    """A function of a crate: its file, its first line and its last, the type that it is of, its name, and whether a trait has it."""
+    """A function of a crate: its file, its first line, that which opens its body and its last, the type that it is of, its name, and whether
+    a trait has it."""
 
     crate: str
     path: str
     first: int
+    opens: int
     last: int
     owner: str
     name: str
@@ -265,9 +282,19 @@ class Function:
 
     @property
     def folder(self):
-        """The folder of its proof, below that of all proofs: its modules, its type and its name."""
-        modules = self.path[len("src/"): -len(".rt")]
+        """The folder of its proof, below that of all proofs: its modules, or those of its type, its type and its name."""
+        path = self.path if self.is_of_trait else types_of(self.crate).get(self.owner, self.path)
+        modules = path[len("src/"): -len(".rt")]
         return "/".join(it for it in ("" if modules in ("lib", "main") else modules, self.owner, self.name) if it)
+
+    @property
+    def proofs(self):
+        """The module of its proof."""
+        return f"Rattle.{self.crate}.proofs.{self.folder.replace('/', '.')}"
+
+    def can_be_stub(self, lines):
+        """Whether it can lose its body, of the lines of its file: not if it does nothing, nor if the compiler itself may call it."""
+        return self.opens < self.last and "const fn " not in lines[self.first]
 
     @property
     def can_be_copied(self):
@@ -279,19 +306,37 @@ class Function:
         return not self.is_of_trait and not in_cycles and not re.search(rf"(?<![\w:.]){self.name}\(|\b(Self::|self\.){self.name}\(", text)
 
 
+def sources(crate):
+    """The files of a crate's sources, from its folder."""
+    folder = f"{ROOT}/crates/{crate}"
+    return sorted(os.path.relpath(it, folder) for it in glob.glob(f"{folder}/src/**/*.rt", recursive=True))
+
+
+@functools.cache
+def types_of(crate):
+    """The types that a crate declares, each with its file."""
+    declared = r"^(?:pub(?:\(\w+\))? )?(?:struct|enum) (\w+)"
+    return {name: path for path in sources(crate) for name in re.findall(declared, read(f"{ROOT}/crates/{crate}/{path}"), re.M)}
+
+
 def function_at(crate, path, text):
     """The function in which a text stands."""
     source = read(f"{ROOT}/crates/{crate}/{path}")
-    lines, at, owner, is_of_trait = source.split("\n"), source[: source.find(text)].count("\n"), "", False
-    for number, line in enumerate(lines[: at + 1]):
+    at = source[: source.find(text)].count("\n")
+    return next((it for it in functions_in(crate, path, source) if it.first <= at <= it.last), None)
+
+
+def functions_in(crate, path, source):
+    """The functions of a file, whose text is given; not those that a trait only declares."""
+    lines, owner, is_of_trait = source.split("\n"), "", False
+    for number, line in enumerate(lines):
         whole = header(lines[number:])
         owner = "" if line.startswith("}") else owner_at(whole) or owner
         is_of_trait = not line.startswith("}") and (is_of_trait or bool(re.match(r"impl\b.* for |(?:pub(?:\(\w+\))? )?trait ", whole)))
         function = re.match(r"( *)(?:pub(?:\(\w+\))? )?(?:const )?fn (\w+)", line)
-        last = number + length(lines[number:], function[1]) if function else -1
-        if last >= at:
-            return Function(crate, path, number, last, owner, function[2], is_of_trait)
-    return None
+        body = function and body_in(lines[number:], function[1])
+        if body:
+            yield Function(crate, path, number, number + body[0], number + body[1], owner, function[2], is_of_trait)
 
 
 def header(lines):
@@ -300,24 +345,30 @@ def header(lines):
     return " ".join(line.strip() for line in lines[: end + 1]) if end else lines[0]
 
 
-def length(lines, indent):
-    """How many lines a function has, below its first; none that a trait only declares."""
-    has_body = False
+def body_in(lines, indent):
+    """Which lines open and end the body of the function that begins with the first; nothing if a trait only declares it."""
+    opens, depth = None, 0
     for number, line in enumerate(lines):
-        has_body = has_body or line.endswith("{")
-        if line in (indent + "}", indent + "{}") or line.endswith(";") and not has_body:
-            return number if has_body or line.endswith("}") else -1
-    return -1
+        if opens is None and re.fullmatch(rf"{indent}(\S.* )?{{(}})?", line):
+            opens = number
+        if opens is not None and (line == indent + "}" or opens == number and line.endswith("}")):
+            return opens, number
+        depth += line.count("{") - line.count("}")
+        if opens is None and depth == 0 and line.endswith(";"):
+            return None
+    return None
 
 
 def owner_at(line):
     """The type or the trait whose functions follow a line: of a type's impl of a trait both, and the types that the trait is given."""
-    impl = re.match(r"impl(?:<(.*?)>)? (?:(\w+)(?:<(.*)>)? for )?(\w+)", line)
+    impl = re.match(r"impl(?:<(.*?)>)? (?:(\w+)(?:<(.*)>)? for )?(?:(\w+)|\((.*)\))", line)
     if not impl:
         trait = re.match(r"(?:pub(?:\(\w+\))? )?trait (\w+)", line)
         return trait and trait[1]
-    given = [it for it in re.findall(r"\w+", impl[3] or "") if it not in re.findall(r"\w+", impl[1] or "")]
-    return impl[4] + (impl[2] or "") + "".join(it[0].upper() + it[1:] for it in given)
+    parameters, trait, given, name, parts = impl.groups(default="")
+    parts, given = ([it for it in re.findall(r"\w+", text) if it not in re.findall(r"\w+", parameters)] for text in (parts, given))
+    words = [name or f"Tuple{impl[5].count(',') + 1}", *parts, trait, *given]
+    return "".join(it[0].upper() + it[1:] for it in words if it)
 
 
 # ---- what a check says
@@ -362,11 +413,25 @@ def made(copy, batch):
     first, so that a function stays in its lines until it is copied."""
     texts, edits = {}, []
     for edit in sorted(batch, key=lambda it: -it.copy.first if it.copy else -math.inf):
-        applied = edit.applied(texts, copy.room) if edit.functions else None
+        applied = edit.applied(texts, copy.source) if edit.functions else None
         if applied is not None:
             texts = applied
             edits.append(edit)
     return edits, texts
+
+
+def without_bodies(copy, texts, edits):
+    """The texts of all files, in which each function that no edit needs has lost its body, and these functions. Where they are called, their
+    contracts are taken for granted."""
+    whole, stubs = {}, []
+    for path in sources(copy.crate):
+        lines = (texts.get(path) or read(f"{copy.source}/{path}")).split("\n")
+        for function in reversed(list(functions_in(copy.crate, path, "\n".join(lines)))):
+            if function.can_be_stub(lines) and not any(it.needs(function) for it in edits):
+                lines[function.opens + 1 : function.last] = ["unreachable!()"]
+                stubs.append(function)
+        whole[path] = "\n".join(lines)
+    return whole, stubs
 
 
 def halves(edits):
@@ -380,8 +445,11 @@ def attempt(copy, batch):
     for edit in batch:
         if edit not in tried:
             yield edit, False, NOT_MADE
+    if not tried:
+        return
+    texts, stubs = without_bodies(copy, texts, tried)
     copies = [(*it.changed, it.copy) for it in tried if it.copy]
-    said = copy.check(set().union(*(it.functions for it in tried)), texts, copies) if tried else ""
+    said = copy.check(set().union(*(it.functions for it in tried)), texts, copies, stubs)
     left = goals_left(said, copy.crate)
     if not left and len(tried) > 1:
         for half in halves(tried):
