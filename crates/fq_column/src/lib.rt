@@ -1,9 +1,16 @@
-//! Cells, schemas, columns and batches of a dataframe.
+//! The data of a dataframe: cells, schemas, columns and batches.
 //!
-//! A [`Column`] is a list of cells of one kind, kept as a vector of values and a mark for each that says whether the
-//! value is there. A [`Batch`] is a schema and a list of rows, kept as columns. What callers rely on is that list: a
-//! push appends to it, a mask filters it, a cut takes its front. The definitions that all layers above speak of (rows,
-//! frames, streams, lists cut into pieces) stand in `specs/`.
+//! A [`Column`] holds cells of one kind, as a vector of values and a mark for each that says whether it is null. A [`Batch`] is a schema
+//! and rows, stored by column. To callers a batch is a list of rows: [`Batch::append`] adds rows at its end, [`Batch::keep`] filters it
+//! by a mask, and [`Batch::cut`] keeps its first rows. `specs/` defines what the crates above share: rows, frames, streams, and lists cut
+//! into pieces.
+//!
+//! - [`Kind`] and [`Cell`]: what a column may hold, and one value or null. [`Text`] is a cell's string.
+//! - [`Schema`]: 1 to [`MAX_COLUMNS`] distinct names, each with the kind of its column.
+//! - [`Array`] and [`Values`]: the values behind a column, to work on a whole column at a time.
+//! - [`Piece`]: rows, and the fault that ends them, if one does.
+//! - [`StepFault`], [`BatchFault`] and [`Memory`]: a rejected schema or step, columns that do not make a batch, a failed allocation.
+//! - [`cell_laws`] and [`stream_laws`]: laws of the definitions, proved for all values.
 #![tactic(auto)]
 
 mod arrays;

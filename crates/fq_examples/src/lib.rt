@@ -1,7 +1,9 @@
-//! Worked examples of the definitions: what they say of small inputs, each proved by computing both sides.
+//! Worked examples: what the definitions say about small inputs.
 //!
-//! No function here does anything; its clauses are the examples, and a definition that said something else of one of them
-//! would leave a clause unproved. There is a module for each crate whose definitions are tried.
+//! The functions do nothing. Each clause of theirs is an example, which the prover proves by computing both sides. If a definition said
+//! something else about an example, its clause would stay unproved.
+//!
+//! Each module has the examples of one part of the engine. `limits` has the limits of plans, files and runs as numbers.
 #![tactic(auto)]
 
 pub mod columns;

@@ -1,12 +1,19 @@
-//! Puts the items of several files back in order, and runs the work on them in threads.
+//! Runs work on the items of several files in threads, and puts the results back in order.
 //!
-//! A [`Sink`] takes items under their file and serial in any order, each less than [`SLOTS`] past the number of its file's
-//! items that it handed out, and hands them out by file, then serial. What it did is told by the list of events that it
-//! accepted: what may be handed out is a function of that list, and [`drive`] runs such a list. [`run_rounds`] reads the
-//! items of [`Feed`]s, one for each file, has [`Work`] done on them by several threads, and hands the answers through a sink
-//! to a [`Tail`]: whatever order the threads are done in, the tail takes the work on each item once, by file, then serial.
-//! [`run_lanes`] keeps the same contract with a thread for each feed and for each worker, which run freely and are linked
-//! with the caller's by lanes: [`Put`] and [`Take`] are a lane's ends.
+//! A [`Feed`] gives the items of one file, [`Work`] is done on each item, and a [`Tail`] takes the results. Whatever order the threads
+//! finish in, a tail takes the work on each item once, by file and then by serial, the item's number in its file; after a fault it has
+//! taken the first part of that. The crate knows nothing of CSV and frames.
+//!
+//! - [`run_lanes`]: gives each feed and each worker a thread of its own. Lanes, which are bounded rings, connect these threads with the
+//!   caller's: [`lane`] makes one, [`Put`] and [`Take`] are its ends.
+//! - [`run_rounds`]: keeps the same contract, but works in rounds. The caller's thread reads the feeds, and threads work the items of a
+//!   round.
+//! - [`Sink`]: accepts items in any order and returns them by file, then serial. A serial must be less than [`SLOTS`] past the number of
+//!   its file's items that the sink has returned. The list of [`Event`]s that it accepted determines what it may return; [`drive`] runs
+//!   such a list.
+//! - [`Gate`]: sees each result before it leaves its worker, and can hold the worker up. [`NoGate`] does nothing.
+//! - [`Report`], [`FeedFault`] and [`RunFault`]: how a run ends.
+//! - [`due_grows`], [`due_of_the_set`] and [`schedules_settle`]: laws of the definitions, proved for all values.
 #![tactic(auto)]
 
 mod drains;

@@ -1,7 +1,15 @@
-//! The plan language: plans as data, their reading from JSON, and what is wrong with a plan, for people.
+//! The plan language: plans as data, reading them from JSON, and explaining to people what is wrong with one.
 //!
-//! `read_plan` reads a plan from its JSON text; the language is written down in `specs/Spelling.antt`, and which plan the check
-//! refuses in `specs/Judged.antt`. This crate knows nothing of how a plan is run.
+//! [`read_plan`] reads a plan from JSON text. `specs/Spelling.antt` defines the language, and `specs/Judged.antt` defines which plans the
+//! check of `fq_plan` rejects. This crate knows nothing of runs.
+//!
+//! - [`Plan`], [`Source`] and [`Step`]: a plan as data.
+//! - [`PlanFault`], and [`CheckFault`] with its [`Place`]: why a text is not a plan, and why and where the check rejects one.
+//! - [`reason_of`] and `Plan::refusal`: the same for people, as a [`Reason`] and a [`Refusal`].
+//! - `Plan::step_text`: what a step is called in messages, as a [`StepText`].
+//! - `Plan::constant_comparisons` and `Plan::text_orders`: what is allowed but seldom meant, each a [`ConstantComparison`] or a
+//!   [`TextOrder`].
+//! - [`plans_of_both_versions`]: the law that a plan of version 1 is the same plan in version 2.
 #![tactic(auto)]
 
 mod constants;

@@ -1,7 +1,10 @@
-//! How the program frameq ends, and what it says then.
+//! How the program frameq ends, and what it tells its user.
 //!
-//! A [`Failure`] is why there is no frame, in one line, with its exit [`Status`]; [`write_details`] says more, and reads the files again for
-//! that. [`check_files`] and [`draft_of`] read files before a run.
+//! - [`Failure`]: why the program ends without a result. Its text is the line that goes to standard error, and it determines the exit
+//!   [`Status`]. [`report`] writes the line and returns the status.
+//! - [`write_details`]: what `--details` adds. It reads the files again, and uses what the run [`Learned`].
+//! - [`check_files`] and [`draft_of`]: what `--check` and `--draft` do.
+//! - [`open`], [`read_whole`] and [`split_line`]: open an input, read it whole, and split off its first line.
 #![tactic(auto)]
 
 mod details;

@@ -1,8 +1,16 @@
-//! Joins, groupings and rolling sums over batches that come one after another, and the schemas that they leave.
+//! Joins, groupings and rolling sums over batches that arrive one after another.
 //!
-//! A [`JoinTable`] keeps the right side of a join and is probed with one left batch after another. A [`Grouper`] takes
-//! one batch after another, and a [`Rolling`] one column, and both answer as if all had come in one. The definitions in
-//! `specs/` speak of whole lists of rows, with no batch and no hashed table.
+//! The results do not depend on how the rows are cut into batches. The definitions in `specs/` speak of whole lists of rows, and of
+//! neither batches nor hash tables.
+//!
+//! - [`JoinTable`]: the right side of a join, which left batches probe. It returns the rows of a [`Probe`], a left batch, in parts of
+//!   limited size. [`How`] is the type of join.
+//! - [`Grouper`]: takes batches, and returns the groups at the end, in the order of their first rows. [`Agg`], [`What`] and [`Function`]
+//!   are its aggregates, [`GroupFault`] says why there are no groups.
+//! - [`Rolling`]: takes columns, and returns the sums at their cells.
+//! - [`join_schema`], [`group_schema`] and [`roll_schema`]: the columns that an operator leaves, or why it is rejected.
+//! - [`join_needs`], [`group_needs`] and [`roll_needs`]: whether an operator needs a column of its rows.
+//! - [`join_laws`], [`groups_of_parts`] and the laws of needed columns: laws of the definitions, proved for all values.
 #![tactic(auto)]
 
 mod accumulators;

@@ -1,7 +1,15 @@
-//! What a plan over CSV files means, its check, and its runs.
+//! What a plan over CSV files means, its check, and its run.
 //!
-//! `read_plan` reads a plan from its JSON text; the plan language stands in `fq_language`. [`Check::check`] judges a plan and makes of it
-//! what a run does, and [`Checked::run`] runs it over the files. What a run comes to is the plan's meaning, `specs/Meaning.antt`.
+//! [`read_plan`] of `fq_language` reads a plan, [`Check::check`] rejects it or returns a [`Checked`] plan, and [`Checked::run`] runs that
+//! over files. `specs/Meaning.antt` defines what a plan means. A checked plan is a physical plan of `fq_run`, and the contract of a run
+//! says that it comes to what the plan means.
+//!
+//! - [`Check`] and [`Checked`]: the check, and what a run needs. Of the main source it keeps only the columns that the steps need.
+//! - `Checked::with_notations`: the same plan with decimals and dates in named columns. [`NotationFault`] says why it rejects a name.
+//! - [`meaning_of_items`], [`meaning_of_cut_files`], [`meaning_of_needed_columns`], [`meaning_without_notations`] and [`renamed_steps`]:
+//!   laws of the meaning, proved for all plans and files.
+//!
+//! The crate also exports what its callers need of `fq_csv`, `fq_expr`, `fq_lanes`, `fq_language` and `fq_run`.
 #![tactic(auto)]
 
 mod checks;

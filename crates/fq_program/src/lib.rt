@@ -1,8 +1,10 @@
-//! What the program frameq does, over inputs, files and outputs that are given to it.
+//! What the program frameq does, given its inputs, files and outputs.
 //!
-//! [`one_input`] is the program without arguments: the first line of its input is the plan, in JSON, and the bytes after it are
-//! the one CSV file. [`with_words`] is the program with arguments, a plan file over data files that an [`Opener`] opens. Each
-//! answers the exit status, which is a [`Status`]; if there is no frame, a [`Failure`] says why in one line, and `--details` says more.
+//! - [`one_input`]: the program without arguments. The first line of its input is the plan, in JSON, and the rest is the only CSV file.
+//! - [`with_words`]: the program with arguments. An [`Opener`] opens the plan file and the data files.
+//!
+//! Both return the exit status, the number of a [`Status`]. If there is no result, a [`Failure`] says why in one line, and `--details`
+//! adds more. Rejected arguments are reported as `clap` does.
 #![tactic(auto)]
 
 mod command_line;

@@ -1,8 +1,13 @@
-//! Runs of physical plans over CSV files: feeds read the files, workers take the leading row-wise steps, and a tail passes the rows
-//! through the stages and prints them.
+//! Runs physical plans over CSV files.
 //!
-//! A physical plan is a checked plan of `fq_plan` with its steps as operators. What it comes to is written down in
-//! `specs/Physical.antt`, without a word of the plan language.
+//! A [`PhysicalPlan`] is what the check of `fq_plan` makes of a plan: its sources, the leading row-wise steps, and a [`Stage`] for each
+//! [`Operator`] after them. In a run, a feed for each file cuts its text into runs of records, workers make a batch of each run and take
+//! the leading steps, and a tail passes the rows through the stages and prints them. `specs/Physical.antt` defines what a run comes to,
+//! without the plan language.
+//!
+//! - [`PhysicalPlan`]: `run` runs it, and `explain` returns its [`Explanation`], which `--explain` prints.
+//! - [`Fault`]: why a run has no result.
+//! - [`Worked`]: what a worker makes of an item, as a gate sees it.
 #![tactic(auto)]
 
 mod explanations;

@@ -1,7 +1,11 @@
-//! What is around a run of the program frameq: its arguments, the files that it opens, and the file that takes the frame.
+//! The surroundings of the program frameq: its arguments, the files that it opens, and the file that takes the result.
 //!
-//! [`Options`] are the program's arguments. An [`Opener`] opens files by name, and puts what was written in the
-//! place of one.
+//! - [`Options`]: the program's arguments. [`write_refusal`] says why arguments are rejected. [`BATCH_SIZE`] and [`WORKERS`] are
+//!   defaults.
+//! - [`Opener`]: opens files by name, and puts a finished result in the place of a file. [`SystemFiles`] opens the system's.
+//! - [`SystemOutput`]: what takes the result. A [`NewFile`] takes the place of another file, or leaves it as it was.
+//! - [`OpenFault`] and [`Unread`]: why a file is not opened, and why it is not read again.
+//! - [`Noted`]: a writer that remembers why its last failed write failed.
 #![tactic(auto)]
 
 mod descriptors;

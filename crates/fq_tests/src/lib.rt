@@ -1,7 +1,7 @@
-//! Tests of plans over files: what the program answers to each, beside the answer that is wanted.
+//! Tests of the program: plans over files, each with the expected result or fault, and what other arguments print.
 //!
-//! A plan is run at several batch sizes and numbers of workers, which all have to give the same answer, and, if it has one file and its
-//! text is one line, from standard input alone.
+//! Each plan runs at several batch sizes and numbers of workers, and the program must return the same at each. If a plan has one file and
+//! its text is one line, the program also runs it without arguments, from standard input. `cases` has these runs.
 #![tactic(auto)]
 
 #[cfg(test)]

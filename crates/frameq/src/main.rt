@@ -1,9 +1,9 @@
-//! frameq: a plan over CSV files.
+//! The program frameq: runs a plan over CSV files.
 //!
-//! With arguments, a plan file runs over data files: see `frameq --help`. Without arguments, the first line of standard input is the plan, in
-//! JSON, and the bytes after it are the one CSV file; if it is a terminal, the usage is shown. The frame goes to standard output, a line on
-//! standard error says why there is none, and the exit status says how the run ended. What is done stands in `fq_program`; here it meets the
-//! system.
+//! With arguments, a plan file runs over data files: see `frameq --help`. Without arguments, the first line of standard input is the
+//! plan, in JSON, and the rest is the only CSV file; if standard input is a terminal, the program shows its usage. The result goes to
+//! standard output, or to the file that `--output` names. If there is none, standard error says why, and the exit status tells how the
+//! run ended. `fq_program` does the work; this file connects it to the system.
 #![tactic(auto)]
 
 use fq_program::{Failure, Noted, SystemFiles, one_input, report, with_words};

@@ -1,8 +1,8 @@
-//! The orders and cents of each region, from a CSV file on standard input.
+//! Prints the orders and cents of each region in a CSV file on standard input.
 //!
-//! This program shows how to call the libraries without the plan language and without threads: docs/LIBRARY.md explains
-//! it. A file is scanned in batches. Of each batch the orders that were not returned are kept and priced, and added to the
-//! groups. At the end the groups are printed.
+//! This program shows how to call the libraries without the plan language and without threads; docs/LIBRARY.md explains it. It scans the
+//! file in batches. From each batch it keeps the orders that were not returned, computes their cents, and adds them to the groups. At the
+//! end it prints the groups.
 #![tactic(auto)]
 
 ghost use Rattle.std.specs.Prelude.{◌≡◌, ◌++◌, ℕ, List, [], Some, None, Err, codes, string_bytes, IfOk, IfSome, OnOk};
