@@ -1,27 +1,31 @@
-"""Keeps the figures of bench/program.py in a file, and draws them as two SVG pictures: beside peers, and by workers.
+#!/usr/bin/env python3
+"""Draws the pictures of the pages.
 
-Figures are a dictionary: `note` is a text on how they were measured, and `tables` a list. A table has the name of a `task` and
-its `programs`, each with its `name`, its `seconds` and what else was measured. The same figures always draw the same bytes.
+    bench/pictures.py [FOLDER]     draws overview.svg, trust.svg, and speed.svg from figures.json [docs]
+
+bench/program.py saves the figures: `note` says how they were measured, and each of `tables` has a `task` and its `programs`, with their
+`name`, `seconds` and what else was measured. The same figures always draw the same bytes.
 """
+import argparse
 import json
 import math
 import os
 import re
-from collections import namedtuple
+import textwrap
 from xml.sax.saxutils import escape
 
+ROOT = os.path.dirname(os.path.dirname(os.path.abspath(__file__)))
 DEFAULT = "frameq, 2 workers"
-WIDTH = 900
-LABELS = 340  # the column with the names of the tasks
-RIGHT = 70  # room for the figure behind the longest bar
-BAR, BETWEEN_BARS, BETWEEN_TASKS = 14, 2, 16
-INK, FAINT, PAPER, FRAME = "#1f2328", "#d8dee4", "#ffffff", "#d0d7de"
-# Colours that remain distinct for readers who are colour-blind (Okabe and Ito), frameq's first; and one colour in steps.
-PROGRAM_COLOURS = ["#0072b2", "#e69f00", "#009e73", "#cc79a7", "#56b4e9", "#d55e00", "#999999"]
-WORKER_COLOURS = ["#9ecae1", "#3f8fc5", "#08519c", "#041f42"]
+# The tasks of speed.svg.
+SHOWN = ("filter and a computed column", "group by one of 1,000 texts: sum, count, min", "left join with a small file on a text")
 
-# A picture of bars: for each task a list of pairs, a series and its seconds.
-Chart = namedtuple("Chart", "title note series colours tasks")
+WIDTH = 900
+SANS, MONO = "Helvetica, Arial, sans-serif", "Menlo, Consolas, monospace"
+INK, GREY, FAINT, PAPER, EDGE = "#1f2328", "#59636e", "#d8dee4", "#ffffff", "#d0d7de"
+# Colours that colour-blind readers can tell apart (Okabe and Ito), and pale ones to write on.
+BLUE, ORANGE, GREEN, RED = "#0072b2", "#e69f00", "#009e73", "#d55e00"
+OTHERS = (ORANGE, GREEN, "#cc79a7", "#56b4e9", RED, "#999999")
+PALE_BLUE, PALE_GREEN, PALE_ORANGE, PALE_GREY = "#e6f1f8", "#e5f5f0", "#fdf3e0", "#f3f4f6"
 
 
 # ---- figures
@@ -41,110 +45,171 @@ def load(path):
         return json.load(file)
 
 
-# ---- what the pictures show
+# ---- shapes
 
-def workers_of(name):
-    """The number of workers in the name of a frameq, or None."""
-    match = re.search(r", (\d+) workers?$", name)
-    return match and int(match[1])
-
-
-def chart_of(figures, title, shown, series_of, colours):
-    """A chart of the programs that are `shown`, each of which stands for a series."""
-    tasks = [(table["task"], [(series_of(program), program["seconds"]) for program in table["programs"] if shown(program["name"])])
-             for table in figures["tables"]]
-    series = list(dict.fromkeys(one for _, bars in tasks for one, _ in bars))
-    return Chart(title, figures["note"], series, dict(zip(series, colours)), tasks)
+def text(x, y, words, anchor="start", size=13, weight="normal", fill=INK, font=SANS):
+    return (f'<text x="{x:g}" y="{y:g}" text-anchor="{anchor}" font-family="{font}" font-size="{size}" font-weight="{weight}" '
+            f'fill="{fill}" xml:space="preserve">{escape(words)}</text>')
 
 
-def with_version(program):
-    """The name of a program with its version, if that is known."""
-    name, version = program["name"], program.get("version")
-    return f"{name} ({version.removeprefix(name + ' ')})" if version else name
+def lines(x, y, all_words, step=19, **how):
+    """Lines of text, one below the other."""
+    return [text(x, y + number * step, words, **how) for number, words in enumerate(all_words)]
 
 
-def speed_chart(figures):
-    """Each task: frameq at its default number of workers, and the other programs."""
-    shown = lambda name: workers_of(name) in (None, workers_of(DEFAULT))
-    return chart_of(figures, "Time of whole plans, beside other programs", shown, with_version, PROGRAM_COLOURS)
+def rectangle(x, y, width, height, fill, stroke="none", corner=0):
+    return f'<rect x="{x:g}" y="{y:g}" width="{width:g}" height="{height:g}" rx="{corner}" fill="{fill}" stroke="{stroke}"/>'
 
 
-def workers_chart(figures):
-    """Each task: frameq at each number of workers."""
-    series_of = lambda program: program["name"].removeprefix("frameq, ")
-    return chart_of(figures, "Time of whole plans in frameq, by number of workers", lambda name: re.match(r"frameq, \d+ worker", name),
-                    series_of, WORKER_COLOURS)
+def arrow(x, y, to_x, to_y, stroke=GREY):
+    """A line that ends in a head."""
+    angle = math.atan2(to_y - y, to_x - x)
+    at = lambda turn: f"{to_x - 9 * math.cos(angle + turn):.1f},{to_y - 9 * math.sin(angle + turn):.1f}"
+    return (f'<path d="M{x:g},{y:g} L{to_x:g},{to_y:g} M{at(0.5)} L{to_x:g},{to_y:g} L{at(-0.5)}" '
+            f'fill="none" stroke="{stroke}" stroke-width="2"/>')
 
 
-def description(chart):
-    """The figures of a chart in words, for readers who cannot see it."""
-    lines = [f"{task}: " + ", ".join(f"{series} {seconds:.2f} s" for series, seconds in bars) for task, bars in chart.tasks]
-    return f"Bar chart of seconds by task; a shorter bar is faster. {chart.note}. " + "; ".join(lines) + "."
-
-
-# ---- drawing
-
-def text(x, y, words, anchor="start", size=13, weight="normal"):
-    return f'<text x="{x:g}" y="{y:g}" text-anchor="{anchor}" font-size="{size}" font-weight="{weight}" fill="{INK}">{escape(words)}</text>'
-
-
-def rectangle(x, y, width, height, fill):
-    return f'<rect x="{x:g}" y="{y:g}" width="{width:g}" height="{height:g}" fill="{fill}"/>'
-
-
-def tick_step(longest):
-    """The distance of the axis's ticks: 1, 2 or 5 times a power of ten, so that there are 4 to 10 of them."""
-    power = 10 ** math.floor(math.log10(longest / 4))
-    return next(step for step in (5 * power, 2 * power, power) if longest / step >= 4 or step == power)
-
-
-def drawn(chart):
-    """The text of the SVG."""
-    longest = max(seconds for _, bars in chart.tasks for _, seconds in bars)
-    step = tick_step(longest)
-    end = math.ceil(round(longest / step, 6)) * step
-    at = lambda seconds: round(LABELS + seconds * (WIDTH - LABELS - RIGHT) / end, 1)
-
-    parts = [text(20, 32, chart.title, size=18, weight="bold"), text(20, 54, chart.note, size=12)]
-    x, y = 20, 68
-    for series in chart.series:
-        width = 30 + 7 * len(series)
-        if x + width > WIDTH:
-            x, y = 20, y + 20
-        parts += [rectangle(x, y, 12, 12, chart.colours[series]), text(x + 18, y + 11, series)]
-        x += width + 10
-
-    top = y + 44
-    heights = [len(bars) * (BAR + BETWEEN_BARS) + BETWEEN_TASKS for _, bars in chart.tasks]
-    bottom = top + sum(heights)
-    for number in range(round(end / step) + 1):
-        x = at(number * step)
-        parts += [rectangle(x, top, 1, bottom - top, FAINT), text(x, bottom + 18, f"{number * step:g}", "middle")]
-    y = top
-    for (task, bars), height in zip(chart.tasks, heights):
-        parts.append(text(LABELS - 10, y + height / 2 + 4, task, "end"))
-        for number, (series, seconds) in enumerate(bars):
-            bar_top = y + BETWEEN_TASKS / 2 + number * (BAR + BETWEEN_BARS)
-            parts += [rectangle(LABELS, bar_top, round(at(seconds) - LABELS, 1), BAR, chart.colours[series]),
-                      text(at(seconds) + 5, bar_top + BAR - 3, f"{seconds:.2f}", size=11)]
-        y += height
-    parts += [rectangle(LABELS, top, 1, bottom - top, INK),
-              text(LABELS - 10, top - 2, "task", "end", weight="bold"),
-              text((LABELS + WIDTH - RIGHT) / 2, bottom + 40, "seconds (shorter is faster)", "middle", weight="bold")]
-
-    height = bottom + 56
+def picture(title, description, height, parts):
+    """The text of an SVG, on paper of its own, for pages that are light or dark."""
     return "\n".join([
-        f'<svg xmlns="http://www.w3.org/2000/svg" viewBox="0 0 {WIDTH} {height}" width="{WIDTH}" height="{height}"'
-        ' role="img" aria-labelledby="title description" font-family="Helvetica, Arial, sans-serif">',
-        f'<title id="title">{escape(chart.title)}</title>',
-        f'<desc id="description">{escape(description(chart))}</desc>',
-        f'<rect x="0.5" y="0.5" width="{WIDTH - 1}" height="{height - 1}" rx="8" fill="{PAPER}" stroke="{FRAME}"/>',
+        f'<svg xmlns="http://www.w3.org/2000/svg" viewBox="0 0 {WIDTH} {height:g}" width="{WIDTH}" height="{height:g}"'
+        ' role="img" aria-labelledby="title description">',
+        f'<title id="title">{escape(title)}</title>',
+        f'<desc id="description">{escape(description)}</desc>',
+        rectangle(0.5, 0.5, WIDTH - 1, height - 1, PAPER, EDGE, 8),
         *parts, "</svg>", ""])
 
 
+# ---- the speed beside other programs
+
+def factors(table):
+    """How many times the seconds of frameq each program takes on a task, the least first; or None if frameq was not timed."""
+    seconds = {program["name"]: program["seconds"] for program in table["programs"]}
+    own = seconds.get(DEFAULT)
+    others = {name: taken for name, taken in seconds.items() if not re.search(r", \d+ workers?$", name)}
+    return own and sorted([("frameq", 1.0), *((name, taken / own) for name, taken in others.items())], key=lambda one: one[1])
+
+
+def versions(figures):
+    """The other programs with their versions, each once."""
+    found = {program["name"]: re.search(r"\d+(\.\d+)+( with .*)?", program.get("version") or "")
+             for table in figures["tables"] for program in table["programs"] if not re.search(r", \d+ workers?$", program["name"])}
+    return ", ".join(f"{name} {version[0]}" if version else name for name, version in found.items())
+
+
+def speed(figures):
+    """The times of three tasks as multiples of frameq's. The axis is logarithmic, so that near 1 the programs stand apart."""
+    tables = [table for table in figures["tables"] if table["task"] in SHOWN] or figures["tables"][:3]
+    rows = [(table["task"], factors(table)) for table in tables if factors(table)]
+    names = list(dict.fromkeys(name for _, row in rows for name, _ in row if name != "frameq"))
+    colours = {"frameq": BLUE, **{name: OTHERS[number % len(OTHERS)] for number, name in enumerate(names)}}
+    ends = [factor for _, row in rows for _, factor in row]
+    first, last = math.floor(math.log2(min(ends))), math.log2(max(ends)) + 0.3
+    left, right, top, tall = 296, WIDTH - 40, 58, 52
+    bottom = top + tall * len(rows)
+    at = lambda factor: round(left + (math.log2(factor) - first) * (right - left) / (last - first), 1)
+
+    title = "Time of whole plans, as multiples of frameq's"
+    parts = [text(20, 30, title, size=17, weight="bold"),
+             text(20, 50, "frameq with 2 workers = 1; left is faster, and each mark is twice the one before", size=12, fill=GREY)]
+    marks = [2.0 ** power for power in range(first, math.floor(last) + 1)]
+    parts += [text(at(mark), bottom + 16, f"{mark:g}", "middle", size=12, fill=GREY) for mark in marks]
+    for number, (task, row) in enumerate(rows):
+        y = top + tall * (number + 0.5)
+        words = textwrap.wrap(task, 28)
+        parts += lines(left - 46, y + 5 - 8.5 * (len(words) - 1), words, 17, anchor="end")
+        parts.append(rectangle(left - 10, y - 0.5, right - left + 20, 1, FAINT))
+        parts += [rectangle(at(mark) - 0.5, y - 6, 1, 12, GREY) for mark in marks]
+        for place, (name, factor) in enumerate(row):
+            label = name if name == "frameq" else f"{name} {factor:.1f}"
+            parts += [f'<circle cx="{at(factor):g}" cy="{y:g}" r="6" fill="{colours[name]}"/>',
+                      text(at(factor), y + 20 if place % 2 else y - 11, label, "middle", 12, "bold" if name == "frameq" else "normal")]
+    parts += lines(20, bottom + 40, [f"{figures['note']}.", f"{versions(figures)}."], 16, size=11, fill=GREY)
+    said = "; ".join(f"{task}: " + ", ".join(f"{name} {factor:.1f}" for name, factor in row) for task, row in rows)
+    description = f"Dots on a logarithmic axis: the time of each program divided by frameq's with 2 workers. {said}. {figures['note']}."
+    return picture(title, description, bottom + 70, parts)
+
+
+# ---- what goes in and what comes out
+
+def sheet(x, y, width, title, all_words, fill, stroke, height):
+    """A box with a heading and lines of fixed width."""
+    return [rectangle(x, y, width, height, fill, stroke, 5), text(x + 12, y + 22, title, weight="bold"),
+            *lines(x + 12, y + 42, all_words, 16, size=11, font=MONO)]
+
+
+def overview():
+    """From a plan and CSV files to a report or a fault."""
+    title = "A plan and CSV files go in; a report or one fault comes out"
+    parts = [
+        text(20, 30, title, size=17, weight="bold"),
+        *sheet(20, 50, 250, "a plan, in JSON or Python",
+               ["filter    not returned", "compute   units * unit_cents", "group by  month, region"], PALE_GREY, EDGE, 88),
+        rectangle(32, 158, 250, 78, PALE_GREY, EDGE, 5), rectangle(26, 164, 250, 78, PALE_GREY, EDGE, 5),
+        *sheet(20, 170, 250, "CSV files", ["month,region,product,units,..", "2024-01,north,kettle,3,.."], PALE_GREY, EDGE, 78),
+        arrow(272, 96, 338, 128), arrow(284, 200, 338, 172),
+        rectangle(342, 92, 186, 116, PALE_BLUE, BLUE, 5), text(435, 124, "frameq", "middle", 16, "bold", BLUE),
+        *lines(435, 150, ["checks the plan", "reads every field", "runs the steps"], anchor="middle"),
+        arrow(530, 128, 596, 98, GREEN), arrow(530, 172, 596, 206, RED),
+        *sheet(600, 50, 280, "the whole report",
+               ["month,region,orders,units,cents,..", "2024-01,north,2,4,11469,..", "2024-01,south,1,1,2490,.."], PALE_GREEN, GREEN, 88),
+        text(740, 157, "or", "middle", fill=GREY),
+        *sheet(600, 170, 280, "no report, and one fault by name", ["frameq: file 1, row 3, column 3:", "bad cell"], PALE_ORANGE, RED, 78),
+    ]
+    description = ("A plan, in JSON or Python, and CSV files lead into frameq. It checks the plan, reads every field and runs the steps. "
+                   "Two arrows lead out: one to the whole report, the other to no report and one fault by name, such as "
+                   "frameq: file 1, row 3, column 3: bad cell.")
+    return picture(title, description, 268, parts)
+
+
+# ---- what is proved, tested and trusted
+
+TRUSTED = (("the definitions", "say what users want"), ("the prover", "and its logic"), ("the compiler", "(LLVM)"),
+           ("the standard library", "and the ported crates"), ("the C library and the", "operating system"))
+
+
+def trust():
+    """What is proved and what is tested, on top of what is trusted."""
+    title = "What is proved, tested and trusted"
+    proved = ["what a successful run prints is what the plan means", "a fault is the one that the plan and its files have",
+              "a run that ends in such a fault prints nothing", "no panic, no overflow, no index out of range"]
+    tested = ["a run ends (also model-checked)", "--workers and --batch reach the run", "the wording of --check, --draft and --details",
+              "the Python package, and plans as SQL"]
+    parts = [text(20, 30, title, size=17, weight="bold"),
+             rectangle(20, 46, 480, 126, PALE_GREEN, GREEN, 5),
+             text(34, 70, "Proved, for every input, batch size and interleaving", weight="bold"),
+             *lines(34, 94, proved, 20),
+             rectangle(512, 46, 368, 126, PALE_ORANGE, ORANGE, 5), text(526, 70, "Only tested", weight="bold"),
+             *lines(526, 94, tested, 20),
+             rectangle(20, 184, 860, 92, PALE_GREY, EDGE, 5), text(34, 206, "Trusted: all of this rests on it", weight="bold")]
+    for number, words in enumerate(TRUSTED):
+        x = 34 + number * 168
+        parts += [rectangle(x, 216, 160, 48, PAPER, GREY, 3), *lines(x + 80, 237, words, 17, anchor="middle", size=12)]
+    description = (f"Two boxes stand on a row of five. Proved, for every input, batch size and interleaving: {'; '.join(proved)}. "
+                   f"Only tested: {'; '.join(tested)}. Trusted: {'; '.join(' '.join(words) for words in TRUSTED)}.")
+    return picture(title, description, 288, parts)
+
+
+# ---- files
+
+def write(folder, name, drawn):
+    with open(os.path.join(folder, name), "w", encoding="utf-8") as file:
+        file.write(drawn)
+
+
 def draw(path):
-    """Draws the figures in a file, as `speed.svg` and `workers.svg` in its folder."""
-    figures = load(path)
-    for name, chart in (("speed.svg", speed_chart(figures)), ("workers.svg", workers_chart(figures))):
-        with open(os.path.join(os.path.dirname(path), name), "w", encoding="utf-8") as file:
-            file.write(drawn(chart))
+    """Draws the figures in a file, as `speed.svg` in its folder."""
+    write(os.path.dirname(path), "speed.svg", speed(load(path)))
+
+
+def main():
+    parser = argparse.ArgumentParser(description=__doc__.splitlines()[0])
+    parser.add_argument("folder", nargs="?", default=os.path.join(ROOT, "docs"), help="with figures.json, where the pictures go [docs]")
+    folder = parser.parse_args().folder
+    draw(os.path.join(folder, "figures.json"))
+    write(folder, "overview.svg", overview())
+    write(folder, "trust.svg", trust())
+
+
+if __name__ == "__main__":
+    main()

@@ -7,8 +7,8 @@
 Inputs are made first, the same at each call. In each round every program runs once on each task, one after another; the
 first round is not timed, and there the answers are compared, as sets of rows. Peers: another frameq (--other), mawk, Miller,
 SQLite, pandas, and R's data.table, if they are installed. With --beside N the timed rounds run beside N processes that never
-rest; under `taskset -c 0` all run on one core. The figures can be saved as JSON and are then drawn beside it, as speed.svg and
-workers.svg; --draw draws saved figures again and runs nothing.
+rest; under `taskset -c 0` all run on one core. The figures can be saved as JSON, and three of the tasks are then drawn beside it, as
+speed.svg; --draw draws saved figures again and runs nothing.
 """
 import argparse
 import contextlib
@@ -315,7 +315,7 @@ class Program:
     name: str
     version: str
     words: Callable[[str, Task], List[str]]
-    does: Callable[[Task], bool] = lambda task: True
+    does: Callable[[Task], object] = lambda task: True
 
 
 def first_line(words):
@@ -386,7 +386,7 @@ def pandas():
         python = os.path.join(folder, "python3")
         version = os.access(python, os.X_OK) and first_line([python, "-c", "import pandas; print(pandas.__version__)"])
         if version:
-            words = lambda key, task: [python, "-c", f"{PANDAS_START}{task.pandas}\n{PANDAS_END}"]
+            words = lambda key, task, python=python: [python, "-c", f"{PANDAS_START}{task.pandas}\n{PANDAS_END}"]
             return Program("pandas", version, words, lambda task: task.pandas)
     return None
 
@@ -522,7 +522,7 @@ def arguments():
     parser.add_argument("--program", help="the frameq to time [the one that tools/build builds]")
     parser.add_argument("--other", metavar="PATH", help="another frameq to time in the same rounds")
     parser.add_argument("--beside", type=int, default=0, metavar="N", help="time beside N busy processes [0]")
-    parser.add_argument("--save", metavar="FILE", help="save the figures as JSON, and draw them as speed.svg and workers.svg in its folder")
+    parser.add_argument("--save", metavar="FILE", help="save the figures as JSON, and draw speed.svg in its folder")
     parser.add_argument("--draw", metavar="FILE", help="only draw figures that were saved")
     return parser.parse_args()
 
