@@ -100,7 +100,8 @@ def make_weekly_activity():
     users = [[user, f"{draw.choice(FIRST)} {draw.choice(LAST)}", draw.choice(TEAMS), draw.choice(PLANS)] for user in range(1, USERS + 1)]
     write("weekly_activity", "users.csv", ["user", "name", "team", "plan"], users)
     # Users on the free plan have no plan; nothing is known of the plan "trial".
-    write("weekly_activity", "plans.csv", ["plan", "label", "monthly_cents"], [["", "Free", 0], ["team", "Team", 1200], ["business", "Business", 2900]])
+    plans = [["", "Free", 0], ["team", "Team", 1200], ["business", "Business", 2900]]
+    write("weekly_activity", "plans.csv", ["plan", "label", "monthly_cents"], plans)
     quiet = set(draw.sample(range(1, USERS + 1), 18))
     active = [user for user in range(1, USERS + 1) if user not in quiet]
     invited = draw.sample(active, 25)

@@ -143,8 +143,10 @@ def fault_of_files(names, columns, nulls=()):
 
 def export_cleaning():
     documented = {"order": "int", "day": "text", "customer": "text", "country": "text", "units": "int", "unit_cents": "int", "paid": "bool"}
-    exported = {"Order no": "int", "Day": "text", "Customer": "text", "Country": "text", "Units": "int", "Unit price": "int", "Paid": "bool"}
-    with_text = {**exported, "Paid": "text"}
+    with_text = {
+        "Order no": "int", "Day": "text", "Customer": "text", "Country": "text", "Units": "int", "Unit price": "int", "Paid": "text",
+    }
+    exported = {**with_text, "Paid": "bool"}
     expect_fault("export_cleaning/1_header", 4, fault_of_files(EXPORT, documented))
     expect_fault("export_cleaning/2_paid", 4, fault_of_files(EXPORT, exported))
     # The check of a plan comes before its files are read, and step 1 is a filter by a text.
@@ -158,7 +160,10 @@ def export_cleaning():
     assert sum(product > LARGEST for product in products) == 1
     expect_fault("export_cleaning/7_overflow", 4, "step 2, item 0: overflow")
 
-    kinds = {"order_no": "INTEGER", "day": "TEXT", "customer": "TEXT", "country": "TEXT", "units": "INTEGER", "unit_cents": "INTEGER", "paid": "TEXT"}
+    kinds = {
+        "order_no": "INTEGER", "day": "TEXT", "customer": "TEXT", "country": "TEXT", "units": "INTEGER", "unit_cents": "INTEGER",
+        "paid": "TEXT",
+    }
     database = sqlite3.connect(":memory:")
     load(database, "april", "export_cleaning", ["april.csv"], {column: "TEXT" for column in kinds})
     load(database, "orders", "export_cleaning", CORRECTED, kinds, {*MARKS, str(LARGEST)})
@@ -172,8 +177,9 @@ def export_cleaning():
         SELECT country AS spelling, count(*) AS rows, min(order_no) AS first_order FROM orders
         WHERE country IS NOT NULL AND country NOT IN (SELECT spelling FROM listed) GROUP BY country ORDER BY min(row)""")
     # Two rows are one order where all of their fields are the same; here this is so exactly where their numbers are.
+    different = "SELECT DISTINCT order_no, day, customer, country, units, unit_cents, paid FROM orders"
     assert database.execute("SELECT count(DISTINCT order_no) FROM orders").fetchone() == \
-        database.execute("SELECT count(*) FROM (SELECT DISTINCT order_no, day, customer, country, units, unit_cents, paid FROM orders)").fetchone()
+        database.execute(f"SELECT count(*) FROM ({different})").fetchone()
     expect_frame("export_cleaning/9_report", database, """
         SELECT s.country, count(*) AS orders, count(units * unit_cents) AS counted, ifnull(sum(units), 0) AS units,
                ifnull(sum(units * unit_cents), 0) AS cents
