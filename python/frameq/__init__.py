@@ -15,6 +15,9 @@ number of threads, or it is one fault by name.
 """
 from typing import NoReturn as _NoReturn
 
+# The version of the program and of the Python package, which pyproject.toml takes from here. tests/manual compares it with the program's.
+__version__ = "0.1.0"
+
 from ._expressions import Expr, all, col, lit
 from ._expressions import length as len
 from ._faults import (
@@ -53,7 +56,14 @@ from ._kinds import Boolean, Date, Decimal, Int64, Kind, String, Utf8
 from ._program import run_plan
 from ._results import DataFrame
 
-__all__ = [name for name in dir() if not name.startswith("_")]
+__all__ = [
+    "ArgumentsError", "BadCellError", "Boolean", "ColumnNotFoundError", "DataFrame", "Date", "Decimal", "DuplicateError", "Expr",
+    "FileError", "FrameqError", "GroupBy", "HeaderError", "InputsError", "Int64", "JoinRowsError", "Kind", "LazyFrame", "MemoryError",
+    "MinSamplesError", "NoColumnError", "NoSuchSourceError", "NotBooleanError", "OverflowError", "PlanError", "PlanJsonError",
+    "PlanShapeError", "ProgramNotFoundError", "ReadError", "RollingSumRangeError", "String", "SumRangeError", "TooManyColumnsError",
+    "TooManyRowsError", "UnsupportedError", "Utf8", "WidthError", "WindowError", "WriteError", "WrongKindError", "all", "col", "len", "lit",
+    "run_plan", "scan_csv",
+]
 
 # What Polars has and this package has not, and what to do instead.
 _INSTEAD = {

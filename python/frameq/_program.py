@@ -8,7 +8,7 @@ import subprocess
 import sys
 import tempfile
 import warnings
-from typing import IO, Iterator, List, Mapping, NamedTuple, NoReturn, Optional, Sequence, Tuple, Union
+from typing import IO, Any, Dict, Iterator, List, Mapping, NamedTuple, NoReturn, Optional, Sequence, Tuple, Union
 
 from ._faults import ArgumentsError, PlanJsonError, ProgramNotFoundError, UnsupportedError, fault
 from ._kinds import AnyKind, Kind, Notation, Notations, Schema, is_unicode, kind_of_type, schema_of
@@ -17,6 +17,8 @@ from ._progress import open_screen, run_shown
 from ._results import DataFrame, read_frame
 
 Path = Union[str, "os.PathLike[str]"]
+# The file of a plan, or its JSON object.
+Plan = Union[Path, Dict[str, Any]]
 
 _PACKAGE = os.path.dirname(os.path.abspath(__file__))
 _REPOSITORY = os.path.dirname(os.path.dirname(_PACKAGE))
@@ -63,8 +65,18 @@ def run_inside() -> NoReturn:
     os.execv(_INSIDE, ["frameq", *sys.argv[1:]])
 
 
+def run_found() -> NoReturn:
+    """The command `python -m frameq`: the program that this package finds takes the place of this process. If there is none, or it doesn't
+    run on this machine, one line says so, and the exit status is 1.
+    """
+    try:
+        os.execv(find_program(), ["frameq", *sys.argv[1:]])
+    except OSError as error:
+        sys.exit(f"frameq: {error}")
+
+
 @contextlib.contextmanager
-def _plan_file(plan: Union[Path, dict]) -> Iterator[str]:
+def _plan_file(plan: Plan) -> Iterator[str]:
     """The file of a plan; that of an object is there for a while."""
     if not isinstance(plan, dict):
         yield os.path.abspath(os.fspath(plan))
@@ -79,21 +91,23 @@ def _plan_file(plan: Union[Path, dict]) -> Iterator[str]:
         yield path
 
 
-def _plan_object(plan: Union[Path, dict]) -> Optional[dict]:
+def _plan_object(plan: Plan) -> Optional[Dict[str, Any]]:
     """The JSON object of a plan, if it is one."""
     if isinstance(plan, dict):
         return plan
     try:
         with open(plan, encoding="utf-8") as file:
-            return json.load(file)
+            given = json.load(file)
     except (OSError, ValueError, RecursionError):
         return None
+    return given if isinstance(given, dict) else None
 
 
 def names_of_files(given: Union[Path, Sequence[Path]], call: str) -> List[str]:
     """The names of files, of one or of several. UnsupportedError says that one is no name."""
     is_one = isinstance(given, (str, bytes, os.PathLike)) or hasattr(given, "read")
-    names = [os.fspath(file) if isinstance(file, os.PathLike) else file for file in ([given] if is_one else given)]
+    files: Any = [given] if is_one else given
+    names = [os.fspath(file) if isinstance(file, os.PathLike) else file for file in files]
     if not all(isinstance(name, str) for name in names):
         raise UnsupportedError(f"{call} takes names of files, and no open file or bytes; the name - is standard input")
     for name in names:
@@ -116,7 +130,7 @@ def word_of_file(file: str) -> str:
 
 
 def _run(
-    plan: Union[Path, dict],
+    plan: Plan,
     words: Sequence[str],
     files: Sequence[str],
     calls: Sequence[str],
@@ -134,7 +148,7 @@ def _run(
 
 
 def _answer(
-    plan: Union[Path, dict], words: Sequence[str], files: Sequence[str], settings: Settings, out: Union[int, IO[bytes]]
+    plan: Plan, words: Sequence[str], files: Sequence[str], settings: Settings, out: Union[int, IO[bytes]]
 ) -> Tuple[int, bytes, str]:
     """Runs the program: its exit status, what it wrote if that is not written elsewhere, and what it said."""
     program = find_program(settings.program)
@@ -146,7 +160,7 @@ def _answer(
         return _ran(command, out, settings.progress)
 
 
-def printed(plan: Union[Path, dict], words: Sequence[str], files: Sequence[str], settings: Settings) -> Tuple[int, bytes, str]:
+def printed(plan: Plan, words: Sequence[str], files: Sequence[str], settings: Settings) -> Tuple[int, bytes, str]:
     """Runs the program: its exit status, what it printed, and what it said."""
     with tempfile.TemporaryFile() as out:
         status, _, said = _answer(plan, words, files, settings, out)
@@ -171,13 +185,13 @@ def _ran(command: List[str], out: Union[int, IO[bytes]], progress: bool) -> Tupl
 
 # Here `words` are the arguments that say how columns are written.
 
-def explain(plan: dict, words: Sequence[str], calls: Sequence[str], program: Optional[Path]) -> str:
+def explain(plan: Dict[str, Any], words: Sequence[str], calls: Sequence[str], program: Optional[Path]) -> str:
     """What the program says of a plan."""
     return _run(plan, ["--explain", *words], [], calls, Settings(program=program), subprocess.PIPE).decode("utf-8")
 
 
 def collect(
-    plan: Union[Path, dict], words: Sequence[str], files: Sequence[str], schema: Optional[Schema], calls: Sequence[str], settings: Settings
+    plan: Plan, words: Sequence[str], files: Sequence[str], schema: Optional[Schema], calls: Sequence[str], settings: Settings
 ) -> DataFrame:
     """The frame that a plan makes of files."""
     with tempfile.TemporaryFile() as out:
@@ -186,13 +200,13 @@ def collect(
         return read_frame(out.read(), schema)
 
 
-def sink(plan: dict, words: Sequence[str], files: Sequence[str], path: str, calls: Sequence[str], settings: Settings) -> None:
+def sink(plan: Dict[str, Any], words: Sequence[str], files: Sequence[str], path: str, calls: Sequence[str], settings: Settings) -> None:
     """Has the program put what a plan makes of files in the place of a file."""
     _run(plan, ["--output", os.path.abspath(path), *words], files, calls, settings, subprocess.DEVNULL)
 
 
 def run_plan(
-    plan: Union[Path, dict],
+    plan: Plan,
     files: Sequence[Path],
     *,
     schema: Optional[Mapping[str, AnyKind]] = None,
