@@ -9,6 +9,7 @@ one worker a task on 4 threads and on 4 processes. All have to write the same. I
 """
 import argparse
 import filecmp
+import functools
 import os
 import shutil
 import statistics
@@ -22,7 +23,7 @@ import program
 ROOT = os.path.dirname(os.path.dirname(os.path.abspath(__file__)))
 sys.path.insert(0, os.path.join(ROOT, "python"))
 
-import frameq as fq  # noqa: E402
+import frameq as fq
 
 SALES = {"id": fq.Int64, "region": fq.String, "quantity": fq.Int64, "cents": fq.Int64}
 # The bytes of a row, about.
@@ -74,7 +75,7 @@ def compare(report, parts, pairs, runs, room):
         for _ in range(runs):
             for way, run in ways.items():
                 result = os.path.join(room, way)
-                taken.setdefault(way, []).append(seconds(lambda: run(result)))
+                taken.setdefault(way, []).append(seconds(functools.partial(run, result)))
                 results.append(result)
     if not all(filecmp.cmp(results[0], result, shallow=False) for result in set(results)):
         sys.exit(f"{report}: the answers differ")

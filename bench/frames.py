@@ -10,6 +10,7 @@ own.
 """
 import argparse
 import csv
+import importlib
 import os
 import statistics
 import subprocess
@@ -22,7 +23,7 @@ import program
 ROOT = os.path.dirname(os.path.dirname(os.path.abspath(__file__)))
 sys.path.insert(0, os.path.join(ROOT, "python"))
 
-import frameq as fq  # noqa: E402
+import frameq as fq
 
 SALES = {"id": fq.Int64, "region": fq.String, "quantity": fq.Int64, "cents": fq.Int64}
 VISITS = {
@@ -55,7 +56,7 @@ def collect(path, schema):
     return fq.scan_csv(path, schema=schema).collect()
 
 
-CALLS = {
+CALLS: dict = {
     "csv.reader, none kept": go_over_csv,
     "csv.reader": read_by_csv,
     "collect()": collect,
@@ -78,7 +79,7 @@ def call_once(call, path, name):
     """Prints the seconds of a call. What it imports is imported before."""
     if "pandas" in call:
         try:
-            import pandas  # noqa: F401
+            importlib.import_module("pandas")
         except ImportError:
             return
     began = time.perf_counter()
@@ -108,7 +109,8 @@ def main():
     parser.add_argument("--call", nargs=3, help=argparse.SUPPRESS)
     given = parser.parse_args()
     if given.call:
-        return call_once(*given.call)
+        call_once(*given.call)
+        return
     if given.program:
         os.environ["FRAMEQ"] = os.path.abspath(given.program)
     with tempfile.TemporaryDirectory() as room:

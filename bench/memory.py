@@ -133,8 +133,8 @@ def main():
                 seconds, processor, memory, printed = zip(*(run(command, folder) for _ in range(given.runs)))
                 bound = task.bound(printed[0])
                 exceeded += max(memory) > bound
-                print(f"| {task.name} | {size} | {printed[0]:.1f} | {min(seconds):.2f} ({min(processor):.2f}) | {max(memory):.0f} | {bound:.0f} |",
-                      flush=True)
+                print(f"| {task.name} | {size} | {printed[0]:.1f} | {min(seconds):.2f} ({min(processor):.2f}) "
+                      f"| {max(memory):.0f} | {bound:.0f} |", flush=True)
     return 1 if exceeded else 0
 
 

@@ -7,8 +7,8 @@
 
 Both have to give the same answers.
 
-Each task is a folder here with `program.rt.txt`, the program over the crates. The twin of `scan` is its `twin.rs`, and those of the
-others are in `twins`. All are built first, with the Rattle toolchain and with `rustc` or `cargo`.
+Each task is a folder here with a program over the crates, kept as text, which tools/stage proves and builds. The twin of `scan` is its
+`twin.rs`, and those of the others are in `twins`. All are built first, with the Rattle toolchain and with `rustc` or `cargo`.
 """
 import os
 import random
@@ -19,9 +19,14 @@ import sys
 import tempfile
 import time
 
-from staging import HERE, build
-
+HERE = os.path.dirname(os.path.abspath(__file__))
 RUNS = 5
+
+
+def build(folder, task):
+    """The path of the program of a task, which is proved and built in a folder."""
+    words = [f"{HERE}/../tools/stage", "--build", f"bench/{task}", f"{folder}/{task}"]
+    return subprocess.run(words, stdout=subprocess.PIPE, check=True, text=True).stdout.strip()
 
 
 # ---- scan
@@ -52,30 +57,28 @@ def seconds(program, words, path):
 
 
 def scan(folder, megabytes=200):
-    proof = (f"{HERE}/scan/Invariants.antt.txt", "scan/Invariants.antt")
-    own = build(folder, "bench", f"{HERE}/scan/program.rt.txt", ["fq_column", "fq_csv"], proof)
+    own = build(folder, "scan")
     twin = f"{folder}/twin"
     subprocess.run(["rustc", "-O", "-C", "target-cpu=x86-64", "--edition", "2021", "-o", twin, f"{HERE}/scan/twin.rs"], check=True)
     for name, path, words in scan_inputs(folder, int(megabytes)):
-        times, answers = {own: [], twin: []}, set()
+        times, printed = {own: [], twin: []}, set()
         for _ in range(RUNS):
             for program in (own, twin):
                 taken, answer = seconds(program, words, path)
                 times[program].append(taken)
-                answers.add(answer)
-        if len(answers) != 1:
+                printed.add(answer)
+        if len(printed) != 1:
             sys.exit(f"scan, {name}: the answers differ")
         best = [min(times[program]) for program in (own, twin)]
         median = [statistics.median(times[program]) for program in (own, twin)]
-        print(f"scan, {name}: {os.path.getsize(path)} bytes, {answers.pop().decode().strip()} rows; best {best[0]:.2f} s, "
+        print(f"scan, {name}: {os.path.getsize(path)} bytes, {printed.pop().decode().strip()} rows; best {best[0]:.2f} s, "
               f"twin {best[1]:.2f} s, ratio {best[0] / best[1]:.2f}; median {median[0]:.2f} s, twin {median[1]:.2f} s")
 
 
 # ---- groups and joins
 
-def beside_twins(folder, task, proof):
-    proof = (f"{HERE}/{task}/{os.path.basename(proof)}.txt", proof)
-    own = build(folder, "bench", f"{HERE}/{task}/program.rt.txt", ["fq_column", "fq_ops"], proof)
+def beside_twins(folder, task):
+    own = build(folder, task)
     subprocess.run(["cargo", "build", "--release", "--offline", "--quiet", "--bin", task], cwd=f"{HERE}/twins", check=True,
                    env={**os.environ, "CARGO_TARGET_DIR": f"{folder}/twins"})
     if answers(own) != answers(f"{folder}/twins/release/{task}"):
@@ -90,14 +93,14 @@ def answers(program):
 
 
 def groups(folder):
-    beside_twins(folder, "groups", "time/Invariants.antt")
+    beside_twins(folder, "groups")
 
 
 def joins(folder):
-    beside_twins(folder, "joins", "join/Answers.antt")
+    beside_twins(folder, "joins")
 
 
-TASKS = {"scan": scan, "groups": groups, "joins": joins}
+TASKS: dict = {"scan": scan, "groups": groups, "joins": joins}
 
 
 if __name__ == "__main__":

@@ -24,9 +24,9 @@ from program import ORDERS, PRODUCT_LABELS, ROOT, Task, make_inputs, measure
 
 sys.path[:0] = [os.path.join(ROOT, "python"), os.path.join(ROOT, "python", "tests")]
 
-from frameq._sql import sql  # noqa: E402
-from frameq._sql_setup import sql_setup  # noqa: E402
-from postgres import Server, server_programs  # noqa: E402
+from frameq._sql import sql
+from frameq._sql_setup import sql_setup
+from postgres import Server, server_programs
 
 LABEL_GROUPS = Task(
     name="left join with 100,000 rows, then group by one of their texts",

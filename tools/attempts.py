@@ -1,6 +1,7 @@
 """Wrong edits of a crate, and whether the prover refuses them: for tools/edits and tools/plants.
 
-A check of an edit works on a copy of the crate, over what `rt check` kept of it, if it did, and over the libraries that it or `rt ci` built.
+A check of an edit works on a copy of the crate, over what `rt check` kept of it, if it did, and over the libraries that it or `rt ci`
+built.
 """
 import contextlib
 import dataclasses
@@ -15,7 +16,10 @@ import sys
 import threading
 
 ROOT = os.path.dirname(os.path.dirname(os.path.abspath(__file__)))
-KIT = os.path.dirname(os.path.dirname(os.path.realpath(shutil.which("rt") or sys.exit("rt is not in PATH"))))
+RT = shutil.which("rt")
+if not RT:
+    sys.exit("rt is not in PATH")
+KIT = os.path.dirname(os.path.dirname(os.path.realpath(RT)))
 CORES = len(os.sched_getaffinity(0))
 
 
@@ -32,7 +36,7 @@ def write(path, text):
 def run(words, folder):
     """Runs a command, and gives what it says and how it ends."""
     return subprocess.run(words, cwd=folder, stdin=subprocess.DEVNULL, stdout=subprocess.PIPE, stderr=subprocess.STDOUT, text=True,
-                          errors="replace")
+                          errors="replace", check=False)
 
 
 def memory():
@@ -43,8 +47,8 @@ def memory():
 
 class Processes:
     """The processes of checks: as many as there are cores, in equal parts for the crates that are left. Beside `rt ci`, which takes memory
-    too, one for each check, as long as there are 4 GB for it. The check that has waited longest begins first, so that no crate is left to the
-    end."""
+    too, one for each check, as long as there are 4 GB for it. The check that has waited longest begins first, so that no crate is left to
+    the end."""
 
     def __init__(self, crates, beside):
         self.used, self.crates, self.beside, self.changed = 0, crates, beside, threading.Condition()
@@ -147,8 +151,8 @@ class Copy:
         return [*words, "--incremental", f"{self.room}/kept", "--jobs", str(jobs)]
 
     def check(self, functions, texts, copies=(), stubs=()):
-        """What a check of some functions says, with these texts in place of the crate's own; `copies` are functions and their copies in them,
-        and `stubs` are functions whose bodies they leave out."""
+        """What a check of some functions says, with these texts in place of the crate's own; `copies` are functions and their copies in
+        them, and `stubs` are functions whose bodies they leave out."""
         for path, text in texts.items():
             write(f"{self.room}/{path}", text)
         for function, its_copy in copies:
@@ -181,7 +185,8 @@ class Copy:
         for it in (folder, f"{os.path.dirname(folder)}/+{stub.name}"):
             shutil.rmtree(it, ignore_errors=True)
         os.makedirs(folder)
-        lines = [f"use {stub.proofs}.Goals as goal", "", "pub unreachable-requires : goal.unreachable-requires", "unreachable-requires = ?", ""]
+        goal = "unreachable-requires"
+        lines = [f"use {stub.proofs}.Goals as goal", "", f"pub {goal} : goal.{goal}", f"{goal} = ?", ""]
         write(f"{folder}/Answers.antt", "\n".join(lines))
 
 
@@ -244,8 +249,8 @@ class Edit:
         return texts
 
     def added(self, texts, folder):
-        """The texts of files, with a copy of the function after it, which has this edit; none where a text that it replaces doesn't stand in
-        it once."""
+        """The texts of files, with a copy of the function after it, which has this edit; none where a text that it replaces doesn't stand
+        in it once."""
         (function,) = self.changed
         whole = read(f"{folder}/{function.path}").split("\n")
         first = function.first
@@ -262,8 +267,8 @@ class Edit:
 
 @dataclasses.dataclass(frozen=True)
 class Function:
-    """A function of a crate: its file, its first line, that which opens its body and its last, the type that it is of, its name, and whether
-    a trait has it."""
+    """A function of a crate: its file, its first line, that which opens its body and its last, the type that it is of, its name, and
+    whether a trait has it."""
 
     crate: str
     path: str
@@ -298,8 +303,8 @@ class Function:
 
     @property
     def can_be_copied(self):
-        """Whether a copy of it by another name can stand beside it, and be proved as it is: not if a trait has it, nor if it may call itself,
-        since functions that do have one proof in common."""
+        """Whether a copy of it by another name can stand beside it, and be proved as it is: not if a trait has it, nor if it may call
+        itself, since functions that do have one proof in common."""
         beside = os.path.dirname(f"{ROOT}/crates/{self.crate}/proofs/{self.folder}")
         in_cycles = os.path.isdir(beside) and any(it.startswith("+") for it in os.listdir(beside))
         text = "\n".join(read(f"{ROOT}/crates/{self.crate}/{self.path}").split("\n")[self.first + 1 : self.last])
@@ -363,11 +368,11 @@ def owner_at(line):
     """The type or the trait whose functions follow a line: of a type's impl of a trait both, and the types that the trait is given."""
     impl = re.match(r"impl(?:<(.*?)>)? (?:(\w+)(?:<(.*)>)? for )?(?:(\w+)|\((.*)\))", line)
     if not impl:
-        trait = re.match(r"(?:pub(?:\(\w+\))? )?trait (\w+)", line)
-        return trait and trait[1]
+        alone = re.match(r"(?:pub(?:\(\w+\))? )?trait (\w+)", line)
+        return alone and alone[1]
     parameters, trait, given, name, parts = impl.groups(default="")
-    parts, given = ([it for it in re.findall(r"\w+", text) if it not in re.findall(r"\w+", parameters)] for text in (parts, given))
-    words = [name or f"Tuple{impl[5].count(',') + 1}", *parts, trait, *given]
+    of_parts, of_given = ([it for it in re.findall(r"\w+", text) if it not in re.findall(r"\w+", parameters)] for text in (parts, given))
+    words = [name or f"Tuple{impl[5].count(',') + 1}", *of_parts, trait, *of_given]
     return "".join(it[0].upper() + it[1:] for it in words if it)
 
 
@@ -421,8 +426,8 @@ def made(copy, batch):
 
 
 def without_bodies(copy, texts, edits):
-    """The texts of all files, in which each function that no edit needs has lost its body, and these functions. Where they are called, their
-    contracts are taken for granted."""
+    """The texts of all files, in which each function that no edit needs has lost its body, and these functions. Where they are called,
+    their contracts are taken for granted."""
     whole, stubs = {}, []
     for path in sources(copy.crate):
         lines = (texts.get(path) or read(f"{copy.source}/{path}")).split("\n")

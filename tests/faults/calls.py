@@ -3,15 +3,12 @@ import os
 import re
 import shutil
 import subprocess
-import sys
 
 from counts import LONGEST_RUN, together
+from trying import keep_program
 
 HERE = os.path.dirname(os.path.abspath(__file__))
 ROOT = os.path.dirname(os.path.dirname(HERE))
-sys.path.insert(0, f"{ROOT}/tools")
-from trying import keep_program  # pylint: disable=wrong-import-position
-
 KIT = os.path.dirname(os.path.dirname(os.path.realpath(shutil.which("rt") or "/bin/rt")))
 LONGEST_BUILD = 900  # seconds
 
@@ -25,7 +22,7 @@ def build_calls(room):
     `rt try` builds anew for each number. So one number is built in, and the program is kept.
     """
     os.mkdir(room)
-    subprocess.run([f"{ROOT}/tests/calls/stage", f"{room}/staged"], check=True)
+    subprocess.run([f"{ROOT}/tools/stage", "--add", "tests/calls", f"{room}/staged"], check=True)
     program, words = f"{room}/calls", ["--test", "--fail-alloc", str(FAILED_ALLOCATION), "--", "refusals::"]
     status, said = keep_program(words, f"{room}/staged/crates/fq_calls", room, program, LONGEST_BUILD)
     names = re.findall(r"^test (\S+) \.\.\. ok$", said, re.MULTILINE)
@@ -35,9 +32,10 @@ def build_calls(room):
 def run_calls(program, name, before):
     """What a test says of its row after so many allocations, or how it failed."""
     loader = [f"{KIT}/toolchain/lib/ld-linux-x86-64.so.2", "--inhibit-cache", "--library-path", f"{KIT}/toolchain/lib"]
+    environment: dict = {}
     try:
         ran = subprocess.run([*loader, program, name, str(before)], stdin=subprocess.DEVNULL, stdout=subprocess.DEVNULL,
-                             stderr=subprocess.PIPE, timeout=LONGEST_RUN, env={})
+                             stderr=subprocess.PIPE, timeout=LONGEST_RUN, env=environment, check=False)
     except subprocess.TimeoutExpired:
         return "it did not end"
     said = ran.stderr.decode(errors="replace").strip()

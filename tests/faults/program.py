@@ -11,7 +11,7 @@ import sys
 from calls import HERE, KIT, ROOT
 from counts import LONGEST_RUN, together, write
 
-sys.path.insert(0, f"{ROOT}/tests/differential")
+sys.path.insert(0, f"{ROOT}/tests/random")
 import cases
 import oracle
 
@@ -85,7 +85,7 @@ ROWS = [
 ]
 
 # Arguments that run no plan, after the status that they give.
-ARGUMENTS = [(0, "--help"), (2, "--nope"), (2, "--plan"), (2, "--plan", "p", "--workers", "17", "a"),
+ARGUMENTS: list = [(0, "--help"), (2, "--nope"), (2, "--plan"), (2, "--plan", "p", "--workers", "17", "a"),
              (2, "--plan", "p", "--batch", "x", "a")]
 
 # Plans and files that fault, the status, the line, and what --details says after it, of the plan P and the file F; then other options.
@@ -164,7 +164,7 @@ class Program:
         """The answer of a run, under another command if one is given; or why there is none."""
         how = {"stdin": subprocess.DEVNULL, "stdout": subprocess.PIPE, "stderr": subprocess.PIPE, "timeout": LONGEST_RUN, **how}
         try:
-            ran = subprocess.run([*under, self.path, *arguments], **how)
+            ran = subprocess.run([*under, self.path, *arguments], check=False, **how)
         except subprocess.TimeoutExpired:
             return Answer(None, "", f"it did not end in {how['timeout']} s")
         text = lambda them: (them or b"").decode(errors="replace")
@@ -247,7 +247,7 @@ def build_library(count, room):
     library = f"{room}/refuse.so"
     compiler = [f"{KIT}/toolchain/bin/clang", "-fuse-ld=lld"] if os.path.exists(f"{KIT}/toolchain/bin/clang") else ["cc"]
     command = [*compiler, "-shared", "-fPIC", "-O2", "-nostdlib", "-ffreestanding", "-fno-builtin", "-o", library, f"{HERE}/refuse.c"]
-    made = subprocess.run(command, stdout=subprocess.PIPE, stderr=subprocess.STDOUT)
+    made = subprocess.run(command, stdout=subprocess.PIPE, stderr=subprocess.STDOUT, check=False)
     if made.returncode:
         count.add("program", "not built", f"refuse.c is not compiled:\n{made.stdout.decode(errors='replace')}")
         return None
@@ -416,14 +416,14 @@ def try_settings(count, program, library, room):
     alone = write(f"{room}/settings.input", f"{plan([source(1, 'v int')], '')}\n{rows}")
 
     def run_alone(**how):
-        with open(alone, "rb") as input:
-            return program.run([], stdin=input, **how)
+        with open(alone, "rb") as file:
+            return program.run([], stdin=file, **how)
 
     try_setting(count, "standard input", run_alone, library, "thread", 3, 3)
     # a thread prints each whole 2,048 rows, unless there is one worker
     in_parts = lambda workers: lambda **how: program.run([*program.arguments["printed in parts"], "--workers", workers], **how)
-    for workers, threads in (("1", 2), ("2", 5), ("16", 19)):
-        try_setting(count, f"printed in parts, {workers} workers", in_parts(workers), library, "thread", threads, threads)
+    for word, threads in (("1", 2), ("2", 5), ("16", 19)):
+        try_setting(count, f"printed in parts, {word} workers", in_parts(word), library, "thread", threads, threads)
     try_setting(count, "standard input", run_alone, library, "memory", 1, 499)
 
 
@@ -447,7 +447,8 @@ def try_printing(count, program, library, room):
 
 
 def try_large_batches(count, program, library, room):
-    """A batch of 1,024 rows, of which each byte is a read, and one of which a join makes 102 parts: 6,656,000 rows, at most 65,536 a part."""
+    """A batch of 1,024 rows, of which each byte is a read, and one of which a join makes 102 parts: 6,656,000 rows, at most 65,536 in
+    each."""
     ones = lambda rows: write(f"{room}/{rows}-ones.csv", "k\n" + "1\n" * rows)
     counted = ["--plan", write(f"{room}/counted.json", plan([source(1, "k int")], COUNTED)), ones(1024)]
     joined = ["--plan", write(f"{room}/joined-ones.json", plan([source(1, "k int")] * 2, f"{INNER},{COUNTED}")), ones(6500), ones(1024)]

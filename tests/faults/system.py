@@ -89,8 +89,8 @@ def stack_sizes(count, program, rows):
 
 def devices(count, program, rows):
     """A full device, a closed pipe, a closed output, a file of limited size."""
+    wanted = Answer(5, "", WRITE_LINE)
     for name, arguments, own in rows:
-        wanted = Answer(5, "", WRITE_LINE)
         with open("/dev/full", "wb") as full:
             check(count, "full device", name, program.run(arguments, stdout=full), lambda it: it == wanted)
             answer = program.run(["--details", *arguments], stdout=full)
@@ -281,17 +281,20 @@ def interrupted_outputs(count, program, room, steps, into):
             ran.send_signal(ends)
             ran.wait()
             with open(other, encoding="utf-8") as opened:
-                check(count, "output file", f"ended by {ends.name}, the new file with mode {mode:o}", Answer(ran.returncode, opened.read(), ""),
+                answer = Answer(ran.returncode, opened.read(), "")
+                check(count, "output file", f"ended by {ends.name}, the new file with mode {mode:o}", answer,
                       lambda it, ends=ends, mode=mode: it == Answer(-ends, "other\n", "") and mode == 0o600)
         into(f"what a run left that was ended by {ends.name}", other, data, done, "v\n1\n2\n")
     write(other, "other\n")
     with waiting_run(program, room, steps, other) as (ran, rows, new):
         answer = program.run(["--plan", steps, "-o", f"{room}/beside.csv", data])
-        check(count, "output file", "beside another run", answer._replace(out=str(os.path.exists(new))), lambda it: it == Answer(0, "True", ""))
+        check(count, "output file", "beside another run", answer._replace(out=str(os.path.exists(new))),
+              lambda it: it == Answer(0, "True", ""))
         rows.close()
         ran.wait()
         with open(other, encoding="utf-8") as opened:
-            check(count, "output file", "the other run", Answer(ran.returncode, opened.read(), ""), lambda it: it == Answer(0, "v\n1\n", ""))
+            check(count, "output file", "the other run", Answer(ran.returncode, opened.read(), ""),
+                  lambda it: it == Answer(0, "v\n1\n", ""))
     for number in range(1000):
         write(f"{room}/.frameq-{number}", "left\n")
     answer = program.run(["--plan", steps, "-o", other, data])
@@ -312,20 +315,20 @@ def terminal(count, program, room):
     watched = ["--progress", "--plan", write(f"{room}/megabytes.json", plan([source(1, "v int")], "")),
                write(f"{room}/megabytes.csv", text)]
     shown = "\r\x1b[K".join(["", "frameq: file 0: 1 of 2 MB", "frameq: file 0: 2 of 2 MB", "", ""])  # at the file's end, and the run's
-    controller, terminal = pty.openpty()
-    answer = program.run([], stdin=terminal)
+    controller, device = pty.openpty()
+    answer = program.run([], stdin=device)
     check(count, "terminal", "no argument", answer, lambda it: it.status == 2 and not it.out and "Usage: frameq" in it.err)
     check(count, "terminal", "--progress without one", program.run(watched), lambda it: it == frame(text))
-    answer = program.run(watched, stderr=terminal)._replace(err=read_terminal(controller))
+    answer = program.run(watched, stderr=device)._replace(err=read_terminal(controller))
     check(count, "terminal", "--progress", answer, lambda it: it == Answer(0, text, shown))
     half = write(f"{room}/half.csv", "v\n" + "1234567\n" * 150_000)
     both = ["--progress", "--plan", write(f"{room}/halves.json", plan([source(2, "v int")], "")), half, half]
     # (files are read side by side, so their lines come in any order)
-    answer = program.run(both, stderr=terminal)._replace(err=sorted(read_terminal(controller).split("\r\x1b[K")))
-    shown = [""] * 4 + ["frameq: file 0: 1 of 1 MB", "frameq: file 1: 1 of 1 MB"]
-    check(count, "terminal", "--progress of two files", answer, lambda it: it == Answer(0, text, shown))
+    answer = program.run(both, stderr=device)._replace(err=sorted(read_terminal(controller).split("\r\x1b[K")))
+    of_both = [""] * 4 + ["frameq: file 0: 1 of 1 MB", "frameq: file 1: 1 of 1 MB"]
+    check(count, "terminal", "--progress of two files", answer, lambda it: it == Answer(0, text, of_both))
     os.close(controller)
-    os.close(terminal)
+    os.close(device)
 
 
 def pipes(count, program, room):
@@ -377,7 +380,7 @@ def threads(count, program, rows):
     """So many threads for the user, if this one may have them refused."""
     how = {} if os.geteuid() else {"user": "nobody", "extra_groups": []}
     try:
-        why = None if program.run(rows[0][1], **how) == rows[0][2] else "nobody cannot run the program"
+        why: object = None if program.run(rows[0][1], **how) == rows[0][2] else "nobody cannot run the program"
     except (OSError, LookupError, subprocess.SubprocessError) as error:
         why = error
     if why:

@@ -1,4 +1,4 @@
-//! The groupings of `groups/program.rt.txt` in plain Rust: the same columns and batches over the standard library's
+//! The groupings of `groups/src/main.rt.txt` in plain Rust: the same columns and batches over the standard library's
 //! `HashMap`, once with its own hasher and once with a fast one.
 
 mod common;

@@ -1,4 +1,4 @@
-//! The joins of `joins/program.rt.txt` in plain Rust: the same columns and batches over the standard library's `HashMap`,
+//! The joins of `joins/src/main.rt.txt` in plain Rust: the same columns and batches over the standard library's `HashMap`,
 //! once with its own hasher and once with a fast one.
 
 mod common;

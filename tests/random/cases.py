@@ -106,8 +106,8 @@ def select_step(draw, columns, joins, version):
 def join_step(draw, columns, joins, version):
     if not joins and draw.often(95):
         return filter_step(draw, columns, joins, version)
-    source = draw.randrange(len(joins)) if joins and draw.often(97) else draw.choice([-1, len(joins), 99])
-    right = joins[source] if 0 <= source < len(joins) else {}
+    number = draw.randrange(len(joins)) if joins and draw.often(97) else draw.choice([-1, len(joins), 99])
+    right = joins[number] if 0 <= number < len(joins) else {}
     common = [name for name in columns if columns[name] == right.get(name)]
     if not common and draw.often(90):
         return filter_step(draw, columns, joins, version)
@@ -115,7 +115,7 @@ def join_step(draw, columns, joins, version):
     if draw.often(1.5):
         on += on[:1]
     is_new = draw.often(90 if version == 2 else 0.5)
-    join = {"source": source, "on": on, "how": draw.choice(["inner", "left", "semi", "anti"] if is_new else ["inner", "left"])}
+    join = {"source": number, "on": on, "how": draw.choice(["inner", "left", "semi", "anti"] if is_new else ["inner", "left"])}
     if is_new and draw.often(50):
         join["nulls_equal"] = draw.often(70)
     return {"join": join}
@@ -274,7 +274,7 @@ def past_a_limit(draw, value):
     elif change == 2:
         value["steps"] = [{"filter": True}] * draw.choice([64, 65])
     else:
-        predicate = True
+        predicate: object = True
         for _ in range(draw.choice([123, 124, 125, 200])):
             predicate = ["not", predicate]
         value["steps"] = [{"filter": predicate}]
@@ -359,7 +359,7 @@ def lists_of(draw, notations):
         entries["--date"].append(draw.choice([UNKNOWN, *NAMES, *notations, *notations]))
     if draw.often(2):
         entries["--decimal"].append(draw.choice(WRONG_NOTATIONS))
-    lists = [(option, value) for option in entries for value in cut(draw, entries[option])]
+    lists = [(option, value) for option, listed in entries.items() for value in cut(draw, listed)]
     return draw.sample(lists, len(lists))
 
 
@@ -423,25 +423,25 @@ def with_point(number, scale):
 def decimal_field(draw, scale, care):
     """A decimal, with more or fewer zeros than it needs, and with no digit where it needs none."""
     number = draw.choice(EDGES if draw.often(care.edges) else AMOUNTS)
-    whole, places = with_point(number, scale)
+    whole, behind = with_point(number, scale)
     change = draw.randrange(8)
     if change < 2:
-        places = places.rstrip("0")
+        behind = behind.rstrip("0")
     elif change == 2:
-        places += "0" * (5000 if draw.often(care.long) else draw.choice([1, 2, 30]))
+        behind += "0" * (5000 if draw.often(care.long) else draw.choice([1, 2, 30]))
     elif change == 3:
         whole = whole.lstrip("0")
     elif change == 4:
         whole = "00" + whole
     sign = "-" if number < 0 else draw.choice(["", "", "", "+", "-" if number == 0 else ""])
-    return f"{sign}{whole}{'.' if places or draw.often(50) else ''}{places}".encode()
+    return f"{sign}{whole}{'.' if behind or draw.often(50) else ''}{behind}".encode()
 
 
 def wrong_decimal(draw, scale):
     """A text that is no decimal of this scale, or seldom one: past 64 bits, or with a digit too many."""
-    whole, places = with_point(draw.choice([2**63, 2**63 + 1, 10**19, 2**64]), scale)
+    whole, behind = with_point(draw.choice([2**63, 2**63 + 1, 10**19, 2**64]), scale)
     zeros = "0" * draw.randint(0, 2)
-    return draw.choice([f"{draw.choice(['', '-'])}{whole}.{places}", f"1.{'0' * scale}{zeros}1", *WRONG_DECIMALS]).encode()
+    return draw.choice([f"{draw.choice(['', '-'])}{whole}.{behind}", f"1.{'0' * scale}{zeros}1", *WRONG_DECIMALS]).encode()
 
 
 def wrong_field(draw, kind, notation):

@@ -216,9 +216,9 @@ def outputs_of(value):
 
 
 def join_of(version, value):
-    nulls_equal, hows = False, ("inner", "left")
+    nulls_equal, hows = False, ["inner", "left"]
     if version == 2:
-        hows += ("semi", "anti")
+        hows += ["semi", "anti"]
         if isinstance(value, dict) and "nulls_equal" in value:
             nulls_equal = value["nulls_equal"]
             require(isinstance(nulls_equal, bool))
@@ -397,10 +397,10 @@ def columns_after_join(left, right, on, how):
     for name in on:
         refuse_if(kind_named(left, name) != kind_named(right, name), "wrong kind")
     taken = {} if how in ("semi", "anti") else right
-    joined = [*left.items(), *((right_name(left, name), kind) for name, kind in taken.items() if name not in on)]
-    refuse_if(len(joined) > MOST_COLUMNS, "too many columns")
-    refuse_if(has_double(on) or has_double([name for name, _ in joined]), "double name")
-    return dict(joined)
+    columns = [*left.items(), *((right_name(left, name), kind) for name, kind in taken.items() if name not in on)]
+    refuse_if(len(columns) > MOST_COLUMNS, "too many columns")
+    refuse_if(has_double(on) or has_double([name for name, _ in columns]), "double name")
+    return dict(columns)
 
 
 def right_name(left, name):
@@ -835,7 +835,8 @@ def apply_step(n, step, columns, joins, stream):
     if isinstance(step, Select):
         return apply_select(n, step, stream)
     if isinstance(step, Join):
-        return apply_join(n, step, columns, *joins[step.source], stream)
+        right_columns, right_rows = joins[step.source]
+        return apply_join(n, step, columns, right_columns, right_rows, stream)
     if isinstance(step, GroupBy):
         return apply_group_by(n, step, stream)
     return apply_rolling_sum(n, step, stream)

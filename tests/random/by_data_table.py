@@ -165,7 +165,7 @@ def write(path, text):
         file.write(text)
 
 
-def records_in(path):
+def records_in(path, case):
     """What R has written for a case, or None where it is left out."""
     if os.path.exists(f"{path}.csv"):
         with open(f"{path}.csv", newline="", encoding="utf-8") as file:
@@ -174,19 +174,19 @@ def records_in(path):
     with open(f"{path}.error", encoding="utf-8") as file:
         message = file.read().strip()
     if message != NOT_EXACT:
-        raise RuntimeError(f"R: {message}")
+        raise RuntimeError(f"R, case {case.number}: {message}")
     return None
 
 
 def records_of_each(cases):
     """What each case gives, or None where it is left out."""
     with tempfile.TemporaryDirectory() as folder:
-        for number, case in enumerate(cases):
+        for place, case in enumerate(cases):
             try:
-                write(f"{folder}/{number}", script_of(case))
+                write(f"{folder}/{place}", script_of(case))
             except LeftOut:
-                write(f"{folder}/{number}.error", NOT_EXACT)
+                write(f"{folder}/{place}.error", NOT_EXACT)
         setting = {**os.environ, "LC_ALL": "C.UTF-8"}
         subprocess.run(["Rscript", "--vanilla", SCRIPT], cwd=folder, env=setting, stdout=subprocess.DEVNULL, check=True)
-        for number in range(len(cases)):
-            yield records_in(f"{folder}/{number}")
+        for place, case in enumerate(cases):
+            yield records_in(f"{folder}/{place}", case)

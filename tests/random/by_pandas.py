@@ -1,5 +1,11 @@
-"""The steps of a plan on frames of pandas, with its nullable kinds."""
+"""The steps of a plan on frames of pandas, with its nullable kinds.
+
+A program, since the Python that has pandas may be another one than that of the tests: it takes cases as `pickle` writes them, and gives for
+each the records that it comes to, or None where it is left out.
+"""
 import operator
+import pickle
+import sys
 
 import pandas
 
@@ -150,10 +156,13 @@ def records_of(case):
     return [list(frame.columns), *map(list, zip(*columns))]
 
 
-def records_of_each(cases):
-    """What each case gives, or None where it is left out."""
-    for case in cases:
-        try:
-            yield records_of(case)
-        except LeftOut:
-            yield None
+def records_or_none(case):
+    """What a case gives, or None where it is left out."""
+    try:
+        return records_of(case)
+    except LeftOut:
+        return None
+
+
+if __name__ == "__main__":
+    pickle.dump([records_or_none(case) for case in pickle.load(sys.stdin.buffer)], sys.stdout.buffer)
