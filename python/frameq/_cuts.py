@@ -18,18 +18,18 @@ class Cut(NamedTuple):
     Without steps on all rows, the rows of the files are the result.
     """
 
-    first: List[dict]
+    first: List[Dict[str, Any]]
     columns: Schema
-    then: List[dict]
+    then: List[Dict[str, Any]]
     at: int
 
 
-def first_of_many_rows(steps: Sequence[dict]) -> int:
+def first_of_many_rows(steps: Sequence[Dict[str, Any]]) -> int:
     """The number of the first step that looks at more than one row of the main source at a time, or how many steps there are."""
     return next((number for number, step in enumerate(steps) if "group_by" in step or "rolling_sum" in step), len(steps))
 
 
-def cuts(steps: Sequence[dict], schemas: Sequence[Schema], at: int, dates: AbstractSet[str]) -> Iterator[Cut]:
+def cuts(steps: Sequence[Dict[str, Any]], schemas: Sequence[Schema], at: int, dates: AbstractSet[str]) -> Iterator[Cut]:
     """The ways to cut a plan before one of its steps, that which leaves the fewest rows first.
 
     `schemas` are the columns before each step, and after the last. The rows of a part are printed and read again, and a text that is empty
@@ -46,7 +46,7 @@ def names_of_other_dates(columns: Schema, dates: AbstractSet[str]) -> List[str]:
     return [name for name, kind in columns.items() if name in dates and kind.value == Kind.INT.value and kind != Date]
 
 
-def _cuts_of_texts(steps: Sequence[dict], schemas: Sequence[Schema], at: int, dates: AbstractSet[str]) -> Iterator[Cut]:
+def _cuts_of_texts(steps: Sequence[Dict[str, Any]], schemas: Sequence[Schema], at: int, dates: AbstractSet[str]) -> Iterator[Cut]:
     """The ways to cut a plan in which each text is read as it was printed."""
     first, columns, then = list(steps[:at]), schemas[at], list(steps[at:])
     if not then:
@@ -78,7 +78,7 @@ def _summed(aggs: Sequence[List[str]]) -> Set[str]:
     return {column for _, function, *of in aggs for column in of if function == "sum"}
 
 
-def _grouped(first: List[dict], columns: Schema, then: List[dict], at: int, dates: AbstractSet[str]) -> Cut:
+def _grouped(first: List[Dict[str, Any]], columns: Schema, then: List[Dict[str, Any]], at: int, dates: AbstractSet[str]) -> Cut:
     """The cut by which each file is grouped by itself, and the groups of all files are grouped once more by the same keys."""
     keys, aggs = then[0]["group_by"]["keys"], then[0]["group_by"]["aggs"]
     taken = {*keys, *_summed(aggs), *dates}
@@ -94,7 +94,7 @@ def _grouped(first: List[dict], columns: Schema, then: List[dict], at: int, date
     return Cut([*first, group], after, [{"group_by": {"keys": keys, "aggs": of_all}}, *then[1:]], at)
 
 
-def _columns_of_empty_texts(steps: Sequence[dict]) -> Set[str]:
+def _columns_of_empty_texts(steps: Sequence[Dict[str, Any]]) -> Set[str]:
     """The columns after row-wise steps and joins that may have a text which is empty and not null. No file has one, only a literal is."""
     names: Set[str] = set()
     for step in steps:
@@ -110,7 +110,7 @@ def _may_be_empty(expression: Any, names: AbstractSet[str]) -> bool:
         return expression[0] == "fill_null" and any(_may_be_empty(part, names) for part in expression[1:])
     if isinstance(expression, dict):
         return expression.get("col") in names
-    return expression == ""
+    return bool(expression == "")
 
 
 def gives_no_row_twice(join: Dict[str, Any]) -> bool:
@@ -118,7 +118,7 @@ def gives_no_row_twice(join: Dict[str, Any]) -> bool:
     return join["how"] in ("semi", "anti")
 
 
-def steps_to_most_matches(join: Dict[str, Any], noted: Container[str]) -> Optional[List[dict]]:
+def steps_to_most_matches(join: Dict[str, Any], noted: Container[str]) -> Optional[List[Dict[str, Any]]]:
     """The steps on the right source of a join that leave one row, whose last column says how many rows have the same keys at most, or no
     row. That column has none of the names that are noted, so it is printed in digits.
 
@@ -129,7 +129,8 @@ def steps_to_most_matches(join: Dict[str, Any], noted: Container[str]) -> Option
     most = next(name for name in itertools.chain(["most"], map("_{}".format, itertools.count())) if name not in noted)
     keys = join["on"]
     rows = next(name for name in map("_{}".format, itertools.count()) if name not in keys)
-    no_nulls: Any = functools.reduce(lambda left, right: ["and", left, right], (["is_not_null", {"col": key}] for key in keys))
+    present: List[Any] = [["is_not_null", {"col": key}] for key in keys]
+    no_nulls = functools.reduce(lambda left, right: ["and", left, right], present)
     return [
         {"filter": join.get("nulls_equal", False) or no_nulls},
         {"group_by": {"keys": keys, "aggs": [[rows, "len"]]}},

@@ -3,7 +3,7 @@ import datetime
 import decimal
 import functools
 import operator
-from typing import Any, Dict, FrozenSet, Iterable, Iterator, List, NoReturn, Optional, Tuple, Union
+from typing import Any, Dict, FrozenSet, Iterable, Iterator, List, Mapping, NoReturn, Optional, Tuple, Union
 
 from ._faults import ColumnNotFoundError, UnsupportedError, WrongKindError
 from ._kinds import MOST_PLACES, AnyKind, ColumnKind, Date, Decimal, Kind, Schema
@@ -311,7 +311,7 @@ def col(name: Union[str, Iterable[str]], *more: str) -> Expr:
     return Expr(("col", names[0])) if len(names) == 1 else Expr(("cols", tuple(names)))
 
 
-def all() -> Expr:
+def all() -> Expr:  # pylint: disable=redefined-builtin
     """Each column."""
     return Expr(("all",))
 
@@ -348,7 +348,7 @@ def _node_of_value(value: Any) -> Node:
         return ("lit", Kind.INT, value)
     if isinstance(value, datetime.date) and not isinstance(value, datetime.datetime):
         return ("lit", Date, int_of_day(value))
-    if isinstance(value, decimal.Decimal) and value.is_finite() and abs(value.as_tuple().exponent) <= _MOST_EXPONENT:
+    if isinstance(value, decimal.Decimal) and value.is_finite() and abs(int(value.as_tuple().exponent)) <= _MOST_EXPONENT:
         return ("decimal", value)
     raise UnsupportedError(
         f"{value!r} is no literal: there are whole numbers of 64 bits, decimal.Decimal, datetime.date, texts, and True and False"
@@ -455,7 +455,8 @@ def name_of(expr: Expr) -> str:
         return expr._alias
     for part in parts(expr._node):
         if part[0] == "col":
-            return part[1]
+            name: str = part[1]
+            return name
         if part[0] in ("lit", "null", "decimal"):
             return "literal"
         if part == ("agg", "len", None):
@@ -463,7 +464,7 @@ def name_of(expr: Expr) -> str:
     raise UnsupportedError(f"{expr!r} has no name: write .alias(..)")
 
 
-def replaced(node: Node, swaps: Dict[Node, Node]) -> Node:
+def replaced(node: Node, swaps: Mapping[Node, Node]) -> Node:
     """A node in which each of these parts is another."""
     if node in swaps:
         return swaps[node]
@@ -513,7 +514,8 @@ def kind_of(node: Node, schema: Schema) -> ColumnKind:
             raise ColumnNotFoundError(f"there is no column {node[1]!r}; there are {', '.join(map(repr, schema))}")
         return schema[node[1]]
     if head in ("lit", "null"):
-        return node[1]
+        kind: ColumnKind = node[1]
+        return kind
     if head == "agg":
         return _kind_of_aggregate(node, schema)
     kinds = [kind_of(part, schema) for part in node[1:] if isinstance(part, tuple)]

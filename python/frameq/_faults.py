@@ -1,7 +1,7 @@
 """What is raised: one exception for each fault of the program, by its name."""
 import builtins
 import re
-from typing import List, Optional, Sequence, Tuple, Type
+from typing import Any, Dict, List, Optional, Sequence, Tuple, Type
 
 
 class FrameqError(Exception):
@@ -110,7 +110,7 @@ class TooManyRowsError(FileError):
     """A file has more than 2,147,483,647 rows."""
 
 
-class OverflowError(FrameqError, builtins.OverflowError):
+class OverflowError(FrameqError, builtins.OverflowError):  # pylint: disable=redefined-builtin
     """A value does not fit 64 bits (status 4)."""
 
 
@@ -134,7 +134,7 @@ class WriteError(FrameqError, OSError):
     """The result cannot be written (status 5)."""
 
 
-class MemoryError(FrameqError, builtins.MemoryError):
+class MemoryError(FrameqError, builtins.MemoryError):  # pylint: disable=redefined-builtin
     """The program ran out of memory, or of threads (status 6)."""
 
 
@@ -173,7 +173,7 @@ _LINES: Tuple[Tuple[str, Type[FrameqError]], ...] = (
 _OF_STATUSES = {2: ArgumentsError, 3: PlanError, 4: FileError, 5: ReadError, 6: MemoryError}
 
 
-def _columns_of_file(plan: dict, file: int) -> List[str]:
+def _columns_of_file(plan: Dict[str, Any], file: int) -> List[str]:
     """The names of the columns of the file with this number."""
     for source in plan["sources"]:
         if file < source["files"]:
@@ -188,7 +188,7 @@ def renumbered(said: str, files: Sequence[int], first_step: int) -> str:
     return re.sub(r"(?m)^(frameq: step )(\d+)", lambda found: f"{found[1]}{first_step + int(found[2])}", said)
 
 
-def fault(said: str, status: int, plan: Optional[dict], files: Sequence[str], calls: Sequence[str]) -> FrameqError:
+def fault(said: str, status: int, plan: Optional[Dict[str, Any]], files: Sequence[str], calls: Sequence[str]) -> FrameqError:
     """The exception of a run that ended with this status and said this on standard error."""
     # (a name in a line may have other characters at which Python's splitlines ends one)
     lines = said.split("\n")

@@ -1,7 +1,7 @@
 """Lazy frames, by Polars' names: what is written is a plan."""
 import copy
 import os
-from typing import TYPE_CHECKING, Any, Iterable, List, Mapping, NamedTuple, NoReturn, Optional, Sequence, Tuple, Union
+from typing import TYPE_CHECKING, Any, Dict, Iterable, List, Mapping, NamedTuple, NoReturn, Optional, Sequence, Set, Tuple, Union
 
 from . import _parts, _program
 from ._dialects import Table
@@ -67,7 +67,7 @@ class Source(NamedTuple):
     columns: Tuple[Tuple[str, ColumnKind], ...]
     null_values: Tuple[str, ...]
 
-    def written(self, version: int) -> dict:
+    def written(self, version: int) -> Dict[str, Any]:
         """As the plan language writes it."""
         source = {"files": len(self.files), "columns": [[name, kind.value] for name, kind in self.columns]}
         if version == 2 and self.null_values:
@@ -94,8 +94,8 @@ def scan_csv(
     """
     if schema is None:
         raise UnsupportedError(
-            "nothing is guessed: name each column and its kind, as schema={'id': Int64, 'name': String}; the command frameq --draft FILE says "
-            "which kinds its fields allow"
+            "nothing is guessed: name each column and its kind, as schema={'id': Int64, 'name': String}; the command frameq --draft FILE "
+            "says which kinds its fields allow"
         )
     if others or not has_header or separator != ",":
         what = ", ".join(others) or ("has_header=False" if not has_header else "separator")
@@ -125,7 +125,12 @@ class LazyFrame:
     __slots__ = ("_main", "_rights", "_steps", "_calls", "_schemas")
 
     def __init__(
-        self, main: Source, rights: Tuple[Source, ...], steps: Tuple[dict, ...], calls: Tuple[str, ...], schemas: Tuple[Schema, ...]
+        self,
+        main: Source,
+        rights: Tuple[Source, ...],
+        steps: Tuple[Dict[str, Any], ...],
+        calls: Tuple[str, ...],
+        schemas: Tuple[Schema, ...],
     ) -> None:
         self._main, self._rights, self._steps, self._calls, self._schemas = main, rights, steps, calls, schemas
 
@@ -145,7 +150,7 @@ class LazyFrame:
         """The names and kinds of the columns."""
         return dict(self._schema)
 
-    def _after(self, step: dict, call: str, schema: Schema) -> "LazyFrame":
+    def _after(self, step: Dict[str, Any], call: str, schema: Schema) -> "LazyFrame":
         if _nesting(step) + _NESTING_AROUND_STEPS > _MOST_NESTED:
             raise UnsupportedError(TOO_DEEP)
         return LazyFrame(self._main, self._rights, (*self._steps, step), (*self._calls, call), (*self._schemas, schema))
@@ -249,7 +254,8 @@ class LazyFrame:
 
     def _private(self, count: int) -> List[str]:
         """So many names that no column has."""
-        names, number = [], 0
+        names: List[str] = []
+        number = 0
         while len(names) < count:
             name, number = f"_{number}", number + 1
             if name not in self._schema:
@@ -346,7 +352,7 @@ class LazyFrame:
 
     # What is made of it.
 
-    def plan(self) -> dict:
+    def plan(self) -> Dict[str, Any]:
         """The plan, as the JSON object that it is."""
         sources = (*self._rights, self._main)
         version = 2 if any(source.null_values for source in sources) or any(map(_is_of_version_two, self._steps)) else 1
@@ -507,7 +513,7 @@ class GroupBy:
         return frame, [new.get(name, name) for name, _ in self._keys]
 
 
-def _is_of_version_two(step: dict) -> bool:
+def _is_of_version_two(step: Dict[str, Any]) -> bool:
     """Whether a step is a join that plans of version 1 do not have."""
     join = step.get("join")
     return join is not None and ("nulls_equal" in join or join["how"] in ("semi", "anti"))
@@ -515,7 +521,7 @@ def _is_of_version_two(step: dict) -> bool:
 
 def _group_step(
     schema: Schema, keys: List[str], outputs: Sequence[Output], of_inputs: Mapping[Node, str], call: str
-) -> Tuple[dict, str, Schema]:
+) -> Tuple[Dict[str, Any], str, Schema]:
     """The step of a grouping, its call, and the columns after it."""
     aggs, after = [], {key: schema[key] for key in keys}
     for name, (_, function, column) in outputs:
@@ -562,7 +568,7 @@ def _is_in_order(outputs: Sequence[Output]) -> bool:
     """Whether outputs can be made one after another: rolling sums are of columns, and none reads what one before it wrote."""
     if not any(has(node, "roll") for _, node in outputs):
         return True
-    done: set = set()
+    done: Set[str] = set()
     for name, node in outputs:
         if (has(node, "roll") and not (node[0] == "roll" and node[1][0] == "col")) or columns_of(node) & done:
             return False

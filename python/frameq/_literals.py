@@ -45,12 +45,13 @@ def _settled(node: Node, schema: Schema) -> Node:
 
 def _is_loose(node: Node) -> bool:
     """Whether a node is a number whose kind is that of what it meets."""
-    return node[0] == "decimal" or (node[0] == "lit" and node[1] == Kind.INT)
+    return bool(node[0] == "decimal" or (node[0] == "lit" and node[1] == Kind.INT))
 
 
 def _number_of(node: Node) -> Union[int, decimal.Decimal]:
     """The number that such a node is."""
-    return node[-1]
+    number: Union[int, decimal.Decimal] = node[-1]
+    return number
 
 
 def _beside_literal(node: Node, schema: Schema) -> Node:

@@ -166,7 +166,7 @@ class _Parts:
 
     # Before the parts.
 
-    def _source_of(self, number: int) -> dict:
+    def _source_of(self, number: int) -> Dict[str, Any]:
         """The source of the file of this number."""
         ends = itertools.accumulate(source["files"] for source in self._report.plan["sources"])
         return next(source for source, end in zip(self._report.plan["sources"], ends) if number < end)
@@ -187,7 +187,7 @@ class _Parts:
                 break
         return full
 
-    def _most_of_joins(self, joins: Sequence[dict]) -> Iterator[Tuple[float, List[float]]]:
+    def _most_of_joins(self, joins: Sequence[Dict[str, Any]]) -> Iterator[Tuple[float, List[float]]]:
         """How many rows all main files have at most, and a row after each of joins: first what takes the least time to know."""
         rows = _most_rows_by_size(self._files)
         rights = [self._files_of_side(join["source"]) for join in joins]
@@ -196,7 +196,7 @@ class _Parts:
         yield rows, matches
         yield most_rows(self._executor, [os.path.abspath(file) for file in self._files]), matches
 
-    def _most_matches(self, join: dict, right: List[str]) -> float:
+    def _most_matches(self, join: Dict[str, Any], right: List[str]) -> float:
         """How many rows a join gives at most for one."""
         steps = steps_to_most_matches(join, self._report.notations)
         if steps is None:
@@ -259,20 +259,20 @@ class _Parts:
 
     # Plans and files.
 
-    def _plan(self, sources: Sequence[dict], steps: Sequence[dict]) -> dict:
+    def _plan(self, sources: Sequence[Dict[str, Any]], steps: Sequence[Dict[str, Any]]) -> Dict[str, Any]:
         return {**self._report.plan, "sources": list(sources), "steps": list(steps)}
 
-    def _words(self, plan: dict, result: Optional[Schema] = None) -> List[str]:
+    def _words(self, plan: Dict[str, Any], result: Optional[Schema] = None) -> List[str]:
         """How ints are written in a run of a plan: in its sources, and in its result, if that has other columns."""
         return words_of_run(self._report.notations, plan, result or {})
 
     def _run(
         self,
-        steps: Sequence[dict],
+        steps: Sequence[Dict[str, Any]],
         result: Schema,
         files: Sequence[str],
         numbers: Sequence[int],
-        source: Optional[dict] = None,
+        source: Optional[Dict[str, Any]] = None,
         first: int = 0,
     ) -> _Run:
         """Steps with this result over all sources that are joined, and files of the main source, or of another."""
@@ -306,7 +306,7 @@ class _Rows:
             file.write(_MARK + frame if is_new else memoryview(frame)[end_of_names(frame) :])
 
 
-def _source(columns: Schema) -> dict:
+def _source(columns: Schema) -> Dict[str, Any]:
     """A source with these columns."""
     return {"columns": [[name, kind.value] for name, kind in columns.items()]}
 

@@ -136,7 +136,9 @@ def _numbers_reader(scale: int) -> "_Reader":
 
 
 def _read_texts(cells: List[str]) -> Sequence[Value]:
-    return [cell or None for cell in cells] if "" in cells else cells
+    if "" in cells:
+        return [cell or None for cell in cells]
+    return cells
 
 
 def _read_truths(cells: List[str]) -> Iterable[Value]:
@@ -164,14 +166,14 @@ def _quoted(text: str) -> str:
     return '"' + text.replace('"', '""') + '"' if _NEEDS_QUOTES.search(text) else text
 
 
-def _printed(kind: ColumnKind, values: Column) -> Iterable[str]:
-    """The cells of a column."""
+def _printed(kind: ColumnKind, values: Iterable[Any]) -> Iterable[str]:
+    """The cells of a column, whose values are of its kind."""
     if isinstance(kind, Decimal):
         return ["" if value is None else f"{decimal.Decimal(value):.{kind.scale}f}" for value in values]
     return _PRINTERS[kind](values)
 
 
-_PRINTERS: Dict[ColumnKind, Callable[[Column], Iterable[str]]] = {
+_PRINTERS: Dict[ColumnKind, Callable[[Iterable[Any]], Iterable[str]]] = {
     Kind.INT: lambda values: ["" if value is None else str(value) for value in values],
     Kind.TEXT: lambda values: ["" if value is None else _quoted(value) for value in values],
     Kind.BOOL: lambda values: map(_OF_TRUTHS.__getitem__, values),

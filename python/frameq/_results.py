@@ -87,7 +87,9 @@ class DataFrame:
     @property
     def height(self) -> int:
         """The number of rows."""
-        return len(self._rows if self._rows is not None else next(iter(self._values()), []))
+        if self._rows is not None:
+            return len(self._rows)
+        return len(next(iter(self._values()), []))
 
     @property
     def width(self) -> int:
@@ -156,7 +158,9 @@ class DataFrame:
 
     def rows(self, *, named: bool = False) -> List[Any]:
         """The rows as tuples, or as dictionaries."""
-        return self.to_dicts() if named else list(self._tuples())
+        if named:
+            return self.to_dicts()
+        return list(self._tuples())
 
     def iter_rows(self, *, named: bool = False) -> Iterator[Any]:
         """Each row as a tuple, or as a dictionary."""

@@ -1,5 +1,5 @@
 """Plans as SQL: one query that gives the rows that frameq gives, for SQLite, PostgreSQL, DuckDB or Spark."""
-from typing import Any, Dict, List, NamedTuple, Optional, Sequence, Set, Tuple
+from typing import Any, Callable, Dict, List, NamedTuple, Optional, Sequence, Set, Tuple
 
 from ._dialects import Dialect, Table, dialect_named, names_of_table
 from ._kinds import Notations, fits
@@ -62,7 +62,7 @@ def sources_of(plan: Dict[str, Any], tables: Optional[Sequence[Table]]) -> Tuple
     sources = plan["sources"]
     if not sources or plan.get("version") not in (1, 2):
         raise ValueError("a plan has a version, 1 or 2, and at least one source")
-    names = [f"source{number}" for number in range(len(sources))] if tables is None else list(tables)
+    names: List[Table] = [f"source{number}" for number in range(len(sources))] if tables is None else list(tables)
     if len(names) != len(sources):
         raise ValueError(f"the plan has {len(sources)} sources, and there are names for {len(names)} tables")
     return sources, names
@@ -291,13 +291,13 @@ class _Writer:
     def step(self, frame: _Frame, name: str, step: Any) -> _Frame:
         """The frame that a step leaves."""
         word, value = _member(step)
-        write = {
+        writers: Dict[str, Callable[[_Frame, str, Any], _Frame]] = {
             "filter": self.filter, "with_columns": self.with_columns, "select": self.select, "join": self.join,
             "group_by": self.group_by, "rolling_sum": self.rolling_sum,
-        }.get(word)
-        if write is None:
+        }
+        if word not in writers:
             raise ValueError(f"no such step: {word!r}")
-        after = write(frame, name, value)
+        after = writers[word](frame, name, value)
         _require_names([column.name for column in after.columns])
         return after
 
@@ -378,10 +378,12 @@ class _Writer:
         functions = {aggregate[1] for aggregate in group["aggs"]}
         # (the least values of several columns of order may stand in different rows)
         needs = {"first": "first" in functions or len(frame.order) > 1, "last": "last" in functions}
-        before, ends = frame, {}
+        before = frame
+        ends: Dict[str, str] = {}
         if any(needs.values()):
             read = {*group["keys"], *(name for aggregate in group["aggs"] for name in aggregate[2:])}
-            before, ends = self.with_ends(frame, f"{name}_ends", group["keys"], read, [end for end in needs if needs[end]])
+            needed = [end for end, is_needed in needs.items() if is_needed]
+            before, ends = self.with_ends(frame, f"{name}_ends", group["keys"], read, needed)
         keys = self.keys(before, group["keys"])
         outputs = [_Output(key, before.column(key).kind, text) for key, text in zip(group["keys"], keys)]
         outputs += [self.aggregate(before, aggregate, ends) for aggregate in group["aggs"]]

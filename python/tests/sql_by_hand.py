@@ -1,4 +1,6 @@
 """Plans with the rows that they have to give, written from the guide, for each engine that runs queries."""
+from typing import Any
+
 from sql_cases import A_B, GREATEST, LEAST, column, plan_of
 
 # Numbers at which division has something of its own.
@@ -8,6 +10,10 @@ NUMBERS = [LEAST, LEAST + 1, -(2**32), -7, -3, -2, -1, 0, 1, 2, 3, 7, 2**32, GRE
 class ByHand:
     """Tests of a class that has `answer`: the names and rows that a plan's query gives over tables with these rows. In a table,
     rows stand in another order than they are numbered, and texts have a collation that compares in another way than frameq."""
+
+    answer: Any
+    assertEqual: Any
+    subTest: Any
 
     def check(self, plan, tables, names, rows, row="row"):
         self.assertEqual(self.answer(plan, tables, row), (names, rows))

@@ -26,7 +26,7 @@ def plan_of(sources, *steps) -> Dict[str, Any]:
     return {"version": 2, "sources": [{"files": 1, "columns": columns} for columns in sources], "steps": list(steps)}
 
 
-def column(name: str) -> Dict[str, str]:
+def column(name: str) -> Any:
     return {"col": name}
 
 
@@ -60,7 +60,7 @@ class Answered(NamedTuple):
 
     def rows(self, table: Sequence[Sequence[Any]]) -> List[Dict[str, Any]]:
         """Rows of an engine as the second implementation has them."""
-        to_cell = {"int": int, "text": str.encode, "bool": bool}
+        to_cell: dict = {"int": int, "text": str.encode, "bool": bool}
         columns = self.along[-1].items()
         return [{name: None if it is None else to_cell[kind](it) for (name, kind), it in zip(columns, row)} for row in table]
 

@@ -156,11 +156,14 @@ class Instead(unittest.TestCase):
             (lambda: lazy.tail(5), "collect().tail(..)"),
             (lambda: C("a").mean(), "sum() // count()"),
             (lambda: lazy.group_by("t").mean(), "sum() // count()"),
-            (lambda: C("a").str.len_chars(), "no text functions"),
+            (lambda: C("a").str.len_chars(), "no text functions"),  # type: ignore[attr-defined]
             (lambda: fq.concat([lazy, lazy]), "name all the files in one scan_csv"),
             (lambda: fq.when(C("p")), "filter each case"),
             (lambda: fq.sum("a"), 'write col("a").sum()'),
-            (lambda: fq.scan_csv("a.csv", schema={"a": fq.Float64}), "no kind Float64: there are no floats: an amount is a Decimal(scale=2)"),
+            (
+                lambda: fq.scan_csv("a.csv", schema={"a": fq.Float64}),
+                "no kind Float64: there are no floats: an amount is a Decimal(scale=2)",
+            ),
             (lambda: fq.DataFrame({"a": INT}, [(1,)]).filter(C("a") > 1), "a result has no filter(): write it before collect()"),
             (lambda: fq.scan_csv("a.csv"), "frameq --draft FILE"),
             (lambda: lazy.unique(keep="last"), 'keep="first"'),

@@ -108,8 +108,8 @@ def rows_of(draw):
 def grouped(rows, keys, outputs):
     """The rows of a grouping, by going over groups."""
     groups = {}
-    for place in range(len(rows)):
-        groups.setdefault(tuple(evaluated(value, rows, place) for _, value in keys), []).append(rows[place])
+    for place, row in enumerate(rows):
+        groups.setdefault(tuple(evaluated(value, rows, place) for _, value in keys), []).append(row)
     return [(*key, *(evaluated(value, group, 0) for _, value in outputs)) for key, group in groups.items()]
 
 
@@ -165,11 +165,11 @@ class RandomCalls(unittest.TestCase):
             except (fq.PlanError, fq.UnsupportedError):
                 return "refused"
             try:
-                expected = [tuple(map(as_read, row)) for row in after()]
+                expected: object = [tuple(map(as_read, row)) for row in after()]
             except oracle.Overflow:
                 expected = fq.OverflowError
             try:
-                actual = frame.collect(batch=number % 3 + 1, program=path).rows()
+                actual: object = frame.collect(batch=number % 3 + 1, program=path).rows()
             except fq.OverflowError:
                 actual = fq.OverflowError
             return "alike" if actual == expected else (number, frame, rows, expected, actual)

@@ -78,7 +78,7 @@ def arithmetic(expr, kind, call, *terms):
 
 # ---- random expressions
 
-def number(draw, most_places):
+def random_number(draw, most_places):
     """A number with some digits behind the point."""
     return decimal.Decimal(draw.choice([draw.randint(-300, 300), draw.randint(-10**6, 10**6)])).scaleb(-draw.randint(0, most_places))
 
@@ -119,7 +119,7 @@ def constant(draw, kind):
     elif kind == INT:
         value = draw.randint(-5, 5)
     else:
-        value = at_scale(number(draw, kind.scale), kind)
+        value = at_scale(random_number(draw, kind.scale), kind)
     return Term(fq.lit(value, dtype=kind if draw.often(50) else None), kind, lambda rows, place: value)
 
 
@@ -133,12 +133,12 @@ def decimal_term(draw, kinds, kind, depth):
     if form == "neg":
         return arithmetic(-inner.expr, kind, EXACT.minus, inner)
     if form == "literal":
-        value = number(draw, scale) if draw.often(50) else draw.randint(-9, 9)
+        value = random_number(draw, scale) if draw.often(50) else draw.randint(-9, 9)
         if draw.often(50):
             return arithmetic(inner.expr + value, kind, lambda it: EXACT.add(it, value), inner)
         return arithmetic(value - inner.expr, kind, lambda it: EXACT.subtract(value, it), inner)
     if form == "fill":
-        value = number(draw, scale) if draw.often(50) else draw.randint(-9, 9)
+        value = random_number(draw, scale) if draw.often(50) else draw.randint(-9, 9)
         return Term(inner.expr.fill_null(value), kind, lambda rows, place: filled(inner.value(rows, place), at_scale(value, kind)))
     if form == "product" and scale > 1:
         left = draw.randint(1, scale - 1)
@@ -149,7 +149,7 @@ def decimal_term(draw, kinds, kind, depth):
         return arithmetic(inner.expr * other.expr if draw.often(50) else other.expr * inner.expr, kind, EXACT.multiply, inner, other)
     if form == "rolling" and draw.often(50):
         return rolling(draw, inner)
-    other, value = term(draw, kinds, INT, depth - 1), at_scale(number(draw, scale), kind)
+    other, value = term(draw, kinds, INT, depth - 1), at_scale(random_number(draw, scale), kind)
     return arithmetic(other.expr * value, kind, lambda it: EXACT.multiply(it, value), other)
 
 
@@ -183,7 +183,7 @@ def whole(draw, kinds, depth):
         return computed(getattr(inner.expr.dt, part)(), INT, lambda it: getattr(it, part), inner)
     inner, divisor = term(draw, kinds, draw.choice([D2, D4, DATE, INT]), depth - 1), draw.choice([-7, -1, 0, 1, 3, 100, 10000])
     name = draw.choice(["floordiv", "mod"])
-    call = lambda it: getattr(operator, name)(int_of(it), divisor) if divisor else None  # noqa: E731
+    call = lambda it: getattr(operator, name)(int_of(it), divisor) if divisor else None
     return computed(getattr(inner.expr, name)(divisor), INT, lambda it: fitted(call(it)), inner)
 
 
@@ -223,7 +223,7 @@ def bound(draw, kind):
         return draw.choice([draw.randint(-5, 5), 2**63 - 1, -(2**63)])
     huge = draw.choice(["1e30", "-1e30", "92233720368547758.07", "92233720368547758.08", "-92233720368547758.085", "1e-30"])
     near = decimal.Decimal(draw.choice(CELLS.get(kind, CELLS[INT])) or 0) + draw.choice([1, -1, 5, 0]) * decimal.Decimal("0.00001")
-    return draw.choice([decimal.Decimal(huge), near, near, number(draw, scale_of(kind))])
+    return draw.choice([decimal.Decimal(huge), near, near, random_number(draw, scale_of(kind))])
 
 
 def kleene(left, right, decides):
@@ -343,7 +343,7 @@ class Chain:
             if not isinstance(kind, fq.Decimal):
                 return Term(inner.expr.sum() // fq.len(), INT, lambda rows, places: values(rows, places) // len(places))
             unit = decimal.Decimal(1).scaleb(-kind.scale)
-            mean = lambda rows, places: EXACT.multiply(int_of(at_scale(values(rows, places), kind)) // len(places), unit)  # noqa: E731
+            mean = lambda rows, places: EXACT.multiply(int_of(at_scale(values(rows, places), kind)) // len(places), unit)
             return Term(inner.expr.sum() // fq.len() * unit, kind, mean)
         return Term(getattr(inner.expr, function)(), kind, values)
 

@@ -126,35 +126,35 @@ class Runs(unittest.TestCase):
 
     def test_program_that_is_not_built(self):
         """It says so before its fault."""
-        program = self.file("frameq", "#!/bin/sh\necho 'frameq: not proved' >&2\necho 'frameq: file 0: header differs' >&2\nexit 4\n")
-        os.chmod(program, 0o755)
-        fault = self.faulted(fq.HeaderError, lambda: self.scan("m\n", n=INT).collect(program=program))
+        script = self.file("frameq", "#!/bin/sh\necho 'frameq: not proved' >&2\necho 'frameq: file 0: header differs' >&2\nexit 4\n")
+        os.chmod(script, 0o755)
+        fault = self.faulted(fq.HeaderError, lambda: self.scan("m\n", n=INT).collect(program=script))
         self.assertEqual(fault.line, "frameq: file 0: header differs")
 
     def test_details_are_whole_lines(self):
         """A name of a file may have any character but a line feed at which Python ends a line."""
         detail = "a\u2028b\x0c\x85.csv:1: column 0 is missing, the plan has \"n\""
-        program = self.file("frameq", f"#!/bin/sh\ncat >&2 << 'END'\nframeq: file 0: header differs\n  {detail}\nEND\nexit 4\n")
-        os.chmod(program, 0o755)
-        fault = self.faulted(fq.HeaderError, lambda: self.scan("", n=INT).collect(program=program))
+        script = self.file("frameq", f"#!/bin/sh\ncat >&2 << 'END'\nframeq: file 0: header differs\n  {detail}\nEND\nexit 4\n")
+        os.chmod(script, 0o755)
+        fault = self.faulted(fq.HeaderError, lambda: self.scan("", n=INT).collect(program=script))
         self.assertEqual(fault.details, (detail,))
 
     def test_what_a_program_says(self):
         """What it says beside an answer is a warning; where it says nothing of its end, the exception does."""
         lazy = self.scan("n\n", n=INT)
-        program = self.file("frameq", "#!/bin/sh\necho 'frameq: not proved' >&2\necho n\n")
-        os.chmod(program, 0o755)
+        script = self.file("frameq", "#!/bin/sh\necho 'frameq: not proved' >&2\necho n\n")
+        os.chmod(script, 0o755)
         with self.assertWarnsRegex(UserWarning, "not proved"):
-            self.assertEqual(lazy.collect(program=program).rows(), [])
+            self.assertEqual(lazy.collect(program=script).rows(), [])
         for end, said in [("kill -9 $$", "signal 9"), ("exit 9", "status 9")]:
             with self.subTest(end):
                 self.file("frameq", f"#!/bin/sh\n{end}\n")
-                self.assertIn(said, str(self.faulted(fq.FrameqError, lambda: lazy.collect(program=program))))
+                self.assertIn(said, str(self.faulted(fq.FrameqError, lambda: lazy.collect(program=script))))
 
     def test_column(self):
         """A column that a frame does not have."""
         with self.assertRaises(fq.ColumnNotFoundError):
-            self.scan("n\n", n=INT).collect(program=self.program)["m"]
+            _ = self.scan("n\n", n=INT).collect(program=self.program)["m"]
 
     def faulted(self, error, run):
         with self.assertRaises(error) as raised:

@@ -7,7 +7,7 @@ import json
 import sqlite3
 import unittest
 
-import repository  # noqa: F401
+import repository  # pylint: disable=unused-import
 
 from frameq._sql import sql
 from frameq._sql_setup import sql_setup
