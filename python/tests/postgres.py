@@ -6,10 +6,10 @@ import re
 import shutil
 import signal
 import subprocess
-import sys
 import tempfile
 import time
-import unittest
+
+from repository import require
 
 # The first version that has what the scripts use.
 OLDEST = 15
@@ -18,7 +18,7 @@ OLDEST = 15
 USER = "nobody"
 
 # What makes tests faster, and changes no answer.
-SETTINGS = ["fsync=off", "full_page_writes=off", "synchronous_commit=off", "jit=off", "max_connections=10", "statement_timeout=300s"]
+SETTINGS = ("fsync=off", "full_page_writes=off", "synchronous_commit=off", "jit=off", "max_connections=10", "statement_timeout=300s")
 
 # How long the server may take to start, or to stop.
 MOST_SECONDS = 120
@@ -55,7 +55,7 @@ class Server:
             "PGHOST": self.room, "PGUSER": "frameq", "PGDATABASE": "postgres", "PGCLIENTENCODING": "UTF8",
             "PGOPTIONS": "-c client_min_messages=warning",
         }
-        self.how = {}
+        self.how: dict = {}
         if os.geteuid() == 0:
             user = pwd.getpwnam(USER)
             self.how = {"user": user.pw_uid, "group": user.pw_gid, "extra_groups": []}
@@ -103,11 +103,9 @@ class Server:
 
 
 def start_server(add_cleanup):
-    """A server, which is stopped at the end. Skips the tests if there is no PostgreSQL."""
+    """A server, which is stopped at the end. The tests fail without PostgreSQL, or are left out, as `require` says."""
     programs = server_programs()
-    if programs is None:
-        print(f"PostgreSQL {OLDEST} or later is not installed: the tests that run it are left out", file=sys.stderr)
-        raise unittest.SkipTest("no PostgreSQL")
+    require("PostgreSQL", programs is not None)
     server = Server(programs)
     add_cleanup(server.stop)
     server.start()

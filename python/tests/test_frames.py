@@ -15,7 +15,7 @@ import unittest
 from concurrent.futures import ThreadPoolExecutor
 from unittest import mock
 
-from repository import ROOT, fq, program
+from repository import ROOT, fq, pandas, program
 
 from frameq import _printed
 from frameq._results import read_frame
@@ -176,7 +176,8 @@ class Files(unittest.TestCase):
         self.assertEqual(self.held(), wanted.encode())
         result.head(0).write_csv(pathlib.Path(self.path))
         self.assertEqual(self.held(), b"foo,bar,ham\n")
-        for file, value in [(io.StringIO(), wanted), (io.BytesIO(), wanted.encode())]:
+        written: list = [(io.StringIO(), wanted), (io.BytesIO(), wanted.encode())]
+        for file, value in written:
             with self.subTest(value):
                 self.assertIsNone(result.write_csv(file))
                 self.assertEqual(file.getvalue(), value)
@@ -210,15 +211,15 @@ class Files(unittest.TestCase):
 
     def test_folder(self):
         """A folder is refused as the place of a result in parts before a part runs. A script stands in for the program."""
-        program, runs = os.path.join(self.room, "frameq"), os.path.join(self.room, "runs")
-        with open(program, "w", encoding="utf-8") as file:
+        script, runs = os.path.join(self.room, "frameq"), os.path.join(self.room, "runs")
+        with open(script, "w", encoding="utf-8") as file:
             file.write(f'#!/bin/sh\necho "$@" >> {runs}\necho n\n')
-        os.chmod(program, 0o755)
+        os.chmod(script, 0o755)
         with open(self.path, "w", encoding="utf-8") as file:
             file.write("n\n")
         lazy = fq.scan_csv(self.path, schema={"n": INT})
         with ThreadPoolExecutor(1) as executor, self.assertRaisesRegex(fq.WriteError, "^write failed: .*directory"):
-            lazy.sink_csv(self.room, program=program, executor=executor)
+            lazy.sink_csv(self.room, program=script, executor=executor)
         with open(runs, encoding="utf-8") as file:
             self.assertNotIn("result.csv", file.read())
         self.assertEqual(sorted(os.listdir(self.room)), ["frameq", "result.csv", "runs"])
@@ -314,7 +315,7 @@ class Parts(unittest.TestCase):
     def test_columns(self):
         """A frame goes over its columns, and what it gives is one's own."""
         columns = [[1, 2, 3, 4, 5], [6, 7, 8, 9, 10], ["a", "b", "c", "d", "e"]]
-        self.assertEqual([column for column in FOO], columns)
+        self.assertEqual(list(FOO), columns)
         self.assertEqual(list(FOO.iter_columns()), columns)
         self.assertEqual(FOO.get_columns(), columns)
         self.assertEqual(FOO.get_column("ham"), columns[2])
@@ -554,9 +555,9 @@ class Progress(unittest.TestCase):
             self.assertEqual("1 of 2 MB" in stream.getvalue(), progress)
         self.assertEqual(errors[0], errors[1])
         for progress in (False, True):
-            with contextlib.redirect_stderr(Screen()), self.assertRaises(fq.ArgumentsError) as raised:
+            with contextlib.redirect_stderr(Screen()), self.assertRaises(fq.ArgumentsError) as refused:
                 lazy.collect(workers=17, program=path, progress=progress)
-            errors.append(str(raised.exception))
+            errors.append(str(refused.exception))
         self.assertEqual(errors[2], errors[3])
 
 
@@ -564,11 +565,7 @@ class Pandas(unittest.TestCase):
     """Beside pandas."""
 
     def setUp(self):
-        try:
-            import pandas
-        except ImportError as error:
-            raise unittest.SkipTest(str(error)) from error
-        self.pandas = pandas
+        self.pandas = pandas()
 
     def of_values(self, columns, rows):
         """A frame of pandas with nullable columns, made of values."""

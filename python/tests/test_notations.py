@@ -11,7 +11,7 @@ from concurrent.futures import ThreadPoolExecutor
 from decimal import Decimal
 from unittest import mock
 
-from repository import fq, program
+from repository import fq, pandas, program
 
 from frameq._cuts import cuts
 from frameq._kinds import int_at, value_of_int
@@ -288,7 +288,7 @@ class Arguments(unittest.TestCase):
             ({}, []),
         ]:
             with self.subTest(given):
-                run = lambda given=given: fq.run_plan(lazy.plan(), lazy.files(), program=self.program, **given)  # noqa: E731
+                run = lambda given=given: fq.run_plan(lazy.plan(), lazy.files(), program=self.program, **given)
                 said = self.words(run, "total,n\n1.50,202403\n")
                 self.assertEqual(said, ["--details", *words, "main.csv"])
         for given in [{"notations": {"a": INT}}, {"notations": {"total": D4}, "schema": {"total": D2, "n": INT}}]:
@@ -333,7 +333,8 @@ class Arguments(unittest.TestCase):
             (frame().join(plain, on="n", how="semi"), "give both the same kind"),
         ]:
             with self.subTest(words):
-                lazy.plan(), lazy.collect_schema()
+                lazy.plan()
+                lazy.collect_schema()
                 for name, given in [("collect", ()), ("explain", ()), ("notations", ()), ("sink_csv", ("x",)), ("sql", ("postgres",))]:
                     with self.assertRaises(fq.UnsupportedError) as raised:
                         getattr(lazy, name)(*given)
@@ -421,15 +422,12 @@ class Results(unittest.TestCase):
 
     def test_pandas(self):
         """Decimals are objects, and dates are datetimes."""
-        try:
-            import pandas
-        except ImportError:
-            self.skipTest("no pandas")
+        is_null = pandas().isna
         text = self.TEXT.replace("0001-01-01", "2001-01-01").replace("9999-12-31", "1999-12-31")
         for result in [read_frame(text.encode(), self.COLUMNS), read_frame(text.encode(), self.COLUMNS).head(4)]:
             made = result.to_pandas()
-            self.assertEqual([None if pandas.isna(it) else it for it in made["a"]], result["a"])
-            self.assertEqual([None if pandas.isna(it) else it.date() for it in made["d"]], result["d"])
+            self.assertEqual([None if is_null(it) else it for it in made["a"]], result["a"])
+            self.assertEqual([None if is_null(it) else it.date() for it in made["d"]], result["d"])
             self.assertEqual((made["a"].dtype.kind, made["d"].dtype.kind), ("O", "M"))
 
     def test_polars(self):

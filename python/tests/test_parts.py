@@ -7,14 +7,15 @@ import multiprocessing
 import os
 import signal
 import subprocess
-import sys
 import tempfile
 import threading
 import unittest
 from concurrent.futures import Executor, Future, ProcessPoolExecutor, ThreadPoolExecutor
 from unittest import mock
 
-from repository import ROOT, fq, program
+from repository import ROOT, fq, program, python_with, require
+
+from frameq._tasks import run_all
 
 import cases
 import oracle
@@ -121,7 +122,7 @@ process_pool = functools.partial(ProcessPoolExecutor, mp_context=multiprocessing
 class Cancelled(Executor):
     """All that it is given is cancelled."""
 
-    def submit(self, call, *args, **others):
+    def submit(self, call, /, *args, **others):
         future = Future()
         future.cancel()
         return future
@@ -134,7 +135,7 @@ class Remembering(ThreadPoolExecutor):
         super().__init__(2)
         self.calls = {}
 
-    def submit(self, call, *args, **others):
+    def submit(self, call, /, *args, **others):
         key = repr((call, args, others))
         if key not in self.calls:
             self.calls[key] = super().submit(call, *args, **others)
@@ -149,7 +150,7 @@ class Late(ThreadPoolExecutor):
         self.count, self.ends = count, [threading.Event() for _ in range(count)]
         self.given = 0
 
-    def submit(self, call, *args, **others):
+    def submit(self, call, /, *args, **others):
         number, self.given = self.given, self.given + 1
         return super().submit(self.run_late, number, call, *args)
 
@@ -164,6 +165,9 @@ class Late(ThreadPoolExecutor):
 
 class Parts(unittest.TestCase):
     """Each test has a folder of its own, and threads that run tasks."""
+
+    program: str
+    pool: Executor
 
     @classmethod
     def setUpClass(cls):
@@ -541,8 +545,8 @@ class Parts(unittest.TestCase):
         submitted = threading.Semaphore(0)
 
         class Counting(ThreadPoolExecutor):
-            def submit(self, *call, **named):
-                future = super().submit(*call, **named)
+            def submit(self, call, /, *args, **named):
+                future = super().submit(call, *args, **named)
                 submitted.release()
                 return future
 
@@ -581,9 +585,7 @@ class Parts(unittest.TestCase):
 @contextlib.contextmanager
 def steps_of_tasks():
     """A list that has the number of steps of each task that is run meanwhile."""
-    from frameq import _parts
-
-    counts, run_all = [], _parts.run_all
+    counts = []
 
     def noting(executor, runs, *others):
         counts.extend(len(plan["steps"]) for plan, _, _ in runs)
@@ -609,11 +611,8 @@ class Random(unittest.TestCase):
     def test_dask(self):
         """On Dask's scheduler with four processes, by a Python that has it. A process that is killed is another test there."""
         path = program()
-        for python in (sys.executable, "/usr/bin/python3"):
-            if subprocess.run([python, "-c", "import distributed"], capture_output=True, check=False).returncode == 0:
-                break
-        else:
-            self.skipTest("Dask is not installed (Debian's python3-distributed): its scheduler is left out")
+        python = python_with("distributed")
+        require("Dask", python is not None)
         script = os.path.join(ROOT, "python", "tests", "on_dask.py")
         ran = subprocess.run([python, script, path, str(2 * COUNT), str(3 * COUNT)], capture_output=True, text=True, check=False)
         self.assertEqual((ran.returncode, ran.stdout), (0, f"{COUNT} plans on Dask, none different\n"), ran.stderr)

@@ -1,6 +1,7 @@
 """Tests of plans as SQL, on PostgreSQL: plans written by hand, random plans, compared with frameq, and scripts that load files.
 
-They start a server of their own, and are left out where there is none. The variable SEED gives other random plans, FRAMES their number.
+They start a server of their own, and fail where there is none, unless it is left out. The variable SEED gives other random plans, FRAMES
+their number.
 """
 import csv
 import datetime
@@ -10,6 +11,8 @@ import itertools
 import json
 import os
 import re
+import shutil
+import subprocess
 import sys
 import tempfile
 import unittest
@@ -28,6 +31,13 @@ from postgres import start_server
 from sql_by_hand import ByHand
 from sql_cases import A_B, GREATEST, LEAST, SEED, as_text, column, plan_of, quoted, random_cases, row_name
 import test_random_notations as chains
+
+
+def read(page):
+    """The text of a page."""
+    with open(os.path.join(ROOT, "docs", f"{page}.md"), encoding="utf-8") as file:
+        return file.read()
+
 
 # Random cases are drawn until frameq has given so many frames.
 FRAMES = int(os.environ.get("FRAMES", "2000"))
@@ -54,13 +64,13 @@ server = None
 
 
 def setUpModule():
-    global server
+    global server  # pylint: disable=global-statement
     server = start_server(unittest.addModuleCleanup)
 
 
 # ---- running queries
 
-ESCAPES = {"\\": "\\\\", "\n": "\\n", "\r": "\\r", "\t": "\\t"}
+ESCAPES: dict = {"\\": "\\\\", "\n": "\\n", "\r": "\\r", "\t": "\\t"}
 
 
 def to_field(kind, cell):
@@ -74,7 +84,8 @@ def to_field(kind, cell):
 
 def to_cell(kind, field):
     """The cell that psql prints as this field."""
-    return None if field == NULL else {"int": int, "text": str, "bool": "t".__eq__}[kind](field)
+    readers: dict = {"int": int, "text": str, "bool": "t".__eq__}
+    return None if field == NULL else readers[kind](field)
 
 
 def table_script(table, columns, rows, row):
@@ -97,7 +108,7 @@ def answers(queries):
     error in which it ended. A query is its text, the columns and rows of each table, and the name of the column that numbers rows."""
     scripts = []
     for query, tables, row in queries:
-        made = "".join(table_script(f"source{number}", *table, row) for number, table in enumerate(tables))
+        made = "".join(table_script(f"source{number}", columns, rows, row) for number, (columns, rows) in enumerate(tables))
         scripts.append(f"BEGIN;\n{made}{query};\n\\echo '{END}' :SQLSTATE\nROLLBACK;\n")
     ran = server.psql("".join(scripts).encode(), "--csv", f"--pset=null={NULL}")
     parts = re.findall(f"(.*?)^{END} (.....)\n", ran.stdout.decode(), re.M | re.S)
@@ -363,6 +374,42 @@ class Setup(OnPostgres):
         names, rows = names_and_rows(self.psql(query.encode(), "--csv", f"--pset=null={NULL}"))
         self.assertEqual(names, [row, *columns])
         return cells(["int", *columns.values()], rows)
+
+    def test_the_commands_of_the_page(self):
+        """The commands of docs/SQL.md, with the report of docs/PYTHON.md, print what a run prints."""
+        example = os.path.join(ROOT, "examples", "monthly_sales")
+        here = shutil.copytree(example, os.path.join(self.folder, "example"))
+        python, commands = (
+            re.search(pattern, read(page), re.S)[1]
+            for page, pattern in [
+                ("PYTHON", r"## A report\n.*?```python\n(.*?)print\("), ("SQL", r"## Load PostgreSQL\n.*?```sh\n(.*?)```"),
+            ]
+        )
+        with open(os.path.join(here, "report.py"), "w", encoding="utf-8") as file:
+            file.write(python)
+        os.symlink(self.program, os.path.join(self.folder, "frameq"))
+        path = os.pathsep.join([self.folder, os.path.dirname(server.psql_words()[0]), os.environ["PATH"]])
+        environment = {**server.environment, "PATH": path, "PYTHONPATH": os.path.join(ROOT, "python")}
+        ran = subprocess.run(["sh", "-c", commands], cwd=here, env=environment, capture_output=True, text=True, check=False)
+        with open(os.path.join(example, "expected"), encoding="utf-8") as file:
+            self.assertEqual((ran.returncode, ran.stderr), (0, ""))
+            self.assertTrue(ran.stdout.endswith(file.read()), ran.stdout)
+
+    def test_the_script_of_the_cookbook(self):
+        """docs/COOKBOOK.md loads a report into a table; at a fault there is no table."""
+        example = os.path.join(ROOT, "examples", "monthly_revenue")
+        os.symlink(self.program, os.path.join(self.folder, "frameq"))
+        with mock.patch.dict(server.environment, PATH=f"{self.folder}:{os.environ['PATH']}"):
+            ran = server.psql(b"", "-1", "-f", "load.sql", folder=example)
+            self.assertEqual((ran.returncode, ran.stderr), (0, b""))
+            with open(os.path.join(example, "expected"), encoding="utf-8") as file:
+                self.assertEqual(self.psql(b"TABLE revenue; DROP TABLE revenue;", "--csv"), file.read())
+            shutil.copytree(example, os.path.join(self.folder, "example"))
+            with open(os.path.join(self.folder, "example", "2024.csv"), "ab") as file:
+                file.write(b"a row of one field\n")
+            ran = server.psql(b"", "-1", "-f", "load.sql", folder=os.path.join(self.folder, "example"))
+            self.assertEqual(ran.returncode, 3)
+            self.assertEqual(self.psql(b"SELECT COUNT(*) FROM pg_tables WHERE schemaname = 'loaded'", "-At"), "0\n")
 
     def test_a_table_has_the_rows_that_a_run_reads(self):
         columns = [["it's; --", "text"], ['say "so" \\', "int"], ["p:q", "bool"], ["row", "text"]]
