@@ -3,8 +3,8 @@
 
     examples/make_expected.py
 
-Writes `expected` in each folder, and `error` and `status` where the run has to end in a fault. The files are committed; a run
-gives the same bytes again. Each frame is an SQL query over the same files. Each fault of a file is searched row by row.
+Writes `expected` in each folder. Where the run has to end in a fault, it writes `error`, and the status in `command`. The files are
+committed; a run gives the same bytes again. Each frame is an SQL query over the same files. Each fault of a file is searched row by row.
 """
 import csv
 import os
@@ -34,9 +34,10 @@ def write(folder, name, text):
 
 
 def expect_fault(folder, status, line):
-    write(folder, "expected", "")
     write(folder, "error", f"frameq: {line}\n")
-    write(folder, "status", f"{status}\n")
+    with open(os.path.join(HERE, folder, "command"), encoding="utf-8") as file:
+        words = file.readline()
+    write(folder, "command", f"{words}status {status}\n")
 
 
 # ---- frames, by SQL

@@ -306,9 +306,14 @@ def read(*path):
         return file.read()
 
 
+def command_lines(name):
+    """The command of an example, and the status in which it ends if that is not 0."""
+    return read(name, "command").decode().splitlines()
+
+
 def words_of(name):
     """The words of an example's command behind its plan: those of `--decimal` and of `--date`, and its files."""
-    words, options = shlex.split(read(name, "command").decode())[3:], {"--decimal": [], "--date": []}
+    words, options = shlex.split(command_lines(name)[0])[3:], {"--decimal": [], "--date": []}
     while words[0] in options:
         option, entries, *words = words
         options[option] += entries.split(",")
@@ -367,7 +372,7 @@ class Examples(unittest.TestCase):
             self.frame(name).sink_csv(result, program=path)
         self.assertEqual((raised.exception.line + "\n").encode(), read(name, "error"))
         self.assertTrue(raised.exception.details)
-        self.assertEqual(raised.exception.status, int(read(name, "status")))
+        self.assertEqual(f"status {raised.exception.status}", command_lines(name)[1])
 
 
 if __name__ == "__main__":
