@@ -15,3 +15,5 @@ pub mod Made
 pub mod Steps
 pub mod Value
 pub mod Needed
+pub mod Followed
+pub mod Naming

@@ -4,3 +4,4 @@ pub mod PrintLemmas
 pub mod DateLemmas
 pub mod LawLemmas
 pub mod NamedLemmas
+pub mod NamingLemmas

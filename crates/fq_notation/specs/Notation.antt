@@ -1,5 +1,5 @@
 -- The int that a field is, and the text of an int, by the notation of a column; and the notation of a column, by its name.
-use Rattle.std.specs.Prelude.{ℕ, ℤ, List, [], ◌∷◌, Option, if◌then◌else◌}
+use Rattle.std.specs.Prelude.{ℕ, ℤ, List, [], ◌∷◌, Option, find, option_map, if◌then◌else◌}
 use Rattle.std.specs.Fmt.{signed_decimal}
 use Rattle.fq_column.specs.Frame.{Field, Name, same_name}
 use Rattle.fq_column.specs.declared.cells.Kind.TheVariants.{Whole, Text, Truth}
@@ -27,6 +27,10 @@ Named = Name × Notation
 abbrev pub notation_named : List Named → Name → Notation
 notation_named [] name = Plain
 notation_named (n ∷ named) name = if same_name n.0 name then n.1 else notation_named named name
+
+-- the notation that an entry of this name gives, the first if there are more
+abbrev pub notation_given : List Named → Name → Option Notation
+notation_given named name = option_map (λ n. n.1) (find (λ n. same_name n.0 name) named)
 
 -- the notation of a column: only one of ints has another than digits
 abbrev pub notation_in : List Named → Field → Notation

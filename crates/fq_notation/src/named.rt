@@ -1,7 +1,7 @@
 //! Notations by the names of columns.
-ghost use Rattle.std.specs.Prelude.{◌≡◌, IfOk, find, map, option_map, string_bytes};
+ghost use Rattle.std.specs.Prelude.{◌≡◌, ◌++◌, ◌∷◌, [], IfOk, OnErr, OnOk, find, map, option_map, string_bytes};
 ghost use Rattle.fq_column.specs.Frame.{same_name};
-ghost use Rattle.fq_notation.specs.Notation.{notation_in};
+ghost use Rattle.fq_notation.specs.Notation.{notation_given, notation_in};
 
 use crate::columns::Notations;
 use crate::notations::Notation;
@@ -39,6 +39,39 @@ impl NamedNotations {
         ensures { map (λ entry. (string_bytes entry.0, entry.1)) result.now ≡ self.now }
     {
         self.named.as_slice()
+    }
+
+    /// No names, with room for so many. `Memory` if an allocation fails.
+    pub fn with_capacity(alloc: Global, most: usize) -> Result<NamedNotations, Memory>
+        ensures { IfOk result (λ n. n ≡ []) }
+    {
+        let named = Vec::with_capacity(alloc, most)?;
+        Ok(NamedNotations { named })
+    }
+
+    /// One more name, after the others. `Memory` if an allocation fails, and then the names are as they were.
+    pub fn add(&mut self, alloc: Global, name: &str, notation: Notation) -> Result<(), Memory>
+        ensures added { OnOk result (self.new ≡ self.old ++ (name.now, notation) ∷ []) }
+        ensures refused { OnErr result (self.new ≡ self.old) }
+    {
+        let name = String::from_str(alloc, name)?;
+        Ok(self.named.push((name, notation))?)
+    }
+
+    /// These names and their notations before others. `Memory` if an allocation fails.
+    pub fn before(mut self, others: NamedNotations) -> Result<NamedNotations, Memory>
+        ensures { IfOk result (λ n. n ≡ self ++ others) }
+    {
+        let NamedNotations { mut named } = others;
+        self.named.append(&mut named)?;
+        Ok(self)
+    }
+
+    /// The notation of the first entry of this name; `None` if there is none.
+    pub fn given(&self, name: &str) -> Option<Notation>
+        ensures { result ≡ notation_given self.now name.now }
+    {
+        first_under(name, self.named.as_slice())
     }
 
     /// The notation of a column of this name and kind: one of another kind than int is read and printed as it is.

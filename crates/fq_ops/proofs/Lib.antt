@@ -27,3 +27,4 @@ pub mod RunningLemmas
 pub mod SeenPartLemmas
 pub mod WindowLemmas
 pub mod ZipLemmas
+mod NotedLemmas

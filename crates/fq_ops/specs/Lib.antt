@@ -22,3 +22,4 @@ pub mod Sums
 pub mod Table
 pub mod Taken
 pub mod Window
+pub mod Noted

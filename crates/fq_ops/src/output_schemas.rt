@@ -313,7 +313,7 @@ fn add_right(
 }
 
 // The name of a right column in the output.
-fn right_name_of(alloc: Global, left: &Schema, name: &str) -> Result<String, StepFault>
+pub fn right_name_of(alloc: Global, left: &Schema, name: &str) -> Result<String, StepFault>
     ensures ok { IfOk result (λ output. string_bytes output ≡ right_name left.now name.now) }
     ensures err { IfErr result (λ fault. fault ≡ StepFault.Memory) }
 {

@@ -1,0 +1,229 @@
+//! The notations after joins, groupings and rolling sums.
+ghost use Rattle.std.specs.Prelude.{◌≡◌, ◌⊎◌, IfOk, IfErr, None, Ok, Some, Err, map, slice_index_or, string_bytes};
+ghost use Rattle.fq_notation.specs.declared.naming.Said.{Said};
+ghost use Rattle.fq_ops.specs.AggregateData.{aggregate_of, outputs_of};
+ghost use Rattle.fq_ops.specs.Join.{right_name};
+ghost use Rattle.fq_ops.specs.Noted.{aggregate_noted, aggregates_noted, group_noted, join_noted, keys_differ, keys_noted, notation_at, right_noted, roll_noted};
+
+use crate::aggregates::{Agg, Function, What};
+use crate::joins::How;
+use crate::output_schemas::{contains, right_name_of};
+use fq_column::{Kind, Memory, Schema};
+use fq_notation::{
+    Followed, NamedNotations, Notation, Said, StepUnnoted, Unnoted, column_noted, count_noted,
+    renamed_noted, same_notation,
+};
+use std::alloc::Global;
+
+/// The notations after a join, under the names of its columns, by those of its sides.
+///
+/// `said` is what the names of the right columns after the join say, by their places on the right; past these nothing is said. `Item` is the
+/// first key whose notations differ, `Step` says that a right column has another notation than its new name declares, and `Memory` that an
+/// allocation failed.
+pub fn join_noted(
+    alloc: Global,
+    left: &Schema,
+    named: NamedNotations,
+    right: &Schema,
+    right_named: &NamedNotations,
+    on: &[String],
+    how: How,
+    said: &[Said],
+) -> Result<NamedNotations, StepUnnoted>
+    ensures noted { IfOk result (λ after. join_noted left.now named right.now right_named.now said.now how (map string_bytes on.now) ≡ Ok after) }
+    ensures refused { IfErr result (λ fault. (join_noted left.now named right.now right_named.now said.now how (map string_bytes on.now) ≡ Err fault) ⊎ (fault ≡ StepUnnoted.Memory)) }
+{
+    if let Some(why) = keys_differ(left, &named, right, right_named, on) {
+        return Err(why);
+    }
+    let made = match how {
+        How::Inner | How::Left => right_noted(alloc, left, right, right_named, on, said)?,
+        How::Semi | How::Anti => NamedNotations::with_capacity(alloc, 0)?,
+    };
+    Ok(made.before(named)?)
+}
+
+/// The notations after a grouping, under the names of its columns, by those before it.
+///
+/// `said` is what the names of the aggregates say, by their places; past these nothing is said. `Item` is the first aggregate that has no
+/// notation, and `Memory` says that an allocation failed.
+pub fn group_noted(
+    alloc: Global,
+    columns: &Schema,
+    named: &NamedNotations,
+    keys: &[String],
+    aggs: &[Agg],
+    said: &[Said],
+) -> Result<NamedNotations, StepUnnoted>
+    ensures noted { IfOk result (λ after. group_noted columns.now named.now said.now (map string_bytes keys.now) (outputs_of aggs.now) ≡ Ok after) }
+    ensures refused { IfErr result (λ fault. (group_noted columns.now named.now said.now (map string_bytes keys.now) (outputs_of aggs.now) ≡ Err fault) ⊎ (fault ≡ StepUnnoted.Memory)) }
+{
+    let keys = keys_noted(alloc, named, keys)?;
+    let aggregates = aggregates_noted(alloc, columns, named, aggs, said)?;
+    Ok(keys.before(aggregates)?)
+}
+
+/// The notations after a rolling sum over a column under a name which says this, by those before it. `Step` says that the sum has no
+/// notation, and `Memory` that an allocation failed.
+pub fn roll_noted(
+    alloc: Global,
+    columns: &Schema,
+    named: NamedNotations,
+    column: &str,
+    name: &str,
+    said: Said,
+) -> Result<NamedNotations, StepUnnoted>
+    ensures noted { IfOk result (λ after. roll_noted columns.now named said column.now name.now ≡ Ok after) }
+    ensures refused { IfErr result (λ fault. (roll_noted columns.now named said column.now name.now ≡ Err fault) ⊎ (fault ≡ StepUnnoted.Memory)) }
+{
+    match column_noted(true, said, Followed::of_named(columns, &named, column)) {
+        Ok(notation) => {
+            let mut made = NamedNotations::with_capacity(alloc, 1)?;
+            made.add(alloc, name, notation)?;
+            Ok(made.before(named)?)
+        }
+        Err(why) => Err(StepUnnoted::Step(why)),
+    }
+}
+
+// The notation of a named column of any kind.
+fn notation_at(columns: &Schema, named: &NamedNotations, name: &str) -> Notation
+    ensures { result ≡ notation_at columns.now named.now name.now }
+{
+    match columns.kind_of(name) {
+        Ok(kind) => named.of(name, kind),
+        Err(_) => Notation::Plain,
+    }
+}
+
+// The first key whose notations differ.
+fn keys_differ(
+    left: &Schema,
+    named: &NamedNotations,
+    right: &Schema,
+    right_named: &NamedNotations,
+    on: &[String],
+) -> Option<StepUnnoted>
+    ensures { result ≡ keys_differ left.now named.now right.now right_named.now 0 (map string_bytes on.now) }
+{
+    for place in 0..on.len() {
+        let key = on[place].as_str();
+        if !same_notation(
+            notation_at(left, named, key),
+            notation_at(right, right_named, key),
+        ) {
+            return Some(StepUnnoted::Item(place, Unnoted::Differ));
+        }
+    }
+    None
+}
+
+// What the name at this place says.
+fn said_at(said: &[Said], place: usize) -> Said
+    ensures { result ≡ slice_index_or said.now place Said.Nothing }
+{
+    said.get(place).copied().unwrap_or(Said::Nothing)
+}
+
+// The right columns that are no keys, under their names after the join, each with its notation.
+#[tactic(auto, using(fq_notation::proofs::NamingLemmas::before_all_append))]
+fn right_noted(
+    alloc: Global,
+    left: &Schema,
+    right: &Schema,
+    right_named: &NamedNotations,
+    on: &[String],
+    said: &[Said],
+) -> Result<NamedNotations, StepUnnoted>
+    ensures noted { IfOk result (λ made. right_noted left.now right_named.now said.now (map string_bytes on.now) 0 right.now ≡ Ok made) }
+    ensures refused { IfErr result (λ fault. (right_noted left.now right_named.now said.now (map string_bytes on.now) 0 right.now ≡ Err fault) ⊎ (fault ≡ StepUnnoted.Memory)) }
+{
+    let mut made = NamedNotations::with_capacity(alloc, right.len())?;
+    for place in 0..right.len() {
+        let (name, kind) = (right.name(place), right.kind(place));
+        if !contains(on, name) {
+            match renamed_noted(said_at(said, place), right_named.of(name, kind)) {
+                Ok(notation) => {
+                    let after = name_after(alloc, left, name)?;
+                    made.add(alloc, after.as_str(), notation)?
+                }
+                Err(why) => return Err(StepUnnoted::Step(why)),
+            }
+        }
+    }
+    Ok(made)
+}
+
+// The name of a right column after the join.
+fn name_after(alloc: Global, left: &Schema, name: &str) -> Result<String, StepUnnoted>
+    ensures ok { IfOk result (λ output. string_bytes output ≡ right_name left.now name.now) }
+    ensures err { IfErr result (λ fault. fault ≡ StepUnnoted.Memory) }
+{
+    match right_name_of(alloc, left, name) {
+        Ok(output) => Ok(output),
+        Err(_) => Err(StepUnnoted::Memory),
+    }
+}
+
+// The keys of a grouping, each with its notation.
+fn keys_noted(
+    alloc: Global,
+    named: &NamedNotations,
+    keys: &[String],
+) -> Result<NamedNotations, Memory>
+    ensures { IfOk result (λ made. made ≡ keys_noted named.now (map string_bytes keys.now)) }
+{
+    let mut made = NamedNotations::with_capacity(alloc, keys.len())?;
+    for key in keys {
+        let name = key.as_str();
+        made.add(alloc, name, named.of(name, Kind::Whole))?;
+    }
+    Ok(made)
+}
+
+// The aggregates of a grouping, each with its notation.
+#[tactic(auto, using(fq_notation::proofs::NamingLemmas::before_all_append))]
+fn aggregates_noted(
+    alloc: Global,
+    columns: &Schema,
+    named: &NamedNotations,
+    aggs: &[Agg],
+    said: &[Said],
+) -> Result<NamedNotations, StepUnnoted>
+    ensures noted { IfOk result (λ made. aggregates_noted columns.now named.now said.now 0 (outputs_of aggs.now) ≡ Ok made) }
+    ensures refused { IfErr result (λ fault. (aggregates_noted columns.now named.now said.now 0 (outputs_of aggs.now) ≡ Err fault) ⊎ (fault ≡ StepUnnoted.Memory)) }
+{
+    let mut made = NamedNotations::with_capacity(alloc, aggs.len())?;
+    for place in 0..aggs.len() {
+        let agg = &aggs[place];
+        match aggregate_noted(columns, named, &agg.what, said_at(said, place)) {
+            Ok(notation) => made.add(alloc, agg.name.as_str(), notation)?,
+            Err(why) => return Err(StepUnnoted::Item(place, why)),
+        }
+    }
+    Ok(made)
+}
+
+// The notation of an aggregate under a name that says this.
+fn aggregate_noted(
+    columns: &Schema,
+    named: &NamedNotations,
+    what: &What,
+    said: Said,
+) -> Result<Notation, Unnoted>
+    ensures { result ≡ aggregate_noted columns.now named.now said (aggregate_of what.now) }
+{
+    match what {
+        What::Len => count_noted(said),
+        What::Of(function, name) => {
+            let column = Followed::of_named(columns, named, name.as_str());
+            match function {
+                Function::Sum => column_noted(true, said, column),
+                Function::Min | Function::Max | Function::First | Function::Last => column_noted(
+                    false, said, column,
+                ),
+                Function::Count | Function::Len | Function::NUnique => count_noted(said),
+            }
+        }
+    }
+}
