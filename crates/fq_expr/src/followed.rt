@@ -10,8 +10,8 @@ use fq_notation::{Followed, NamedNotations, Scales};
 impl Expr {
     /// What the ints of the expression stand for, by the notations under the names of a schema's columns. Allocates nothing.
     ///
-    /// `None` where they cannot stand for anything: a sum or a comparison of numbers of different scales, or of a number and a day, and
-    /// arithmetic on days but for their parts.
+    /// `None` if they cannot stand for anything: in a sum or a comparison, numbers of different scales, or a number and a day. Arithmetic on
+    /// days gives their parts alone, by a quotient or a remainder.
     pub fn followed(&self, schema: &Schema, named: &NamedNotations) -> Option<Followed>
         ensures { result ≡ followed schema.now named.now (expression_of self.now) }
     {

@@ -16,8 +16,8 @@ use std::alloc::Global;
 impl RowStep {
     /// The notations after the step, under the names of its columns, by those before it.
     ///
-    /// `said` is what the names of its outputs say, by their places; of an output past these nothing is said. `Item` is the first output that
-    /// has no notation, `Step` says that the parts of a predicate cannot be compared, and `Memory` that an allocation failed.
+    /// `said` has what the name of each output says, by its place. The name of an output past its end says nothing. `Item` is the first
+    /// output that has no notation, `Step` says that the parts of a predicate cannot be compared, and `Memory` that an allocation failed.
     pub fn noted(
         &self,
         alloc: Global,

@@ -17,9 +17,9 @@ use std::alloc::Global;
 
 /// The notations after a join, under the names of its columns, by those of its sides.
 ///
-/// `said` is what the names of the right columns after the join say, by their places on the right; past these nothing is said. `Item` is the
-/// first key whose notations differ, `Step` says that a right column has another notation than its new name declares, and `Memory` that an
-/// allocation failed.
+/// `said` has what the name of each right column says after the join, by its place on the right. A name past its end says nothing. `Item` is
+/// the first key whose notations differ, `Step` says that a right column has another notation than its new name declares, and `Memory` that
+/// an allocation failed.
 pub fn join_noted(
     alloc: Global,
     left: &Schema,
@@ -45,8 +45,8 @@ pub fn join_noted(
 
 /// The notations after a grouping, under the names of its columns, by those before it.
 ///
-/// `said` is what the names of the aggregates say, by their places; past these nothing is said. `Item` is the first aggregate that has no
-/// notation, and `Memory` says that an allocation failed.
+/// `said` has what the name of each aggregate says, by its place. A name past its end says nothing. `Item` is the first aggregate that has
+/// no notation, and `Memory` says that an allocation failed.
 pub fn group_noted(
     alloc: Global,
     columns: &Schema,
@@ -125,7 +125,7 @@ fn said_at(said: &[Said], place: usize) -> Said
     said.get(place).copied().unwrap_or(Said::Nothing)
 }
 
-// The right columns that are no keys, under their names after the join, each with its notation.
+// The right columns without the keys, each under its name after the join, with its notation.
 #[tactic(auto, using(fq_notation::proofs::NamingLemmas::before_all_append))]
 fn right_noted(
     alloc: Global,
