@@ -17,3 +17,5 @@ pub mod StepLemmas
 pub mod NeedLemmas
 pub mod NeededLemmas
 pub mod MadeLemmas
+pub mod FollowedLemmas
+pub mod HomogeneityLemmas

@@ -52,7 +52,10 @@ is_null (null k) = true
 is_null (whole n) = false
 is_null (text t) = false
 is_null (truth b) = false
-is_null (unary op e) = false
+is_null (unary Neg e) = is_null e
+is_null (unary Not e) = false
+is_null (unary IsNull e) = false
+is_null (unary IsNotNull e) = false
 is_null (binary op d e) = false
 
 -- a number of eight digits, as a day has them, or a null

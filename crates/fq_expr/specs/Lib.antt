@@ -17,3 +17,4 @@ pub mod Value
 pub mod Needed
 pub mod Followed
 pub mod Naming
+pub mod Homogeneous

@@ -1,8 +1,8 @@
 -- The notation of a column that a step makes: by what its expression stands for, and by what its name says.
 use Rattle.std.specs.Prelude.{◌&&◌, ◌||◌, ◌+◌, ◌++◌, Bool, true, false, ℕ, List, [], ◌∷◌, Some, None, Result, Ok, Err, slice_index_or, if◌then◌else◌}
 use Rattle.std.specs.Result.{result_map_both}
-use Rattle.fq_column.specs.Frame.{Fields}
-use Rattle.fq_notation.specs.Naming.{column_followed, days_noted, is_digits, notation_said, noted_before, numbers_noted}
+use Rattle.fq_column.specs.Frame.{Fields, Name, same_name}
+use Rattle.fq_notation.specs.Naming.{column_followed, days_noted, is_digits, notation_at, notation_said, noted_before, numbers_noted}
 use Rattle.fq_notation.specs.Notation.{Named}
 use Rattle.fq_notation.specs.declared.notations.Notation.{Notation}
 use Rattle.fq_notation.specs.declared.notations.Notation.TheVariants.{Plain}
@@ -62,6 +62,11 @@ module _ (fields : Fields) (named : List Named) where
 
 -- ---- items
 
+-- whether an expression is a column of this name
+abbrev pub is_itself : Name → Expression → Bool
+is_itself name (column other) = same_name name other
+is_itself name e = false
+
 module _ (fields : Fields) (named : List Named) where
   abbrev pub made_of : Expression → Made
   made_of e = record { digits = are_digits fields named false e; of_digits = are_digits fields named true e; multiplied = multiplies e; remainder = is_remainder e }
@@ -75,12 +80,16 @@ module _ (fields : Fields) (named : List Named) where
     | Some Others ↦ Ok Plain
   ]
 
+  -- the notation of an item; that of a column under its own name stays
+  abbrev pub item_noted : Said → Item → Result Notation Unnoted
+  item_noted said i = if is_itself i.0 i.1 then Ok (notation_at fields named i.0) else expression_noted said i.1
+
   -- below, what the names of the items say, by their places; of an item past them nothing is said
   module _ (said : List Said) where
     -- the names of items, numbered from n, each with its notation, or the first that has none
     abbrev pub items_noted : ℕ → List Item → Result (List Named) StepUnnoted
     items_noted n [] = Ok []
-    items_noted n (i ∷ items) = noted_before i.0 (step.Item n) (expression_noted (slice_index_or said n says.Nothing) i.1) (items_noted (n + 1) items)
+    items_noted n (i ∷ items) = noted_before i.0 (step.Item n) (item_noted (slice_index_or said n says.Nothing) i) (items_noted (n + 1) items)
 
     -- the notations after a step, under the names of its columns
     abbrev pub step_noted : Step → Result (List Named) StepUnnoted

@@ -43,11 +43,15 @@ impl Expr {
         }
     }
 
-    /// Whether the expression is a null.
+    /// Whether the expression is a null, whatever its sign.
     fn is_null(&self) -> bool
         ensures { result ≡ is_null (expression_of self.now) }
     {
-        matches!(self, Expr::Null(_))
+        match self {
+            Expr::Null(_) => true,
+            Expr::One(Unary::Neg, part) => part.is_null(),
+            _ => false,
+        }
     }
 
     /// Whether the expression is a number of as many digits as a day has, or a null.
@@ -88,7 +92,7 @@ fn zeros_within(most: u8, number: u64) -> u8
 }
 
 // The scales of a number in a product: a power of ten may move the point.
-fn scales_of_factor(number: u64) -> Scales
+pub(crate) fn scales_of_factor(number: u64) -> Scales
     ensures { result ≡ scales_of_factor number }
 {
     let zeros = zeros_within(Scales::MAX, number);

@@ -13,11 +13,13 @@
 //!
 //! Modules, from the bottom up: `operands` (a borrowed column, an owned one, or a single value), `operations` (the loop over rows),
 //! `arithmetic`, `comparison` and `logic` (the operations), `kernels` (each operator on operands of any kind), `expressions` and
-//! `evaluation`, `steps` and `application`, `fronts`, `laws`.
+//! `evaluation`, `steps` and `application`, `fronts`, `laws`; beside them `followed`, `naming`, `beside` and `misfits`
+//! (what ints stand for).
 #![tactic(auto)]
 
 mod application;
 mod arithmetic;
+mod beside;
 mod comparison;
 mod evaluation;
 mod expressions;
@@ -26,13 +28,19 @@ mod fronts;
 mod kernels;
 mod laws;
 mod logic;
+mod misfits;
 mod naming;
 mod operands;
 mod operations;
 mod steps;
 
+pub use beside::Beside;
 pub use evaluation::eval;
 pub use expressions::{Binary, Expr, Unary};
 pub use fronts::{Front, MAX_STEPS, Piece, RowFault};
-pub use laws::{step_on_needed_columns, steps_of_joined_streams, value_of_read_columns};
+pub use laws::{
+    scale_that_is_read, step_on_needed_columns, steps_of_joined_streams, value_keeps_scale,
+    value_of_read_columns,
+};
+pub use misfits::Misfit;
 pub use steps::RowStep;

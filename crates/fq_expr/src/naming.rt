@@ -1,15 +1,14 @@
 //! The notations of columns that steps make.
-ghost use Rattle.std.specs.Prelude.{◌≡◌, ◌⊎◌, IfOk, IfErr, Ok, Err, slice_index_or};
-ghost use Rattle.fq_notation.specs.declared.naming.Said.{Said};
+ghost use Rattle.std.specs.Prelude.{◌≡◌, ◌⊎◌, IfOk, IfErr, Ok, Err};
 ghost use Rattle.fq_expr.specs.ExpressionData.{expression_of, items_of, step_of};
-ghost use Rattle.fq_expr.specs.Naming.{are_digits, expression_noted, is_remainder, items_noted, made_of, multiplies, step_noted};
+ghost use Rattle.fq_expr.specs.Naming.{are_digits, expression_noted, is_itself, is_remainder, item_noted, items_noted, made_of, multiplies, step_noted};
 
 use crate::expressions::{Binary, Expr};
 use crate::steps::RowStep;
 use fq_column::Schema;
 use fq_notation::{
     Followed, Made, NamedNotations, Notation, Said, StepUnnoted, Unnoted, days_noted, is_digits,
-    notation_said, numbers_noted,
+    notation_said, numbers_noted, said_at,
 };
 use std::alloc::Global;
 
@@ -59,7 +58,13 @@ fn noted_items(
     let mut made = NamedNotations::with_capacity(alloc, items.len())?;
     for place in 0..items.len() {
         let (name, expression) = &items[place];
-        match expression.noted(schema, named, said_at(said, place)) {
+        match noted_item(
+            schema,
+            named,
+            name.as_str(),
+            expression,
+            said_at(said, place),
+        ) {
             Ok(notation) => made.add(alloc, name.as_str(), notation)?,
             Err(why) => return Err(StepUnnoted::Item(place, why)),
         }
@@ -67,11 +72,20 @@ fn noted_items(
     Ok(made)
 }
 
-// What the name of the item at this place says.
-fn said_at(said: &[Said], place: usize) -> Said
-    ensures { result ≡ slice_index_or said.now place Said.Nothing }
+// The notation of an item. That of a column under its own name stays, since nothing is computed.
+fn noted_item(
+    schema: &Schema,
+    named: &NamedNotations,
+    name: &str,
+    expression: &Expr,
+    said: Said,
+) -> Result<Notation, Unnoted>
+    ensures { result ≡ item_noted schema.now named.now said (name.now, expression_of expression.now) }
 {
-    said.get(place).copied().unwrap_or(Said::Nothing)
+    if expression.is_column(name) {
+        return Ok(named.at(schema, name));
+    }
+    expression.noted(schema, named, said)
 }
 
 impl Expr {
@@ -94,6 +108,16 @@ impl Expr {
             Followed::Numbers(_) => Ok(notation_said(said)),
             Followed::Days => days_noted(said),
             Followed::Others => Ok(Notation::Plain),
+        }
+    }
+
+    /// Whether the expression is the column of this name.
+    pub fn is_column(&self, name: &str) -> bool
+        ensures { result ≡ is_itself name.now (expression_of self.now) }
+    {
+        match self {
+            Expr::Col(other) => name == other.as_str(),
+            _ => false,
         }
     }
 

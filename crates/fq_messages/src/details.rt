@@ -8,7 +8,7 @@ use fq_column::Kind;
 use fq_language::{Plan, read_plan, reason_of};
 use fq_notation::NamedNotations;
 use fq_places::{Quoted, Unread};
-use fq_plan::{Check, NotationFault};
+use fq_plan::{Check, Checked, NotationFault};
 use fq_run::Fault;
 use fq_shell::{OpenFault, Opener, Options, STANDARD_INPUT};
 use std::alloc::Global;
@@ -113,6 +113,9 @@ fn write_notation<E: Write>(
     let named = options.notations(alloc).ok()??;
     match fault {
         NotationFault::Memory => None,
+        NotationFault::Step(..) | NotationFault::Item(..) => {
+            write_step(alloc, fault, &named, text, err)
+        }
         NotationFault::Twice(place) => {
             let name = Quoted(named.entries().get(place)?.0.as_bytes());
             writeln!(err, "  {name} stands twice").ok()
@@ -123,6 +126,30 @@ fn write_notation<E: Write>(
             write_ints(alloc, text, err)
         }
     }
+}
+
+// Why a step of a plan leaves columns without notations, by the plan's text.
+fn write_step<E: Write>(
+    alloc: Global,
+    fault: NotationFault,
+    named: &NamedNotations,
+    text: &[u8],
+    err: &mut E,
+) -> Option<()> {
+    let plan = read_plan(alloc, text).ok()?.check(alloc).ok()?;
+    write_misfit(alloc, fault, named, &plan, err)
+}
+
+// Why a step of a plan does.
+fn write_misfit<E: Write>(
+    alloc: Global,
+    fault: NotationFault,
+    named: &NamedNotations,
+    plan: &Checked,
+    err: &mut E,
+) -> Option<()> {
+    let misfit = plan.misfit(alloc, named, fault).ok()??;
+    writeln!(err, "  {misfit}").ok()
 }
 
 // The columns of ints of a plan's sources and of its frame.

@@ -29,9 +29,9 @@ pub enum Failure {
     #[error("the frame would replace the plan")]
     PlanReplaced,
     /// An entry of `--decimal` is not a name with a scale.
-    #[error("--decimal takes NAME=SCALE, with a scale from 1 to 18")]
+    #[error("--decimal takes NAME=SCALE, with a scale from 0 to 18")]
     Decimals,
-    /// The plan has no column of ints for a notation, or a column has two.
+    /// The plan has no column of ints for a notation, a column has two, or a step leaves a column without one.
     #[error("--decimal, --date: {0}")]
     Notation(NotationFault),
     /// The plan file cannot be opened or read.

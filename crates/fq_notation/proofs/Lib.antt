@@ -5,3 +5,5 @@ pub mod DateLemmas
 pub mod LawLemmas
 pub mod NamedLemmas
 pub mod NamingLemmas
+pub mod ScaleLemmas
+pub mod MultipliedLemmas

@@ -4,3 +4,4 @@ pub mod Dates
 pub mod Notation
 pub mod Scales
 pub mod Naming
+pub mod Multiplied

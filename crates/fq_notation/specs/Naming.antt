@@ -5,7 +5,7 @@ use Rattle.fq_column.specs.declared.cells.Kind.{Kind}
 use Rattle.fq_column.specs.declared.cells.Kind.TheVariants as kind
 use Rattle.fq_column.specs.Frame.{Fields, Name}
 use Rattle.fq_column.specs.Schema.{kind_named}
-use Rattle.fq_notation.specs.Notation.{Named, notation_named}
+use Rattle.fq_notation.specs.Notation.{Named, notation_in, notation_named}
 use Rattle.fq_notation.specs.Scales.{ScaleRange, only, is_possible}
 use Rattle.fq_notation.specs.declared.followed.Followed.{Followed}
 use Rattle.fq_notation.specs.declared.followed.Followed.TheVariants.{Numbers, Days, Others}
@@ -36,6 +36,10 @@ scales_in Others = None
 module _ (fields : Fields) (named : List Named) where
   abbrev pub column_followed : Name → Followed
   column_followed name = elim (kind_named fields name) [ Ok k ↦ of_column k (notation_named named name) | Err fault ↦ Others ]
+
+  -- the notation of a named column of any kind
+  abbrev pub notation_at : Name → Notation
+  notation_at name = elim (kind_named fields name) [ Ok k ↦ notation_in named (name, k) | Err fault ↦ Plain ]
 
 -- whether the ints of a column are in digits, or, if days count too, are days
 abbrev pub is_digits : Bool → Followed → Bool
@@ -106,9 +110,13 @@ abbrev pub or_unnoted : Unnoted → Option Notation → Result Notation Unnoted
 or_unnoted why (Some n) = Ok n
 or_unnoted why None = Err why
 
--- whether numbers may be days of a name that says so
+-- whether numbers are read as digits, or else are made of digits and days alone
+abbrev pub reads_digits : Made → ScaleRange → Bool
+reads_digits made scales = elim scales.read [ Some n ↦ n == 0 | None ↦ made.of_digits && is_possible scales 0 ]
+
+-- whether they may be days of a name that says so
 abbrev pub may_be_days : Made → ScaleRange → Bool
-may_be_days made scales = (made.of_digits && not made.remainder) && are_read_as_digits scales
+may_be_days made scales = reads_digits made scales && not made.remainder
 
 -- days, if they may be, or else what is read
 abbrev pub days_or_read : Made → ScaleRange → Result Notation Unnoted
@@ -118,7 +126,7 @@ days_or_read made scales = if may_be_days made scales then Ok Date else or_unnot
 abbrev pub in_files_noted : Notation → Made → ScaleRange → Result Notation Unnoted
 in_files_noted n made scales =
     if is_days n then days_or_read made scales
-    else if made.of_digits && is_decimal n then Err Differ
+    else if is_decimal n && reads_digits made scales then Err Differ
     else or_unnoted Differ (read_or (read_noted made.of_digits scales) (made.multiplied && may_have scales n) n)
 
 abbrev pub declared_noted : Notation → Made → ScaleRange → Result Notation Unnoted
@@ -128,9 +136,10 @@ declared_noted n made scales =
     else Err Differ
 
 abbrev pub made_again_noted : Notation → Made → ScaleRange → Result Notation Unnoted
-made_again_noted n made scales =
-    if is_days n then days_or_read made scales
-    else or_unnoted Differ (read_or (read_noted made.of_digits scales) (may_have scales n) n)
+made_again_noted n made scales = elim scales.read [
+  | Some m ↦ Ok (notation_of m)
+  | None ↦ if (if is_days n then may_be_days made scales else may_have scales n) then Ok n else or_unnoted Differ (read_noted made.of_digits scales)
+]
 
 -- the notation of numbers
 abbrev pub numbers_noted : Said → Made → ScaleRange → Result Notation Unnoted

@@ -32,7 +32,7 @@ pub use laws::notation_laws;
 pub use named::NamedNotations;
 pub use naming::{
     Made, Said, StepUnnoted, Unnoted, column_noted, count_noted, days_noted, is_digits,
-    notation_said, numbers_noted, renamed_noted, same_notation,
+    notation_said, numbers_noted, renamed_noted, said_at, same_notation,
 };
 pub use notations::Notation;
 pub use scale_ranges::Scales;

@@ -1,6 +1,7 @@
 //! Notations by the names of columns.
 ghost use Rattle.std.specs.Prelude.{◌≡◌, ◌++◌, ◌∷◌, [], IfOk, OnErr, OnOk, find, map, option_map, string_bytes};
 ghost use Rattle.fq_column.specs.Frame.{same_name};
+ghost use Rattle.fq_notation.specs.Naming.{notation_at};
 ghost use Rattle.fq_notation.specs.Notation.{notation_given, notation_in};
 
 use crate::columns::Notations;
@@ -58,6 +59,18 @@ impl NamedNotations {
         Ok(self.named.push((name, notation))?)
     }
 
+    /// The same names, each with the same notation. `Memory` if an allocation fails.
+    pub fn copy(&self, alloc: Global) -> Result<NamedNotations, Memory>
+        ensures { IfOk result (λ n. n ≡ self.now) }
+    {
+        let entries = self.entries();
+        let mut copied = NamedNotations::with_capacity(alloc, entries.len())?;
+        for entry in entries {
+            copied.add(alloc, entry.0.as_str(), entry.1)?;
+        }
+        Ok(copied)
+    }
+
     /// These names and their notations before others. `Memory` if an allocation fails.
     pub fn before(mut self, others: NamedNotations) -> Result<NamedNotations, Memory>
         ensures { IfOk result (λ n. n ≡ self ++ others) }
@@ -81,6 +94,16 @@ impl NamedNotations {
         match kind {
             Kind::Whole => first_under(name, self.named.as_slice()).unwrap_or(Notation::Plain),
             Kind::Text | Kind::Truth => Notation::Plain,
+        }
+    }
+
+    /// The notation of the column of this name in a schema; of none, digits.
+    pub fn at(&self, columns: &Schema, name: &str) -> Notation
+        ensures { result ≡ notation_at columns.now self.now name.now }
+    {
+        match columns.kind_of(name) {
+            Ok(kind) => self.of(name, kind),
+            Err(_) => Notation::Plain,
         }
     }
 

@@ -1,7 +1,7 @@
 //! The notations of columns that steps make.
-ghost use Rattle.std.specs.Prelude.{◌≡◌, ◌≤◌};
+ghost use Rattle.std.specs.Prelude.{◌≡◌, ◌≤◌, slice_index_or};
 ghost use Rattle.fq_notation.specs.declared.naming.Said.{Said};
-ghost use Rattle.fq_notation.specs.Naming.{are_read_as_digits, column_noted, count_noted, days_noted, days_or_read, declared_noted, in_files_noted, is_digits, made_again_noted, may_be_days, may_have, notation_of, notation_said, numbers_noted, read_noted, read_or, renamed_noted, same_notation};
+ghost use Rattle.fq_notation.specs.Naming.{are_read_as_digits, column_noted, count_noted, days_noted, days_or_read, declared_noted, in_files_noted, is_digits, made_again_noted, may_be_days, may_have, notation_of, notation_said, numbers_noted, read_noted, read_or, reads_digits, renamed_noted, same_notation};
 
 use crate::followed::Followed;
 use crate::notations::Notation;
@@ -23,6 +23,13 @@ pub enum Said {
     Declared(Notation),
     /// The same, and a later step makes it again.
     MadeAgain(Notation),
+}
+
+/// What the name at a place says; a name past the end says nothing.
+pub fn said_at(said: &[Said], place: usize) -> Said
+    ensures { result ≡ slice_index_or said.now place Said.Nothing }
+{
+    said.get(place).copied().unwrap_or(Said::Nothing)
 }
 
 /// Why a column that a step makes has no notation.
@@ -78,7 +85,17 @@ pub struct Made {
 fn may_be_days(made: Made, scales: Scales) -> bool
     ensures { result ≡ may_be_days made scales }
 {
-    made.of_digits && !made.remainder && are_read_as_digits(scales)
+    reads_digits(made, scales) && !made.remainder
+}
+
+// Whether numbers are read as digits, or else are made of digits and days alone.
+fn reads_digits(made: Made, scales: Scales) -> bool
+    ensures { result ≡ reads_digits made scales }
+{
+    match scales.read() {
+        Some(scale) => scale == 0,
+        None => made.of_digits && scales.may_be(0),
+    }
 }
 
 // Days, if they may be, or else what is read.
@@ -98,16 +115,11 @@ fn in_files_noted(notation: Notation, made: Made, scales: Scales) -> Result<Nota
     if notation == Notation::Date {
         return days_or_read(made, scales);
     }
-    let possible = may_have(scales, notation);
-    if made.of_digits && notation != Notation::Plain {
+    if notation != Notation::Plain && reads_digits(made, scales) {
         return Err(Unnoted::Differ);
     }
-    read_or(
-        read_noted(made.of_digits, scales),
-        made.multiplied && possible,
-        notation,
-    )
-    .ok_or(Unnoted::Differ)
+    let possible = made.multiplied && may_have(scales, notation);
+    read_or(read_noted(made.of_digits, scales), possible, notation).ok_or(Unnoted::Differ)
 }
 
 // The notation of numbers under a name that an argument gives alone.
@@ -130,15 +142,18 @@ fn declared_noted(notation: Notation, made: Made, scales: Scales) -> Result<Nota
 fn made_again_noted(notation: Notation, made: Made, scales: Scales) -> Result<Notation, Unnoted>
     ensures { result ≡ made_again_noted notation made scales }
 {
-    if notation == Notation::Date {
-        return days_or_read(made, scales);
+    if let Some(scale) = scales.read() {
+        return Ok(notation_of(scale));
     }
-    read_or(
-        read_noted(made.of_digits, scales),
-        may_have(scales, notation),
-        notation,
-    )
-    .ok_or(Unnoted::Differ)
+    let possible = if notation == Notation::Date {
+        may_be_days(made, scales)
+    } else {
+        may_have(scales, notation)
+    };
+    if possible {
+        return Ok(notation);
+    }
+    read_noted(made.of_digits, scales).ok_or(Unnoted::Differ)
 }
 
 /// The notation of numbers that a step makes under a name that says this, or why they have none.

@@ -7,6 +7,8 @@ use crate::decimals::{decimal, decimal_text};
 use crate::digits::whole;
 use crate::scales::Scale;
 use crate::texts::{IntText, plain_text};
+use std::fmt;
+use std::fmt::{Display, Formatter, Write};
 
 /// How the ints of a column are written in CSV text.
 #[derive(Clone, Copy, Debug, Default, PartialEq, Eq)]
@@ -42,6 +44,16 @@ impl Notation {
             Notation::Plain => plain_text(value),
             Notation::Decimal(scale) => decimal_text(value, scale),
             Notation::Date => date_text(value),
+        }
+    }
+}
+
+impl Display for Notation {
+    fn fmt<W: Write>(&self, f: &mut Formatter<W>) -> fmt::Result {
+        match self {
+            Notation::Plain => f.write_str("in digits"),
+            Notation::Decimal(scale) => write!(f, "of scale {}", scale.places()),
+            Notation::Date => f.write_str("of dates"),
         }
     }
 }

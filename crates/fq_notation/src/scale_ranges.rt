@@ -3,6 +3,8 @@ ghost use Rattle.std.specs.Prelude.{◌≡◌, ◌≤◌, IfSome};
 ghost use Rattle.fq_notation.specs.Scales.{between, common, is_possible, is_read_between, only, product, quotient, read_of_product, read_of_quotient, read_on, up_to};
 
 use crate::scales::Scale;
+use std::fmt;
+use std::fmt::{Display, Formatter, Write};
 use std::marker::Model;
 
 /// The scales that ints may have: those from one to another, of 0 to 18 places, and the one that they have unless a name says another.
@@ -77,6 +79,22 @@ impl Scales {
         self.read
     }
 
+    /// The least scale that the ints may have.
+    pub fn least(self) -> u8
+        ensures value { result ≡ self.least }
+        ensures range { result ≤ 18 }
+    {
+        self.least
+    }
+
+    /// The greatest scale that the ints may have.
+    pub fn most(self) -> u8
+        ensures value { result ≡ self.most }
+        ensures range { result ≤ 18 }
+    {
+        self.most
+    }
+
     /// Whether the ints may have this scale.
     pub fn may_be(self, scale: u8) -> bool
         ensures { result ≡ is_possible self scale }
@@ -142,5 +160,21 @@ impl Scales {
             _ => None,
         };
         Some(Scales { least, most, read })
+    }
+}
+
+impl Display for Scales {
+    fn fmt<W: Write>(&self, f: &mut Formatter<W>) -> fmt::Result {
+        let has = if self.read.is_some() {
+            "has"
+        } else {
+            "may have"
+        };
+        write!(f, "{has} scale {}", self.least)?;
+        for scale in self.least + 1..=self.most {
+            let before = if scale == self.most { " or " } else { ", " };
+            write!(f, "{before}{scale}")?;
+        }
+        Ok(())
     }
 }

@@ -28,3 +28,4 @@ pub mod SeenPartLemmas
 pub mod WindowLemmas
 pub mod ZipLemmas
 mod NotedLemmas
+pub mod MultipliedLemmas

@@ -23,3 +23,4 @@ pub mod Table
 pub mod Taken
 pub mod Window
 pub mod Noted
+pub mod Multiplied

@@ -2,9 +2,8 @@
 use Rattle.std.specs.Prelude.{◌+◌, ◌++◌, true, false, ℕ, List, [], ◌∷◌, map, Option, Some, None, Result, Ok, Err, slice_index_or, if◌then◌else◌}
 use Rattle.std.specs.Result.{result_map_both}
 use Rattle.fq_column.specs.Frame.{Fields, Name, has_name}
-use Rattle.fq_column.specs.Schema.{kind_named}
 use Rattle.fq_notation.specs.Notation.{Named, notation_in, notation_named}
-use Rattle.fq_notation.specs.Naming.{before_all, column_followed, column_noted, count_noted, noted_before, renamed_noted, same_notation}
+use Rattle.fq_notation.specs.Naming.{before_all, column_followed, column_noted, count_noted, notation_at, noted_before, renamed_noted, same_notation}
 use Rattle.fq_notation.specs.declared.naming.Said.{Said}
 use Rattle.fq_notation.specs.declared.naming.Said.TheVariants.{Nothing}
 use Rattle.fq_notation.specs.declared.naming.StepUnnoted.{StepUnnoted}
@@ -12,16 +11,11 @@ use Rattle.fq_notation.specs.declared.naming.StepUnnoted.TheVariants.{Item, Step
 use Rattle.fq_notation.specs.declared.naming.Unnoted.{Unnoted}
 use Rattle.fq_notation.specs.declared.naming.Unnoted.TheVariants.{Differ}
 use Rattle.fq_notation.specs.declared.notations.Notation.{Notation}
-use Rattle.fq_notation.specs.declared.notations.Notation.TheVariants.{Plain}
 use Rattle.fq_ops.specs.declared.aggregates.Function.{Function}
 use Rattle.fq_ops.specs.declared.aggregates.Function.TheVariants.{Sum, Min, Max, Count, Len, First, Last, NUnique}
 use Rattle.fq_ops.specs.declared.joins.How.{How}
 use Rattle.fq_ops.specs.Aggregate.{Aggregate, len, over, Output}
 use Rattle.fq_ops.specs.Join.{right_name, taken}
-
--- the notation of a named column of any kind
-abbrev pub notation_at : Fields → List Named → Name → Notation
-notation_at fields named name = elim (kind_named fields name) [ Ok k ↦ notation_in named (name, k) | Err fault ↦ Plain ]
 
 -- below, the left columns of a join, and the notations on the right
 module _ (fields : Fields) (right_named : List Named) where

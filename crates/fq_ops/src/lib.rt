@@ -34,9 +34,12 @@ mod sums;
 pub use aggregates::{Agg, Function, What};
 pub use groups::{GroupFault, Grouper, MAX_GROUPED_ROWS, groups_of_parts};
 pub use joins::{How, JoinTable, Probed, join_laws};
-pub use laws::{groups_of_needed_columns, join_of_needed_columns, rolling_sum_of_needed_columns};
+pub use laws::{
+    aggregates_keep_scale, groups_of_needed_columns, join_of_needed_columns,
+    rolling_sum_keeps_scale, rolling_sum_of_needed_columns,
+};
 pub use needed::{group_needs, join_needs, roll_needs};
 pub use noted::{group_noted, join_noted, roll_noted};
-pub use output_schemas::{group_schema, join_schema, roll_schema};
+pub use output_schemas::{group_schema, join_schema, right_name_of, roll_schema};
 pub use probes::{Part, Probe, Rest};
 pub use rolls::{MAX_WINDOW, Rolling};

@@ -1,9 +1,7 @@
 //! The notations after joins, groupings and rolling sums.
-ghost use Rattle.std.specs.Prelude.{◌≡◌, ◌⊎◌, IfOk, IfErr, None, Ok, Some, Err, map, slice_index_or, string_bytes};
-ghost use Rattle.fq_notation.specs.declared.naming.Said.{Said};
+ghost use Rattle.std.specs.Prelude.{◌≡◌, ◌⊎◌, IfOk, IfErr, None, Ok, Some, Err, map, string_bytes};
 ghost use Rattle.fq_ops.specs.AggregateData.{aggregate_of, outputs_of};
-ghost use Rattle.fq_ops.specs.Join.{right_name};
-ghost use Rattle.fq_ops.specs.Noted.{aggregate_noted, aggregates_noted, group_noted, join_noted, keys_differ, keys_noted, notation_at, right_noted, roll_noted};
+ghost use Rattle.fq_ops.specs.Noted.{aggregate_noted, aggregates_noted, group_noted, join_noted, keys_differ, keys_noted, right_noted, roll_noted};
 
 use crate::aggregates::{Agg, Function, What};
 use crate::joins::How;
@@ -11,7 +9,7 @@ use crate::output_schemas::{contains, right_name_of};
 use fq_column::{Kind, Memory, Schema};
 use fq_notation::{
     Followed, NamedNotations, Notation, Said, StepUnnoted, Unnoted, column_noted, count_noted,
-    renamed_noted, same_notation,
+    renamed_noted, said_at, same_notation,
 };
 use std::alloc::Global;
 
@@ -86,16 +84,6 @@ pub fn roll_noted(
     }
 }
 
-// The notation of a named column of any kind.
-fn notation_at(columns: &Schema, named: &NamedNotations, name: &str) -> Notation
-    ensures { result ≡ notation_at columns.now named.now name.now }
-{
-    match columns.kind_of(name) {
-        Ok(kind) => named.of(name, kind),
-        Err(_) => Notation::Plain,
-    }
-}
-
 // The first key whose notations differ.
 fn keys_differ(
     left: &Schema,
@@ -108,21 +96,11 @@ fn keys_differ(
 {
     for place in 0..on.len() {
         let key = on[place].as_str();
-        if !same_notation(
-            notation_at(left, named, key),
-            notation_at(right, right_named, key),
-        ) {
+        if !same_notation(named.at(left, key), right_named.at(right, key)) {
             return Some(StepUnnoted::Item(place, Unnoted::Differ));
         }
     }
     None
-}
-
-// What the name at this place says.
-fn said_at(said: &[Said], place: usize) -> Said
-    ensures { result ≡ slice_index_or said.now place Said.Nothing }
-{
-    said.get(place).copied().unwrap_or(Said::Nothing)
 }
 
 // The right columns without the keys, each under its name after the join, with its notation.
@@ -144,7 +122,7 @@ fn right_noted(
         if !contains(on, name) {
             match renamed_noted(said_at(said, place), right_named.of(name, kind)) {
                 Ok(notation) => {
-                    let after = name_after(alloc, left, name)?;
+                    let after = right_name_of(alloc, left, name)?;
                     made.add(alloc, after.as_str(), notation)?
                 }
                 Err(why) => return Err(StepUnnoted::Step(why)),
@@ -152,17 +130,6 @@ fn right_noted(
         }
     }
     Ok(made)
-}
-
-// The name of a right column after the join.
-fn name_after(alloc: Global, left: &Schema, name: &str) -> Result<String, StepUnnoted>
-    ensures ok { IfOk result (λ output. string_bytes output ≡ right_name left.now name.now) }
-    ensures err { IfErr result (λ fault. fault ≡ StepUnnoted.Memory) }
-{
-    match right_name_of(alloc, left, name) {
-        Ok(output) => Ok(output),
-        Err(_) => Err(StepUnnoted::Memory),
-    }
 }
 
 // The keys of a grouping, each with its notation.

@@ -15,7 +15,7 @@ use crate::aggregates::{Agg, What};
 use crate::field_lists::{FieldList, copy_name};
 use crate::joins::How;
 use crate::rolls::MAX_WINDOW;
-use fq_column::{Kind, MAX_COLUMNS, Schema, StepFault, has_double};
+use fq_column::{Kind, MAX_COLUMNS, Memory, Schema, StepFault, has_double};
 use std::alloc::Global;
 
 /// The schema after a join on these names: the left columns, then, of an inner or a left join, the right ones without the
@@ -312,14 +312,13 @@ fn add_right(
     Ok(())
 }
 
-// The name of a right column in the output.
-pub fn right_name_of(alloc: Global, left: &Schema, name: &str) -> Result<String, StepFault>
-    ensures ok { IfOk result (λ output. string_bytes output ≡ right_name left.now name.now) }
-    ensures err { IfErr result (λ fault. fault ≡ StepFault.Memory) }
+/// The name of a right column after a join with these left columns. `Memory` if an allocation fails.
+pub fn right_name_of(alloc: Global, left: &Schema, name: &str) -> Result<String, Memory>
+    ensures { IfOk result (λ output. string_bytes output ≡ right_name left.now name.now) }
 {
-    let mut output = copy_name(alloc, name)?;
-    if left.position(name).is_some() && output.push_str("_right").is_err() {
-        return Err(StepFault::Memory);
+    let mut output = String::from_str(alloc, name)?;
+    if left.position(name).is_some() {
+        output.push_str("_right")?;
     }
     Ok(output)
 }

@@ -11,4 +11,5 @@ pub mod NeededLemmas
 pub mod KeepingLemmas
 pub mod NarrowedLemmas
 pub mod NotedLemmas
+pub mod FollowedLemmas
 pub mod PlainNotationLemmas

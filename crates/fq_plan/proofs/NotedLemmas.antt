@@ -27,7 +27,7 @@ use Rattle.fq_plan.proofs.CheckLemmas.{rows-passed, stages-passed}
 use Rattle.fq_plan.proofs.StageMeaning.{fits}
 use Rattle.fq_plan.proofs.WholeSourceLemmas.{judged-whole, refusal-same}
 use Rattle.fq_run.specs.Noted as run
-use Rattle.fq_run.specs.Noted.{has_int_column, noted_source}
+use Rattle.fq_run.specs.Noted.{noted_source, reads_ints}
 use Rattle.fq_run.specs.Physical.{Physical, last_columns}
 use Rattle.fq_run.specs.declared.stages.Stage.{Stage}
 use Rattle.fq_csv.proofs.LastLemmas.{but_last-map}
@@ -90,7 +90,11 @@ module _ (p : Physical) (c : IsChecked p) where
 
 -- ---- plans with notations
 
-module _ (named : List Named) where
+-- below, the notations in which the sources are read, and those in which the frame is printed
+module _ (named last : List Named) where
+  abbrev pub noted_as : PlanData → PlanData
+  noted_as q = record { sources = map (noted_source named) q.sources; steps = q.steps; notations = map (notation_in last) (frame_fields q) }
+
   whole-noted : (sources : List Source) → map whole_source (map (noted_source named) sources) ≡ map (noted_source named) (map whole_source sources)
   whole-noted [] = refl
   whole-noted (s ∷ sources) = ap (λ ss. noted_source named (whole_source s) ∷ ss) (whole-noted sources)
@@ -109,19 +113,19 @@ module _ (named : List Named) where
       ∙ sym (map-append note (but_last sources) (map (keeping marks) (drop last sources)))
 
   module _ (q : PlanData) where
-    fields-noted : map (λ (s : Source). s.fields) (noted named q).sources ≡ map (λ (s : Source). s.fields) q.sources
+    fields-noted : map (λ (s : Source). s.fields) (noted_as q).sources ≡ map (λ (s : Source). s.fields) q.sources
     fields-noted = same-fields (noted_source named) (λ s. refl) (λ s. refl) q.sources
 
-    sides-noted : side_fields (noted named q) ≡ side_fields q
+    sides-noted : side_fields (noted_as q) ≡ side_fields q
     sides-noted = same-side-fields (noted_source named) (λ s. refl) (λ s. refl) q.sources
 
-    main-noted : main_fields (noted named q) ≡ main_fields q
+    main-noted : main_fields (noted_as q) ≡ main_fields q
     main-noted = ap (last_or []) fields-noted
 
-    needed-noted : needed_columns (noted named q) ≡ needed_columns q
+    needed-noted : needed_columns (noted_as q) ≡ needed_columns q
     needed-noted = λ i. marked (needed_before_steps (sides-noted i) (main-noted i) q.steps) (main-noted i)
 
-    within-limits : IsWithinLimits q → IsWithinLimits (noted named q)
+    within-limits : IsWithinLimits q → IsWithinLimits (noted_as q)
     within-limits l = record {
       some_source = omega (arith, l.some_source, length-map q.sources (noted_source named));
       few_sources = omega (arith, l.few_sources, length-map q.sources (noted_source named));
@@ -131,23 +135,23 @@ module _ (named : List Named) where
     }
 
   module _ (p : Physical) (c : IsChecked p) where
-    pub query-noted : query_of (run.noted named p) ≡ noted named (query_of p)
+    pub query-noted : query_of (run.noted named last p) ≡ noted_as (query_of p)
     query-noted = λ i. (let q : PlanData = record {
       sources = whole-noted p.sources i;
       steps = (query_of p).steps;
-      notations = map (notation_in named) (sym (frame-fields p c) i);
+      notations = map (notation_in last) (sym (frame-fields p c) i);
     } in q)
 
-    pub checked-noted : IsChecked (run.noted named p)
+    pub checked-noted : IsChecked (run.noted named last p)
     checked-noted =
         let note = noted_source named in
         let q = query_of p in
-        let sides : side_fields (plan_of (run.noted named p)) ≡ side_fields (plan_of p) = sides-noted (plan_of p) in
+        let sides : side_fields (plan_of (run.noted named last p)) ≡ side_fields (plan_of p) = sides-noted (plan_of p) in
         record {
           limits = subst IsWithinLimits (sym query-noted) (within-limits q c.limits);
           sources = ap (map note) c.sources
               ∙ sym (narrowed-noted (needed_columns q) q.sources)
-              ∙ ap (λ marks. narrowed marks (noted named q).sources) (sym (needed-noted q))
+              ∙ ap (λ marks. narrowed marks (noted_as q).sources) (sym (needed-noted q))
               ∙ ap (λ (q : PlanData). narrowed (needed_columns q) q.sources) (sym query-noted);
           schemas = refusal-same note (λ s. refl) 0 p.sources ∙ c.schemas;
           leads = (
@@ -160,14 +164,10 @@ module _ (named : List Named) where
 
 -- ---- the entries that are refused
 
--- the columns of ints of a plan are those of its run
-module _ (name : Name) where
-  ints-whole : (sources : List Source) → list_any (λ (s : Source). has_int_column s.fields name) (map whole_source sources) ≡ list_any (λ (s : Source). has_int_column s.fields name) sources
-  ints-whole [] = refl
-  ints-whole (s ∷ sources) = ap (λ b. has_int_column s.fields name || b) (ints-whole sources)
-
-  pub ints-are : (p : Physical) → IsChecked p → run.has_ints p name ≡ has_ints (query_of p) name
-  ints-are p c = λ i. sym (ints-whole p.sources) i || has_int_column (sym (frame-fields p c) i) name
+-- the columns of ints of a plan's sources are those of its run's
+pub reads-whole : (name : Name) (sources : List Source) → reads_ints (map whole_source sources) name ≡ reads_ints sources name
+reads-whole name [] = refl
+reads-whole name (s ∷ sources) = ap (λ b. run.has_ints s.fields name || b) (reads-whole name sources)
 
 abbrev pub Entry : Type 0
 Entry = String Global × Notation

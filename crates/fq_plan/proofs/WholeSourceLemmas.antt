@@ -50,7 +50,7 @@ module _ (p : PlanData) where
   side_files-whole : side_files (whole_plan p) ≡ side_files p
   side_files-whole = same-side-files whole_source (λ s. refl) (λ s. refl) p.sources
 
-  side_fields-whole : side_fields (whole_plan p) ≡ side_fields p
+  pub side_fields-whole : side_fields (whole_plan p) ≡ side_fields p
   side_fields-whole = same-side-fields whole_source (λ s. refl) (λ s. refl) p.sources
 
   main_fields-whole : main_fields (whole_plan p) ≡ main_fields p

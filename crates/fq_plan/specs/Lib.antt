@@ -10,4 +10,6 @@ pub mod Tail
 pub mod Answer
 pub mod Examples
 pub mod Stages
+pub mod Followed
+pub mod PlannedSteps
 pub mod Noted

@@ -4,6 +4,7 @@ use Rattle.fq_column.specs.Frame.{Fields}
 use Rattle.fq_column.specs.declared.faults.StepFault.TheVariants.{Memory}
 use Rattle.fq_expr.specs.Front.{NumberedSteps}
 use Rattle.fq_expr.specs.Kinds.{steps_schema}
+use Rattle.fq_expr.specs.Steps.{fields_after_each}
 use Rattle.fq_ops.specs.AggregateData.{outputs_of}
 use Rattle.fq_language.specs.Judged.{judged_step, source_refusal, IsPlaceOf}
 use Rattle.fq_language.specs.Plan.{PlanStep, row_wise, join, group_by, rolling_sum, PlanData, IsWithinLimits}
@@ -15,20 +16,43 @@ use Rattle.fq_run.specs.Physical.{Physical, side_fields, main_fields}
 use Rattle.fq_csv.specs.declared.sources.SourceFiles.{SourceFiles}
 use Rattle.fq_run.specs.declared.operators.Operator.{Operator}
 use Rattle.fq_run.specs.declared.operators.Operator.TheVariants.{Rows, Join, GroupBy, RollingSum}
+use Rattle.fq_run.specs.declared.operators.grouping.GroupBy.{GroupBy as GroupForm}
+use Rattle.fq_run.specs.declared.operators.joining.Join.{Join as JoinForm}
+use Rattle.fq_run.specs.declared.operators.rolling.RollingSum.{RollingSum as RollingForm}
 use Rattle.fq_run.specs.declared.stages.Stage.{Stage}
 
 abbrev pub columns_of : List SourceFiles → List Fields
 columns_of sources = map (λ s. s.layout.schema) sources
 
--- the steps that an operator does
+-- the step that a join, a grouping or a rolling sum does
+abbrev pub join_step : JoinForm → PlanStep
+join_step j = join (pos j.source) (map string_bytes j.on.items) j.how j.nulls_equal
+
+abbrev pub group_step : GroupForm → PlanStep
+group_step g = group_by (map string_bytes g.keys.items) (outputs_of g.aggs.items)
+
+abbrev pub rolling_step : RollingForm → PlanStep
+rolling_step r = rolling_sum (string_bytes r.column) (pos r.window) (pos r.min_samples) (string_bytes r.name)
+
+-- the steps that an operator does, and the columns after each of them, if it leaves these
 abbrev pub operator_steps : Operator → List PlanStep
 operator_steps (Rows front) = map row_wise front.steps
-operator_steps (Join j) = join (pos j.source) (map string_bytes j.on.items) j.how j.nulls_equal ∷ []
-operator_steps (GroupBy g) = group_by (map string_bytes g.keys.items) (outputs_of g.aggs.items) ∷ []
-operator_steps (RollingSum r) = rolling_sum (string_bytes r.column) (pos r.window) (pos r.min_samples) (string_bytes r.name) ∷ []
+operator_steps (Join j) = join_step j ∷ []
+operator_steps (GroupBy g) = group_step g ∷ []
+operator_steps (RollingSum r) = rolling_step r ∷ []
 
+abbrev pub operator_schemas : Operator → Fields → List Fields
+operator_schemas (Rows front) after = fields_after_each front.fields front.steps
+operator_schemas (Join j) after = after ∷ []
+operator_schemas (GroupBy g) after = after ∷ []
+operator_schemas (RollingSum r) after = after ∷ []
+
+-- those of stages
 abbrev pub stage_steps : List Stage → List PlanStep
 stage_steps stages = flat_map (λ s. operator_steps s.operator) stages
+
+abbrev pub stage_schemas : List Stage → List Fields
+stage_schemas stages = flat_map (λ s. operator_schemas s.operator s.after) stages
 
 -- a plan over the sources as a physical plan reads them
 abbrev pub plan_of : Physical → PlanData

@@ -5,9 +5,8 @@ ghost use Rattle.fq_language.specs.Plan.{file_streams, files_wanted};
 ghost use Rattle.fq_run.specs.Run.{IsAnswer, Tell};
 
 use crate::checks::Checked;
-use fq_column::Memory;
 use fq_lanes::{Gate, NoGate, Report};
-use fq_run::{Explanation, Fault, Worked};
+use fq_run::{Fault, Worked};
 use std::alloc::Global;
 use std::io::{Read, Write};
 use std::sync::Wait;
@@ -64,10 +63,5 @@ impl Checked {
     {
         self.physical
             .run(rt, alloc, gate, inputs, out, batch_size, workers)
-    }
-
-    /// What the plan reads and does. `Memory` if an allocation fails.
-    pub fn explain(&self, alloc: Global) -> Result<Explanation<'_>, Memory> {
-        self.physical.explain(alloc)
     }
 }

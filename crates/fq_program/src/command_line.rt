@@ -12,6 +12,7 @@ ghost use Rattle.fq_program.specs.Named.{check_of, names_refusal, notations_of, 
 
 use crate::program::{checked_plan, run_over};
 use clap::error::ErrorKind;
+use fq_column::Memory;
 use fq_messages::{
     Failure, Learned, Status, check_files, draft_of, open, read_whole, report, write_details,
 };
@@ -243,9 +244,32 @@ fn check_named<O: Opener, E: Write>(
 {
     let named = judge_names(alloc, options, files)?;
     match planned(alloc, &named, options, files, learned) {
-        Ok(_) => check_by_text(alloc, learned.plan.as_slice(), &named, options, files, err),
+        Ok(plan) => {
+            write_notes(
+                alloc,
+                &plan,
+                &named,
+                options.plan().unwrap_or_default(),
+                err,
+            )?;
+            check_by_text(alloc, learned.plan.as_slice(), &named, options, files, err)
+        }
         Err(failure) => Err(failure),
     }
+}
+
+// Writes what a reader of the plan of a file may want to know of its notations.
+fn write_notes<E: Write>(
+    alloc: Global,
+    plan: &Checked,
+    named: &NamedNotations,
+    name: &str,
+    err: &mut E,
+) -> Result<(), Memory> {
+    for note in plan.notation_notes(alloc, named)? {
+        let _ = writeln!(err, "{name}: warning: {note}");
+    }
+    Ok(())
 }
 
 // Checks the data files by the plan of a text, in notations.
@@ -418,17 +442,29 @@ fn explain_noted<W: Write>(
         count_files(&plan, names)?;
     }
     match plan.with_notations(alloc, named) {
-        Ok(plan) => write_explanation(alloc, &plan, out),
+        Ok(plan) => write_explanation(alloc, &plan, named, out),
         Err(fault) => Err(fault.into()),
     }
 }
 
-// Writes what the steps of a plan leave.
-fn write_explanation<W: Write>(alloc: Global, plan: &Checked, out: &mut W) -> Result<(), Failure>
+// Writes what the steps of a plan leave, and what a reader may want to know of the notations.
+fn write_explanation<W: Write>(
+    alloc: Global,
+    plan: &Checked,
+    named: &NamedNotations,
+    out: &mut W,
+) -> Result<(), Failure>
     ensures unwritten { IfErr result (λ f. f ≢ failure.Run fault.Write → Keeps (W.contents out.old) (W.contents out.new)) }
 {
-    let explanation = plan.explain(alloc)?;
-    write!(out, "{explanation}").map_err(|_| Failure::Run(Fault::Write))
+    let (explanation, notes) = (
+        plan.explain(alloc, named)?,
+        plan.notation_notes(alloc, named)?,
+    );
+    write!(out, "{explanation}").map_err(|_| Failure::Run(Fault::Write))?;
+    for note in notes {
+        writeln!(out, "{note}").map_err(|_| Failure::Run(Fault::Write))?;
+    }
+    Ok(())
 }
 
 // The notations that the arguments give to columns. Refuses names by which the frame would replace the plan, or standard input would be read

@@ -1,5 +1,5 @@
 -- A plan whose ints are in notations by the names of their columns.
-use Rattle.std.specs.Prelude.{◌||◌, Bool, true, false, List, map, Ok, Err}
+use Rattle.std.specs.Prelude.{Bool, true, false, List, map, Ok, Err}
 use Rattle.std.specs.List.{list_any}
 use Rattle.fq_column.specs.Frame.{Fields, Name}
 use Rattle.fq_column.specs.Schema.{kind_named}
@@ -18,19 +18,19 @@ noted_source named s = record s { notations = map (notation_in named) s.fields }
 abbrev pub noted_files : List Named → SourceFiles → SourceFiles
 noted_files named s = record s { layout = (let layout : Layout = record s.layout { notations = map (notation_in named) s.layout.schema } in layout) }
 
--- a plan whose sources are read in these notations, and whose frame is printed in them
-abbrev pub noted : List Named → Physical → Physical
-noted named p = record {
+-- a plan whose sources are read in some notations, and whose frame is printed in others
+abbrev pub noted : List Named → List Named → Physical → Physical
+noted named last p = record {
   sources = map (noted_source named) p.sources;
   front = p.front;
   stages = p.stages;
-  notations = map (notation_in named) (last_columns p);
+  notations = map (notation_in last) (last_columns p);
 }
 
 -- whether one of the columns is of ints and has this name
-abbrev pub has_int_column : Fields → Name → Bool
-has_int_column fields name = elim (kind_named fields name) [ Ok Whole ↦ true | Ok Text ↦ false | Ok Truth ↦ false | Err fault ↦ false ]
+abbrev pub has_ints : Fields → Name → Bool
+has_ints fields name = elim (kind_named fields name) [ Ok Whole ↦ true | Ok Text ↦ false | Ok Truth ↦ false | Err fault ↦ false ]
 
--- whether a source or the frame has such a column
-abbrev pub has_ints : Physical → Name → Bool
-has_ints p name = list_any (λ s. has_int_column s.fields name) p.sources || has_int_column (last_columns p) name
+-- whether one of the sources has such a column
+abbrev pub reads_ints : List Source → Name → Bool
+reads_ints sources name = list_any (λ s. has_ints s.fields name) sources

@@ -31,6 +31,7 @@ mod stages;
 pub use explanations::Explanation;
 pub use faults::Fault;
 pub use leading_steps::Worked;
+pub use noted_plans::has_ints;
 pub use operators::{GroupBy, Join, MAX_JOINED_ROWS, Operator, RollingSum};
 pub use physical_plans::PhysicalPlan;
 pub use stages::Stage;

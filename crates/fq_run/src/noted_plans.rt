@@ -1,7 +1,7 @@
 //! Physical plans whose columns have notations.
 ghost use Rattle.std.specs.Prelude.{◌≡◌, IfOk, map};
 ghost use Rattle.std.specs.List.{list_any};
-ghost use Rattle.fq_run.specs.Noted.{has_int_column, has_ints, noted, noted_files};
+ghost use Rattle.fq_run.specs.Noted.{has_ints, noted, noted_files, reads_ints};
 
 use crate::physical_plans::PhysicalPlan;
 use fq_column::{Kind, Memory, Schema};
@@ -10,25 +10,24 @@ use fq_notation::NamedNotations;
 use std::alloc::Global;
 
 impl PhysicalPlan {
-    /// Whether a source or the frame has a column of ints of this name.
-    pub fn has_ints(&self, name: &str) -> bool
-        ensures { result ≡ has_ints self.now name.now }
+    /// Whether a source has a column of ints of this name.
+    pub fn reads_ints(&self, name: &str) -> bool
+        ensures { result ≡ reads_ints self.now.sources name.now }
     {
-        have_ints(self.sides.as_slice(), name)
-            || has_int_column(&self.main.layout.schema, name)
-            || has_int_column(self.columns(), name)
+        have_ints(self.sides.as_slice(), name) || has_ints(&self.main.layout.schema, name)
     }
 
-    /// The plan with its ints in notations by the names of their columns: those of each source as they are read, and those of the frame
-    /// as they are printed. `Memory` if an allocation fails.
+    /// The plan with its ints in notations by the names of their columns: it reads each source's ints in `named`, and prints the frame's ints
+    /// in `last`. `Memory` if an allocation fails.
     pub fn with_notations(
         self,
         alloc: Global,
         named: &NamedNotations,
+        last: &NamedNotations,
     ) -> Result<PhysicalPlan, Memory>
-        ensures { IfOk result (λ plan. plan ≡ noted named.now self) }
+        ensures { IfOk result (λ plan. plan ≡ noted named.now last.now self) }
     {
-        let notations = named.of_columns(alloc, self.columns())?;
+        let notations = last.of_columns(alloc, self.columns())?;
         let PhysicalPlan {
             sides,
             main,
@@ -73,16 +72,16 @@ fn noted_source(
 
 // Whether one of the sources has a column of ints of this name.
 fn have_ints(sources: &[SourceFiles], name: &str) -> bool
-    ensures { result ≡ list_any (λ s. has_int_column s.layout.schema name.now) sources.now }
+    ensures { result ≡ list_any (λ s. has_ints s.layout.schema name.now) sources.now }
 {
     sources
         .iter()
-        .any(|source| has_int_column(&source.layout.schema, name))
+        .any(|source| has_ints(&source.layout.schema, name))
 }
 
-// Whether one of the columns is of ints and has this name.
-fn has_int_column(columns: &Schema, name: &str) -> bool
-    ensures { result ≡ has_int_column columns.now name.now }
+/// Whether one of the columns is of ints and has this name.
+pub fn has_ints(columns: &Schema, name: &str) -> bool
+    ensures { result ≡ has_ints columns.now name.now }
 {
     matches!(columns.kind_of(name), Ok(Kind::Whole))
 }

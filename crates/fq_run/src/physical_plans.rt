@@ -2,7 +2,7 @@
 ghost use Rattle.std.specs.Prelude.{◌≡◌, ◌≤◌, ◌++◌, ◌∷◌, [], map, sum_by};
 ghost use Rattle.fq_csv.specs.Sources.{source_of_files};
 ghost use Rattle.fq_expr.specs.Steps.{fields_after_all};
-ghost use Rattle.fq_run.specs.Physical.{files_wanted, last_columns};
+ghost use Rattle.fq_run.specs.Physical.{files_wanted, last_columns, main_fields, side_fields};
 ghost use Rattle.fq_run.specs.Stages.{IsRunnable, physical_of};
 
 use crate::leading_steps::LeadingSteps;
@@ -94,6 +94,28 @@ impl PhysicalPlan {
         ensures { result ≡ files_wanted self.now }
     {
         self.inputs
+    }
+
+    /// The sources before the main one.
+    pub fn sides(&self) -> &[SourceFiles]
+        ensures { map (λ s. s.layout.schema) result.now ≡ side_fields self.now }
+    {
+        self.sides.as_slice()
+    }
+
+    /// The leading row-wise steps, on the main source's columns.
+    pub fn leading(&self) -> &Front
+        ensures steps { result.now.steps ≡ self.now.front }
+        ensures columns { result.now.fields ≡ main_fields self.now }
+    {
+        &self.leading.front
+    }
+
+    /// The stages after the leading steps.
+    pub fn stages(&self) -> &[Stage]
+        ensures { result.now ≡ self.now.stages }
+    {
+        self.stages.as_slice()
     }
 
     /// The columns of the frame.

@@ -1,7 +1,7 @@
 -- Worked examples: the arguments of runs and of checks, and the files that they name.
 use Rattle.std.specs.Prelude.{◌≡◌, true, false, List, [], ◌∷◌, codes, Option, Some, None}
 use Rattle.clap.specs.Words.{Text}
-use Rattle.fq_notation.specs.declared.notations.Notation.TheVariants.{Decimal, Date}
+use Rattle.fq_notation.specs.declared.notations.Notation.TheVariants.{Plain, Decimal, Date}
 use Rattle.fq_shell.specs.Arguments.{is_check, is_run, names_of, names_to_check, reads_input_twice}
 
 -- these are the arguments of a run, which name this plan, these files and this output
@@ -46,7 +46,7 @@ Notes = ((names_of (codes "--plan=p" ∷ codes "--date=day,due" ∷ codes "--dec
     × ((names_to_check (codes "--plan=p" ∷ codes "--check" ∷ codes "--decimal=a=1" ∷ codes "a" ∷ [])).notations ≡ Some ((codes "a", Decimal 1) ∷ []))
     × ((names_of (codes "--plan=p" ∷ codes "--decimal=amount" ∷ codes "a" ∷ [])).notations ≡ None)
     × ((names_of (codes "--plan=p" ∷ codes "--decimal=a=1,amount=19" ∷ codes "a" ∷ [])).notations ≡ None)
-    × ((names_of (codes "--plan=p" ∷ codes "--decimal=a=0" ∷ codes "a" ∷ [])).notations ≡ None)
+    × ((names_of (codes "--plan=p" ∷ codes "--decimal=a=0" ∷ codes "a" ∷ [])).notations ≡ Some ((codes "a", Plain) ∷ []))
 
 -- standard input under two names
 abbrev pub Twice : Type 0

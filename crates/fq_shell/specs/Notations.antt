@@ -1,11 +1,12 @@
--- The notations that arguments give to columns by name: `--decimal NAME=SCALE[,NAME=SCALE..]`, with a scale from 1 to 18, and
+-- The notations that arguments give to columns by name: `--decimal NAME=SCALE[,NAME=SCALE..]`, with a scale from 0 to 18, and
 -- `--date NAME[,NAME..]`.
-use Rattle.std.specs.Prelude.{ℕ, ◌==◌, ◌&&◌, ◌++◌, List, [], ◌∷◌, flat_map, length, map, nat_le, nat_lt, Option, Some, None, option_and_then, option_map, pos, negsuc, if◌then◌else◌}
+use Rattle.std.specs.Prelude.{ℕ, ◌==◌, ◌++◌, List, [], ◌∷◌, flat_map, length, map, nat_le, nat_lt, Option, Some, None, option_and_then, option_map, pos, negsuc, if◌then◌else◌}
 use Rattle.std.specs.List.{after_first, before_first, position_or_len}
 use Rattle.clap.specs.Words.{Text}
 use Rattle.fq_notation.specs.Digits.{whole_of}
 use Rattle.fq_notation.specs.Notation.{Named}
-use Rattle.fq_notation.specs.declared.notations.Notation.TheVariants.{Decimal, Date}
+use Rattle.fq_notation.specs.declared.notations.Notation.{Notation}
+use Rattle.fq_notation.specs.declared.notations.Notation.TheVariants.{Plain, Decimal, Date}
 
 -- a byte before the first of some texts
 abbrev pub put_first : ℕ → List Text → List Text
@@ -17,19 +18,19 @@ abbrev pub entries_of : Text → List Text
 entries_of [] = [] ∷ []
 entries_of (b ∷ bs) = if b == 44 then [] ∷ entries_of bs else put_first b (entries_of bs)
 
--- a scale in digits
-abbrev pub scale_of : Text → Option ℕ
-scale_of text = elim (whole_of text) [
-  | Some (pos n) ↦ if nat_le 1 n && nat_le n 18 then Some n else None
+-- the notation of a scale in digits: ints of no place are in digits themselves
+abbrev pub notation_of : Text → Option Notation
+notation_of text = elim (whole_of text) [
+  | Some (pos n) ↦ if n == 0 then Some Plain else if nat_le n 18 then Some (Decimal n) else None
   | Some (negsuc n) ↦ None
   | None ↦ None
 ]
 
--- what stands before the first `=`, as a decimal of the scale that stands after it
+-- what stands before the first `=`, in the notation of the scale that stands after it
 abbrev pub decimal_entry : Text → Option Named
 decimal_entry entry =
     if nat_lt (position_or_len (λ b. b == 61) entry) (length entry)
-    then option_map (λ scale. (before_first (λ b. b == 61) entry, Decimal scale)) (scale_of (after_first (λ b. b == 61) entry))
+    then option_map (λ notation. (before_first (λ b. b == 61) entry, notation)) (notation_of (after_first (λ b. b == 61) entry))
     else None
 
 -- each of them, if none is wrong

@@ -1,13 +1,13 @@
 //! The notations that arguments give to columns.
 ghost use Rattle.std.specs.Prelude.{◌≡◌, ◌++◌, IfOk, List, MatchBool, None, OnOk, Some, flat_map, map, option_map, string_bytes};
 ghost use Rattle.fq_notation.specs.Notation.{Named};
-ghost use Rattle.fq_shell.specs.Notations.{date_entries, decimal_entries, decimal_entry, entries_of, notations_in, scale_of};
+ghost use Rattle.fq_shell.specs.Notations.{date_entries, decimal_entries, decimal_entry, entries_of, notation_of, notations_in};
 
 use fq_notation::{NamedNotations, Notation, Scale, whole};
 use std::alloc::{AllocError, Global};
 
 /// The notations of the entries of `--decimal`, and then of those of `--date`, each with its name; none if an entry of `--decimal` is no
-/// `NAME=SCALE` with a scale from 1 to 18.
+/// `NAME=SCALE` with a scale from 0 to 18.
 pub fn notations_in(
     alloc: Global,
     decimals: &[&str],
@@ -25,7 +25,7 @@ pub fn notations_in(
     Ok(Some(NamedNotations::new(named)))
 }
 
-/// The first entry of lists of `--decimal` that is no `NAME=SCALE` with a scale from 1 to 18.
+/// The first entry of lists of `--decimal` that is no `NAME=SCALE` with a scale from 0 to 18.
 pub fn wrong_decimal<'a>(
     alloc: Global,
     decimals: &[&'a str],
@@ -95,18 +95,20 @@ fn push_entries<'a>(entries: &mut Vec<&'a str>, list: &'a str) -> Result<(), All
     Ok(())
 }
 
-// What stands before the first `=`, as a decimal of the scale that stands after it.
+// What stands before the first `=`, in the notation of the scale that stands after it.
 fn decimal_entry(entry: &str) -> Option<(&str, Notation)>
     ensures { option_map (λ entry. (entry.0.now, entry.1)) result ≡ decimal_entry entry.now }
 {
     let (name, scale) = entry.split_once('=')?;
-    Some((name, Notation::Decimal(scale_of(scale)?)))
+    Some((name, notation_of(scale)?))
 }
 
-// A scale in digits.
-fn scale_of(text: &str) -> Option<Scale>
-    ensures { result ≡ scale_of text.now }
+// The notation of a scale in digits: ints of no place are in digits themselves.
+fn notation_of(text: &str) -> Option<Notation>
+    ensures { result ≡ notation_of text.now }
 {
-    let places = u8::try_from(whole(text.as_bytes())?).ok()?;
-    Scale::new(places)
+    match u8::try_from(whole(text.as_bytes())?).ok()? {
+        0 => Some(Notation::Plain),
+        places => Some(Notation::Decimal(Scale::new(places)?)),
+    }
 }

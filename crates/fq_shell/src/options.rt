@@ -88,14 +88,14 @@ impl<'a> Options<'a> {
     }
 
     /// The notations of columns by their names: those of `--decimal` in their order, and then those of `--date`. None if an entry of
-    /// `--decimal` is no `NAME=SCALE` with a scale from 1 to 18. Fails if an allocation does.
+    /// `--decimal` is no `NAME=SCALE` with a scale from 0 to 18. Fails if an allocation does.
     pub fn notations(&self, alloc: Global) -> Result<Option<NamedNotations>, AllocError>
         ensures { IfOk result (λ named. named ≡ (named_by self.now).notations) }
     {
         notations_in(alloc, self.decimals(), self.lists("date"))
     }
 
-    /// The first entry of `--decimal` that is no `NAME=SCALE` with a scale from 1 to 18, if there is one. Fails if an allocation does.
+    /// The first entry of `--decimal` that is no `NAME=SCALE` with a scale from 0 to 18, if there is one. Fails if an allocation does.
     pub fn wrong_decimal(&self, alloc: Global) -> Result<Option<&'a str>, AllocError> {
         wrong_decimal(alloc, self.decimals())
     }

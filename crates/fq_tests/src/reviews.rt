@@ -394,9 +394,9 @@ fn drafts_that_refuse_a_notation(rt: HostRuntime) -> Result<(), Fail> {
             "frameq: --decimal, --date: a name stands twice\n",
         ),
         (
-            "--draft --date a --decimal a=0 nowhere",
+            "--draft --date a --decimal a=x nowhere",
             "",
-            "frameq: --decimal takes NAME=SCALE, with a scale from 1 to 18\n",
+            "frameq: --decimal takes NAME=SCALE, with a scale from 0 to 18\n",
         ),
     ] {
         let files = &[file];

@@ -21,7 +21,7 @@ loop-i-preserved c =
     elim c.if-not-contains.branch [
       | then-not-contains+in_ok-right_name_of+in_ok-push w ↦
           w.fields-is ∙ w.in_ok-push.ensures.ok
-          ∙ ap (λ m. c.loop-i.fields ++ (m, k) ∷ []) w.in_ok-right_name_of.ensures.ok
+          ∙ ap (λ m. c.loop-i.fields ++ (m, k) ∷ []) w.in_ok-right_name_of.ensures
           ∙ ap (λ (fs : Fields). fs ++ (right_name left n, k) ∷ []) c.loop-i.invariant
           ∙ append_assoc old (renamed left on (take i right)) ((right_name left n, k) ∷ [])
           ∙ ap (λ fs. old ++ fs) (sym (more ∙ ap ending (sym w.if-not-contains.ensures)))

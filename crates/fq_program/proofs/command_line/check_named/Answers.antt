@@ -19,8 +19,8 @@ returns-in-Ok-clause-checked g c text inputs known tell =
     let here : plan_text (g.O.Opener.bytes_of c.judge_names.new.files) names ≡ Some text = rw c.judge_names.ensures.same known in
     let in_text = c.in-Ok.ensures.planned text here in
     subst (λ (o : Result (Unit {0}) Failure). ComesTo o c.check_by_text.result)
-    (sym (check-of names text inputs (Ok c.in-Ok.field-0) (planned-fine names text c.in_ok-named.named told.0 told.1 ∙ in_text)))
-    (c.check_by_text.ensures.checked inputs c.in-Ok.field-0 (rw (c.in-Ok.ensures.same, c.judge_names.ensures.same) tell) (rw (c.as_slice.ensures.value, c.in-Ok.ensures.learned text here) in_text))
+    (sym (check-of names text inputs (Ok c.in-Ok.plan) (planned-fine names text c.in_ok-named.named told.0 told.1 ∙ in_text)))
+    (c.check_by_text.ensures.checked inputs c.in-Ok.plan (rw (c.in-Ok.ensures.same, c.judge_names.ensures.same) tell) (rw (c.as_slice.ensures.value, c.in-Ok.ensures.learned text here) in_text))
 
 pub returns-clause-checked : goal.returns-clause-checked
 returns-clause-checked g c text inputs known tell =

@@ -2,7 +2,7 @@ use Rattle.std.proofs.Common.{◌≡◌, ◌∙◌, ap, get_or, sym, take}
 use Rattle.std.specs.List.{list_any}
 use Rattle.fq_column.specs.Frame.{same_name}
 use Rattle.fq_plan.specs.Noted.{has_ints}
-use Rattle.fq_plan.proofs.NotedLemmas.{Entry, ints-are, name_in, refused-column, refused-further, refused-twice}
+use Rattle.fq_plan.proofs.NotedLemmas.{Entry, name_in, refused-column, refused-further, refused-twice}
 use Rattle.fq_plan.proofs.checks.Checked.refusal_of.Goals as goal
 use Rattle.fq_plan.proofs.checks.Checked.refusal_of.Goals.{After-stands_in}
 
@@ -23,12 +23,12 @@ pub returns-then-not-has_ints : goal.returns-then-not-has_ints
 returns-then-not-has_ints c =
     let at = (goal.at.returns-then-not-has_ints c).After-stands_in in
     let none : has_ints c.args.self.now (name_in (here at)) ≡ c.has_ints.result =
-    sym (c.has_ints.ensures ∙ ints-are c.as_str-name.result.now c.self.inside.physical c.self.invariant ∙ (λ i. has_ints (c.self.view_is i) (c.as_str-name.ensures.value i))) in
+    sym (c.has_ints.ensures ∙ ap (has_ints c.args.self.now) c.as_str-name.ensures.value) in
     sym (c.loop-place.invariant ∙ refused-column c.args.self.now c.args.named.now c.loop-place.place c.index-named-place.result c.loop-place-test.true (stands at ∙ c.if-stands_in.false) (none ∙ c.if-not-has_ints.true))
 
 pub loop-place-preserved : goal.loop-place-preserved
 loop-place-preserved c =
     let at = (goal.at.loop-place-preserved c).After-stands_in in
     let some : has_ints c.args.self.now (name_in (here at)) ≡ c.has_ints.result =
-    sym (c.has_ints.ensures ∙ ints-are c.as_str-name.result.now c.self.inside.physical c.self.invariant ∙ (λ i. has_ints (c.self.view_is i) (c.as_str-name.ensures.value i))) in
+    sym (c.has_ints.ensures ∙ ap (has_ints c.args.self.now) c.as_str-name.ensures.value) in
     c.loop-place.invariant ∙ refused-further c.args.self.now c.args.named.now c.loop-place.place c.index-named-place.result c.loop-place-test.true (stands at ∙ c.if-stands_in.false) (some ∙ c.if-not-has_ints.false)

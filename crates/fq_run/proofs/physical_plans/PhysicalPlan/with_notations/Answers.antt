@@ -32,9 +32,10 @@ returns c =
     let d = (goal.at.returns c).In_ok-main in
     let s = c.self.inside in
     let named = c.args.named.now in
-    let notations : c.in_ok-notations.notations ≡ map (notation_in named) (last_columns c.args.self) =
-    c.in_ok-notations.ensures ∙ ap (map (notation_in named)) c.columns.ensures in
+    let last = c.args.last.now in
+    let notations : c.in_ok-notations.notations ≡ map (notation_in last) (last_columns c.args.self) =
+    c.in_ok-notations.ensures ∙ ap (map (notation_in last)) c.columns.ensures in
     c.new.ensures
     ∙ (λ i. physical_of (changed d i) s.leading.front s.stages.items (notations i))
-    ∙ (λ i. (let p : Physical = record { sources = sources-noted named (parts d) i; front = s.leading.front.steps; stages = s.stages.items; notations = map (notation_in named) (last_columns c.args.self) } in p))
-    ∙ (λ i. (let p : Physical = record { sources = map (noted_source named) (c.self.view_is i).sources; front = (c.self.view_is i).front; stages = (c.self.view_is i).stages; notations = map (notation_in named) (last_columns c.args.self) } in p))
+    ∙ (λ i. (let p : Physical = record { sources = sources-noted named (parts d) i; front = s.leading.front.steps; stages = s.stages.items; notations = map (notation_in last) (last_columns c.args.self) } in p))
+    ∙ (λ i. (let p : Physical = record { sources = map (noted_source named) (c.self.view_is i).sources; front = (c.self.view_is i).front; stages = (c.self.view_is i).stages; notations = map (notation_in last) (last_columns c.args.self) } in p))
