@@ -73,7 +73,7 @@ _INSTEAD = {
     "date": "write datetime.date(2024, 3, 5)",
     "coalesce": "write a.fill_null(b)",
     **{name: f'write col("a").{name}()' for name in ("sum", "min", "max", "count", "first", "last", "n_unique")},
-    "mean": "there are no floats: sum() // count() is the mean, rounded down",
+    "mean": "there are no floats: sum() // count() is the mean, rounded down, and sum().quotient(count(), 2) keeps two places of it",
 }
 _INSTEAD_OF_KINDS = {
     **dict.fromkeys(("Float32", "Float64"), "there are no floats: an amount is a Decimal(scale=2)"),

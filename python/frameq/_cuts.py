@@ -1,9 +1,9 @@
 """Where a plan is cut: into steps that each file of its main source goes through by itself, and steps on the rows of all of them."""
 import functools
 import itertools
-from typing import AbstractSet, Any, Container, Dict, Iterator, List, NamedTuple, Optional, Sequence, Set
+from typing import AbstractSet, Any, Container, Dict, Iterator, List, NamedTuple, Optional, Sequence, Set, Tuple
 
-from ._kinds import Date, Kind, Schema
+from ._kinds import Kind, Schema
 
 # What a second grouping computes of the values that an aggregate has in the groups of parts. How many different values there are does not
 # follow from how many each part has, so `n_unique` is not here.
@@ -13,14 +13,16 @@ _OF_THE_COLUMN = ("min", "max", "first", "last")
 
 
 class Cut(NamedTuple):
-    """The steps on each file, the columns that they leave, and the steps on the rows of all files, the first of which has this number.
+    """The steps on each file, then those on the rows of all files, and the number of the first of these; for both, the columns before
+    each step and after the last.
 
     Without steps on all rows, the rows of the files are the result.
     """
 
     first: List[Dict[str, Any]]
-    columns: Schema
+    first_schemas: List[Schema]
     then: List[Dict[str, Any]]
+    then_schemas: List[Schema]
     at: int
 
 
@@ -29,38 +31,27 @@ def first_of_many_rows(steps: Sequence[Dict[str, Any]]) -> int:
     return next((number for number, step in enumerate(steps) if "group_by" in step or "rolling_sum" in step), len(steps))
 
 
-def cuts(steps: Sequence[Dict[str, Any]], schemas: Sequence[Schema], at: int, dates: AbstractSet[str]) -> Iterator[Cut]:
+def cuts(steps: Sequence[Dict[str, Any]], schemas: Sequence[Schema], at: int, taken: Container[str]) -> Iterator[Cut]:
     """The ways to cut a plan before one of its steps, that which leaves the fewest rows first.
 
-    `schemas` are the columns before each step, and after the last. The rows of a part are printed and read again, and a text that is empty
-    and not null is read as null; an int that is no day is not read again if its column has a name that is among `dates`, by which it is
-    written. So there is no way where such a text or such an int may be among them.
+    `schemas` are the columns before each step, and after the last, and `taken` has the names that the plan has. The rows of a part are
+    printed and read again, and a text that is empty and not null is read as null. So no way cuts the plan where such a text may be among
+    them.
     """
-    for cut in _cuts_of_texts(steps, schemas, at, dates):
-        if not names_of_other_dates(cut.columns, dates):
-            yield cut
-
-
-def names_of_other_dates(columns: Schema, dates: AbstractSet[str]) -> List[str]:
-    """The int columns that are written as dates by their names, and are none."""
-    return [name for name, kind in columns.items() if name in dates and kind.value == Kind.INT.value and kind != Date]
-
-
-def _cuts_of_texts(steps: Sequence[Dict[str, Any]], schemas: Sequence[Schema], at: int, dates: AbstractSet[str]) -> Iterator[Cut]:
-    """The ways to cut a plan in which each text is read as it was printed."""
-    first, columns, then = list(steps[:at]), schemas[at], list(steps[at:])
+    first, of_first, then, after = list(steps[:at]), list(schemas[: at + 1]), list(steps[at:]), list(schemas[at + 1 :])
     if not then:
-        yield Cut(first, columns, then, at)
+        yield Cut(first, of_first, then, of_first[-1:], at)
         return
     empties, group = _columns_of_empty_texts(first), then[0].get("group_by")
     if group is not None:
         if _can_group_parts(group, empties):
-            yield _grouped(first, columns, then, at, dates)
+            of_parts, columns, of_all = _grouped(group, of_first[-1], taken)
+            yield Cut([*first, of_parts], [*of_first, columns], [of_all, *then[1:]], [columns, *after], at)
         needed = dict.fromkeys([*group["keys"], *(column for _, _, *of in group["aggs"] for column in of)])
         first.append({"select": [[name, {"col": name}] for name in needed]})
-        columns = {name: columns[name] for name in needed}
-    if not empties & set(columns):
-        yield Cut(first, columns, then, at)
+        of_first.append({name: of_first[-1][name] for name in needed})
+    if not empties & set(of_first[-1]):
+        yield Cut(first, of_first, then, [of_first[-1], *after], at)
 
 
 def _can_group_parts(group: Dict[str, Any], empties: AbstractSet[str]) -> bool:
@@ -78,11 +69,11 @@ def _summed(aggs: Sequence[List[str]]) -> Set[str]:
     return {column for _, function, *of in aggs for column in of if function == "sum"}
 
 
-def _grouped(first: List[Dict[str, Any]], columns: Schema, then: List[Dict[str, Any]], at: int, dates: AbstractSet[str]) -> Cut:
-    """The cut by which each file is grouped by itself, and the groups of all files are grouped once more by the same keys."""
-    keys, aggs = then[0]["group_by"]["keys"], then[0]["group_by"]["aggs"]
-    taken = {*keys, *_summed(aggs), *dates}
-    others = (name for name in map("_{}".format, itertools.count()) if name not in taken)
+def _grouped(group: Dict[str, Any], columns: Schema, taken: Container[str]) -> Tuple[Dict[str, Any], Schema, Dict[str, Any]]:
+    """The step by which the rows of each file are grouped, the columns after it, and the step by which all groups are grouped once more by
+    the same keys."""
+    keys, aggs = group["keys"], group["aggs"]
+    others = _new_names(taken)
     after = {name: columns[name] for name in keys}
     of_parts, of_all = {}, []
     for name, function, *of in aggs:
@@ -90,8 +81,12 @@ def _grouped(first: List[Dict[str, Any]], columns: Schema, then: List[Dict[str, 
         after[column] = columns[of[0]] if function in (*_OF_THE_COLUMN, "sum") else Kind.INT
         of_parts[column] = [column, function, *of]
         of_all.append([name, _TOGETHER[function], column])
-    group = {"group_by": {"keys": keys, "aggs": list(of_parts.values())}}
-    return Cut([*first, group], after, [{"group_by": {"keys": keys, "aggs": of_all}}, *then[1:]], at)
+    return {"group_by": {"keys": keys, "aggs": list(of_parts.values())}}, after, {"group_by": {"keys": keys, "aggs": of_all}}
+
+
+def _new_names(taken: Container[str]) -> Iterator[str]:
+    """Names that are not taken."""
+    return (name for name in map("_{}".format, itertools.count()) if name not in taken)
 
 
 def _columns_of_empty_texts(steps: Sequence[Dict[str, Any]]) -> Set[str]:
@@ -118,22 +113,20 @@ def gives_no_row_twice(join: Dict[str, Any]) -> bool:
     return join["how"] in ("semi", "anti")
 
 
-def steps_to_most_matches(join: Dict[str, Any], noted: Container[str]) -> Optional[List[Dict[str, Any]]]:
+def steps_to_most_matches(join: Dict[str, Any], taken: Container[str]) -> Optional[List[Dict[str, Any]]]:
     """The steps on the right source of a join that leave one row, whose last column says how many rows have the same keys at most, or no
-    row. That column has none of the names that are noted, so it is printed in digits.
+    row. No column that they make has a name that is taken, by the source's columns, so each is in digits.
 
     None for a join that gives no left row twice.
     """
     if gives_no_row_twice(join):
         return None
-    most = next(name for name in itertools.chain(["most"], map("_{}".format, itertools.count())) if name not in noted)
-    keys = join["on"]
-    rows = next(name for name in map("_{}".format, itertools.count()) if name not in keys)
+    keys, (rows, every, most) = join["on"], itertools.islice(_new_names(taken), 3)
     present: List[Any] = [["is_not_null", {"col": key}] for key in keys]
     no_nulls = functools.reduce(lambda left, right: ["and", left, right], present)
     return [
         {"filter": join.get("nulls_equal", False) or no_nulls},
         {"group_by": {"keys": keys, "aggs": [[rows, "len"]]}},
-        {"select": [["all", True], ["rows", {"col": rows}]]},
-        {"group_by": {"keys": ["all"], "aggs": [[most, "max", "rows"]]}},
+        {"select": [[every, True], [rows, {"col": rows}]]},
+        {"group_by": {"keys": [every], "aggs": [[most, "max", rows]]}},
     ]

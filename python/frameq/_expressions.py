@@ -7,7 +7,7 @@ from typing import Any, Dict, FrozenSet, Iterable, Iterator, List, Mapping, NoRe
 
 from ._faults import ColumnNotFoundError, UnsupportedError, WrongKindError
 from ._kinds import MOST_PLACES, AnyKind, ColumnKind, Date, Decimal, Kind, Schema
-from ._kinds import check_unicode, fits, int_at, int_of_day, kind_of_type, places_of, value_of_int
+from ._kinds import check_unicode, fits, int_at, int_of_day, kind_of_type, number_of_scale, places_of, scale_of, value_of_int
 
 _ARITHMETIC = frozenset({"add", "sub", "mul", "floordiv", "mod"})
 FUNCTIONS = frozenset({"sum", "min", "max", "count", "first", "last", "n_unique"})
@@ -17,7 +17,7 @@ PARTS_OF_DATES = frozenset({"dt.year", "dt.month", "dt.day"})
 # What Polars has and the plan language has not, and what to do instead.
 _INSTEAD = {
     "cast": "there are no casts: give the column its kind in the schema",
-    "mean": "there are no floats: sum() // count() is the mean, rounded down",
+    "mean": "there are no floats: sum() // count() is the mean, rounded down, and sum().quotient(count(), 2) keeps two places of it",
     "median": "there are no quantiles",
     "std": "there are no floats",
     "var": "there are no floats",
@@ -42,7 +42,8 @@ TOO_DEEP = "operators stand too deep one in another: combine them by halves, as 
 _MOST_EXPONENT = 1000
 
 # A part of an expression: ("col", name), ("cols", names), ("all",), ("lit", kind, value as the plan has it), ("null", kind),
-# ("decimal", value), (operation, node, ..), ("agg", function, node or None), ("roll", node, window, least).
+# ("decimal", value), (operation, node, ..), ("quotient", node, node, scale), ("agg", function, node or None),
+# ("roll", node, window, least).
 Node = Tuple[Any, ...]
 
 
@@ -64,7 +65,7 @@ class Expr:
         self._node, self._alias = node, alias
 
     def __repr__(self) -> str:
-        text = _shown(self._node)
+        text = shown(self._node)
         return text if self._alias is None else f"{text}.alias({self._alias!r})"
 
     def __bool__(self) -> NoReturn:
@@ -121,7 +122,7 @@ class Expr:
         return self._two("mul", other, reverse=True)
 
     def __floordiv__(self, other: Any) -> "Expr":
-        """The quotient of both, rounded down; null where the other is 0."""
+        """The quotient of both as a whole number, rounded down; null where the other is 0."""
         return self._two("floordiv", other)
 
     def __rfloordiv__(self, other: Any) -> "Expr":
@@ -134,8 +135,18 @@ class Expr:
     def __rmod__(self, other: Any) -> "Expr":
         return self._two("mod", other, reverse=True)
 
+    def quotient(self, other: Any, scale: int) -> "Expr":
+        """The quotient of both with so many digits behind the point, rounded down; null where the other is 0. Polars has none.
+
+        It is a `Decimal(scale=scale)`, or an `Int64` if `scale` is 0. The mean of a decimal is `col("amount").sum().quotient(len(), 2)`.
+        UnsupportedError says that the scale is not 0 to 18.
+        """
+        if not isinstance(scale, int) or isinstance(scale, bool) or not 0 <= scale <= MOST_PLACES:
+            raise UnsupportedError(f"the scale of a quotient is 0 to {MOST_PLACES}, and not {scale!r}: write quotient(other, 2)")
+        return Expr(("quotient", self._node, literal(other)._node, scale), self._alias)
+
     def __truediv__(self, other: Any) -> NoReturn:
-        raise UnsupportedError("there are no floats: // divides and rounds down")
+        raise UnsupportedError("there are no floats: // divides and rounds down, and quotient(other, 2) keeps two places")
 
     __rtruediv__ = __truediv__
 
@@ -389,7 +400,8 @@ def named(value: Any) -> Expr:
     return col(value) if isinstance(value, str) else literal(value)
 
 
-def _shown(node: Node) -> str:
+def shown(node: Node) -> str:
+    """A node as it is shown in a message."""
     head = node[0]
     if head == "col":
         return f"col({node[1]!r})"
@@ -402,12 +414,14 @@ def _shown(node: Node) -> str:
     if head == "null":
         return f"lit(None, dtype={node[1]!r})"
     if head in PARTS_OF_DATES:
-        return f"{_shown(node[1])}.{head}()"
+        return f"{shown(node[1])}.{head}()"
     if head == "agg":
-        return "len()" if node[2] is None else f"{_shown(node[2])}.{node[1]}()"
+        return "len()" if node[2] is None else f"{shown(node[2])}.{node[1]}()"
     if head == "roll":
-        return f"{_shown(node[1])}.rolling_sum({node[2]}, min_samples={node[3]})"
-    return f"{head}(" + ", ".join(map(_shown, node[1:])) + ")"
+        return f"{shown(node[1])}.rolling_sum({node[2]}, min_samples={node[3]})"
+    if head == "quotient":
+        return f"{shown(node[1])}.quotient({shown(node[2])}, {node[3]})"
+    return f"{head}(" + ", ".join(map(shown, node[1:])) + ")"
 
 
 def _value_of_literal(node: Node) -> Any:
@@ -531,48 +545,41 @@ def kind_of(node: Node, schema: Schema) -> ColumnKind:
 def _kind_of_aggregate(node: Node, schema: Schema) -> ColumnKind:
     kind = Kind.INT if node[2] is None else kind_of(node[2], schema)
     if node[1] == "sum" and kind != Kind.INT and not isinstance(kind, Decimal):
-        raise WrongKindError(f"{_shown(node)}: there are sums of an Int64 or a Decimal alone, and this is a {kind!r}")
+        raise WrongKindError(f"{shown(node)}: there are sums of an Int64 or a Decimal alone, and this is a {kind!r}")
     return kind if node[1] in ("sum", "min", "max", "first", "last") else Kind.INT
 
 
 def _kind_of_arithmetic(node: Node, kinds: List[ColumnKind]) -> ColumnKind:
     """The kind of a sum, a product and the like: of ints an int, and of decimals and dates what has a meaning."""
-    noted = [kind for kind in kinds if not isinstance(kind, Kind)]
-    if not noted:
-        return _wanted(node, kinds, Kind.INT, Kind.INT)
-    if node[0] in ("floordiv", "mod"):
-        if kinds[1] != Kind.INT:
-            raise WrongKindError(f"{_shown(node)}: // and % are by an Int64, and not by a {kinds[1]!r}")
+    if Date in kinds:
+        if node[0] not in ("floordiv", "mod") or kinds[0] != Date or kinds[1] != Kind.INT:
+            raise WrongKindError(f"{shown(node)}: there is no arithmetic of dates but // and % by an Int64, as of the int YYYYMMDD")
         return Kind.INT
-    if Date in noted:
-        raise WrongKindError(f"{_shown(node)}: there is no arithmetic of dates but // and % by an Int64, as of the int YYYYMMDD")
-    if node[0] != "mul":
+    scales = [scale for scale in map(scale_of, kinds) if scale is not None]
+    if len(scales) < len(kinds):
+        return _wanted(node, [kind for kind in kinds if scale_of(kind) is None], Kind.INT, Kind.INT)
+    if node[0] not in ("mul", "floordiv"):
         return _wanted(node, kinds, kinds[0], kinds[0])
-    _wanted(node, [kind for kind in kinds if isinstance(kind, Kind)], Kind.INT, Kind.INT)
-    scale = sum(kind.scale for kind in noted if isinstance(kind, Decimal))
+    scale = sum(scales) if node[0] == "mul" else scales[0] - scales[1]
     if scale > MOST_PLACES:
-        raise WrongKindError(f"{_shown(node)}: a product has the places of both factors, and {scale} are more than {MOST_PLACES}")
-    return Decimal(scale=scale)
+        raise WrongKindError(f"{shown(node)}: a product has the places of both factors, and {scale} are more than {MOST_PLACES}")
+    return number_of_scale(scale)
 
 
 def _wanted(node: Node, kinds: List[ColumnKind], wanted: ColumnKind, result: ColumnKind) -> ColumnKind:
     for kind in kinds:
         if kind != wanted:
             conversion = _conversion(kind, wanted)
-            raise WrongKindError(f"{_shown(node)}: a {kind!r} where a {wanted!r} stands; there are no casts{conversion}")
+            raise WrongKindError(f"{shown(node)}: a {kind!r} where a {wanted!r} stands; there are no casts{conversion}")
     return result
 
 
 def _conversion(one: ColumnKind, other: ColumnKind) -> str:
     """What makes two kinds the same, as the end of a sentence; nothing where nothing does."""
-    if Date in (one, other):
-        of_kinds: Dict[ColumnKind, str] = {Kind.INT: ": a Date // 1 is an Int64", Kind.TEXT: ": a day is a datetime.date(2024, 3, 5)"}
-        return of_kinds.get(one if other == Date else other, "")
-    places = {kind: kind.scale if isinstance(kind, Decimal) else 0 for kind in (one, other)}
-    if len(places) < 2 or not any(places.values()) or Kind.TEXT in places or Kind.BOOL in places:
+    if Date not in (one, other):
         return ""
-    fewer, more = sorted(places, key=lambda kind: places[kind])
-    return f": a {fewer!r} times Decimal('1.{'0' * (places[more] - places[fewer])}') is a {more!r}"
+    of_kinds: Dict[ColumnKind, str] = {Kind.INT: ": a Date // 1 is an Int64", Kind.TEXT: ": a day is a datetime.date(2024, 3, 5)"}
+    return of_kinds.get(one if other == Date else other, "")
 
 
 def written(node: Node) -> Any:

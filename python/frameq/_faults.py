@@ -143,9 +143,10 @@ _LINES: Tuple[Tuple[str, Type[FrameqError]], ...] = (
     (r"inputs: wanted \d+, got \d+", InputsError),
     (r"standard input \(-\) can be read only once", ArgumentsError),
     (r"the frame would replace the plan", ArgumentsError),
-    (r"--decimal takes NAME=SCALE, with a scale from 1 to 18", ArgumentsError),
+    (r"--decimal takes NAME=SCALE, with a scale from 0 to 18", ArgumentsError),
     (r"--decimal, --date: no such int column", ArgumentsError),
     (r"--decimal, --date: a name stands twice", ArgumentsError),
+    (r"--decimal, --date: step (?P<s>\d+)(?:, item (?P<i>\d+))?: (?:notations differ|a scale has to be named)", ArgumentsError),
     (r"plan: not JSON", PlanJsonError),
     (r"plan: wrong shape", PlanShapeError),
     (r"plan: (?:source \d+|step (?P<s>\d+)): no such column", ColumnNotFoundError),
@@ -185,7 +186,8 @@ def _columns_of_file(plan: Dict[str, Any], file: int) -> List[str]:
 def renumbered(said: str, files: Sequence[int], first_step: int) -> str:
     """What a run said, with the numbers of its files and of its steps in a larger run, where the first of its steps has this number."""
     said = re.sub(r"(?m)^(frameq: (?:read failed: )?file )(\d+)", lambda found: f"{found[1]}{files[int(found[2])]}", said)
-    return re.sub(r"(?m)^(frameq: step )(\d+)", lambda found: f"{found[1]}{first_step + int(found[2])}", said)
+    step = r"(?m)^(frameq: (?:--decimal, --date: )?step )(\d+)"
+    return re.sub(step, lambda found: f"{found[1]}{first_step + int(found[2])}", said)
 
 
 def fault(said: str, status: int, plan: Optional[Dict[str, Any]], files: Sequence[str], calls: Sequence[str]) -> FrameqError:

@@ -1,16 +1,17 @@
 """Lazy frames, by Polars' names: what is written is a plan."""
 import copy
+import itertools
 import os
-from typing import TYPE_CHECKING, Any, Dict, Iterable, List, Mapping, NamedTuple, NoReturn, Optional, Sequence, Set, Tuple, Union
+from typing import TYPE_CHECKING, Any, Dict, Iterable, Iterator, List, Mapping, NamedTuple, NoReturn, Optional, Sequence, Set, Tuple, Union
 
 from . import _parts, _program
 from ._dialects import Table
 from ._expressions import FUNCTIONS, TOO_DEEP, Expr, Node
 from ._expressions import columns_of, expanded, flat, has, kind_of, name_of, named, parts, plain_names, replaced, written
 from ._faults import DuplicateError, NoColumnError, PlanShapeError, UnsupportedError, WrongKindError
-from ._kinds import AnyKind, ColumnKind, Kind, Notations, Schema, check_unicode, schema_of
-from ._literals import settled
-from ._notations import notations_of, words_of
+from ._kinds import AnyKind, ColumnKind, Declared, Kind, Schema, check_unicode, schema_of
+from ._literals import settled, with_constants_apart
+from ._notations import declared, noted, words_of
 from ._program import Path, names_of_files
 from ._results import DataFrame
 from ._sql import sql
@@ -49,7 +50,7 @@ _INSTEAD = {
 }
 
 _INSTEAD_OF_GROUPS = {
-    "mean": "there are no floats: sum() // count() is the mean, rounded down",
+    "mean": "there are no floats: sum() // count() is the mean, rounded down, and sum().quotient(count(), 2) keeps two places of it",
     "median": "there are no quantiles",
     "quantile": "there are no quantiles",
     "head": "agg() makes a row for each group; first() is a value of its first row",
@@ -169,7 +170,7 @@ class LazyFrame:
         condition = settled(all_of._node, self._schema)
         if kind_of(condition, self._schema) != Kind.BOOL:
             raise WrongKindError(f"a filter takes a Boolean: {all_of!r}")
-        frame, (node,) = self._hoisted([condition], call)
+        frame, (node,) = self._hoisted([condition], (), call)
         return frame._after({"filter": written(node)}, call, frame._schema)._only(self._schema, call)
 
     def select(self, *exprs: Any, **named_exprs: Any) -> "LazyFrame":
@@ -178,8 +179,9 @@ class LazyFrame:
         outputs = self._outputs(exprs, named_exprs, "select")
         if not outputs:
             raise NoColumnError("a select has at least one column")
-        frame, nodes = self._hoisted([node for _, node in outputs], call)
-        return frame._selected([(name, node) for (name, _), node in zip(outputs, nodes)], call)
+        names = [name for name, _ in outputs]
+        frame, nodes = self._hoisted([node for _, node in outputs], names, call)
+        return frame._selected(list(zip(names, nodes)), call)
 
     def with_columns(self, *exprs: Any, **named_exprs: Any) -> "LazyFrame":
         """These columns too: one whose name exists stands in its place, and the others last. All see the columns before the call."""
@@ -187,11 +189,12 @@ class LazyFrame:
         outputs = self._outputs(exprs, named_exprs, "with_columns")
         if not outputs:
             return self
-        if _is_in_order(outputs):
-            return self._with_runs(outputs, call)
-        schema = _with_outputs(self._schema, outputs)
-        frame, nodes = self._hoisted([node for _, node in outputs], call)
-        return frame._with([(name, node) for (name, _), node in zip(outputs, nodes)], call)._only(schema, call)
+        schema, names = _with_outputs(self._schema, outputs), [name for name, _ in outputs]
+        frame, nodes = self._constants_apart([node for _, node in outputs], names, call)
+        if _is_in_order(list(zip(names, nodes))):
+            return frame._with_runs(list(zip(names, nodes)), call)._only(schema, call)
+        frame, nodes = frame._rolls_apart(nodes, names, call)
+        return frame._with(list(zip(names, nodes)), call)._only(schema, call)
 
     def drop(self, *columns: Any) -> "LazyFrame":
         """All columns but these."""
@@ -252,32 +255,49 @@ class LazyFrame:
             return self
         return self._selected([(name, ("col", name)) for name in schema], call)
 
-    def _private(self, count: int) -> List[str]:
-        """So many names that no column has."""
-        names: List[str] = []
-        number = 0
-        while len(names) < count:
-            name, number = f"_{number}", number + 1
-            if name not in self._schema:
-                names.append(name)
-        return names
+    def _private(self, taken: Iterable[str]) -> Iterator[str]:
+        """Names that no column has, wherever it is in the plan, and that are not taken."""
+        columns = [*self._schemas, *(dict(right.columns) for right in self._rights), taken]
+        names = {name for several in columns for name in several}
+        return (name for name in map("_{}".format, itertools.count()) if name not in names)
 
-    def _hoisted(self, nodes: Sequence[Node], call: str) -> Tuple["LazyFrame", List[Node]]:
-        """The frame with each rolling sum of these nodes in a column of its own, and the nodes over these columns."""
+    # (below, `taken` has the names that the call gives)
+
+    def _hoisted(self, nodes: Sequence[Node], taken: Sequence[str], call: str) -> Tuple["LazyFrame", List[Node]]:
+        """The frame with a column of its own for each part of these nodes that needs one, and the nodes over these columns."""
+        frame, nodes = self._constants_apart(nodes, taken, call)
+        return frame._rolls_apart(nodes, taken, call)
+
+    def _constants_apart(self, nodes: Sequence[Node], taken: Sequence[str], call: str) -> Tuple["LazyFrame", List[Node]]:
+        """The frame with each number and day that the program would read otherwise in a column, whose name says what it is."""
+        names: Dict[Node, str] = {}
+        private = self._private(taken)
+
+        def column(constant: Node) -> Node:
+            if constant not in names:
+                names[constant] = next(private)
+            return ("col", names[constant])
+
+        after = [with_constants_apart(node, self._schema, column) for node in nodes]
+        frame = self._with([(name, constant) for constant, name in names.items()], call) if names else self
+        return frame, after
+
+    def _rolls_apart(self, nodes: Sequence[Node], taken: Sequence[str], call: str) -> Tuple["LazyFrame", List[Node]]:
+        """The frame with each rolling sum of these nodes in a column, and the nodes over these columns."""
         rolls = list(dict.fromkeys(part for node in nodes for part in parts(node) if part[0] == "roll"))
         if any(has(roll[1], "roll") for roll in rolls):
             raise UnsupportedError("a rolling sum of a rolling sum: write two with_columns")
-        frame, columns = self._of_columns([roll[1] for roll in rolls], call)
+        frame, columns = self._of_columns([roll[1] for roll in rolls], taken, call)
         swaps = {}
-        for roll, column, name in zip(rolls, columns, frame._private(len(rolls))):
+        for roll, column, name in zip(rolls, columns, frame._private(taken)):
             frame = frame._rolled(name, ("roll", ("col", column), *roll[2:]), call)
             swaps[roll] = ("col", name)
         return frame, [replaced(node, swaps) for node in nodes]
 
-    def _of_columns(self, nodes: Sequence[Node], call: str) -> Tuple["LazyFrame", List[str]]:
+    def _of_columns(self, nodes: Sequence[Node], taken: Sequence[str], call: str) -> Tuple["LazyFrame", List[str]]:
         """The frame with a column of its own for each of these nodes that is none, and the column of each."""
         computed = list(dict.fromkeys(node for node in nodes if node[0] != "col"))
-        names = dict(zip(computed, self._private(len(computed))))
+        names = dict(zip(computed, self._private(taken)))
         frame = self._with([(name, node) for node, name in names.items()], call) if names else self
         return frame, [node[1] if node[0] == "col" else names[node] for node in nodes]
 
@@ -362,12 +382,17 @@ class LazyFrame:
         """The files, in the order in which the plan takes them."""
         return [file for source in (*self._rights, self._main) for file in source.files]
 
-    def notations(self) -> Notations:
-        """The int columns of the plan that are decimals or dates in CSV: in each source, and in the result, that has one of the name.
+    def notations(self) -> Declared:
+        """What a run of the plan is told of the names of int columns: which are decimals or dates, and which that steps make are digits.
 
-        UnsupportedError says that a name is written in two ways. What runs the plan, or writes it as SQL, raises it, too.
+        The names are those of sources, and of what steps make, also in between. What a step makes under a source's name is not told: the
+        program follows it. UnsupportedError says that it would follow something else, or that a name cannot be told. What runs the plan,
+        or writes it as SQL, raises it, too.
         """
-        return notations_of([dict(source.columns) for source in (*self._rights, self._main)], self._schema)
+        return declared(self._kinds_of_sources(), self._steps, self._schemas)
+
+    def _kinds_of_sources(self) -> List[Schema]:
+        return [dict(source.columns) for source in (*self._rights, self._main)]
 
     def sql(self, dialect: str = "sqlite", tables: Optional[Sequence[Table]] = None) -> str:
         """The plan as one SQL query over a table for each source, in the dialect of "sqlite", "postgres", "duckdb" or "spark".
@@ -379,7 +404,8 @@ class LazyFrame:
         ValueError says that there is no such dialect, that there are more or fewer tables than sources, or that the dialect has no way to
         say something in the plan.
         """
-        return sql(self.plan(), dialect, tables, self.notations())
+        self.notations()
+        return sql(self.plan(), dialect, tables, noted(self._kinds_of_sources()), noted([self._schema]))
 
     def sql_setup(self, dialect: str = "postgres", tables: Optional[Sequence[Table]] = None, *, program: Path = "frameq") -> str:
         """A script of psql, for PostgreSQL, that makes these tables from the plan's files: the program reads each of them, as in a run.
@@ -387,7 +413,8 @@ class LazyFrame:
         ValueError says that another dialect has no such script, that there are more or fewer tables than sources, or that psql or
         PostgreSQL cannot have a name; UnsupportedError, that no argument can say which column is a decimal or a date.
         """
-        return sql_setup(self.plan(), self.files(), dialect, tables, program, self.notations())
+        self.notations()
+        return sql_setup(self.plan(), self.files(), dialect, tables, program, noted(self._kinds_of_sources()))
 
     def explain(self, *, program: Optional[Path] = None) -> str:
         """What the program says of the plan: the columns after each step, and where it runs. Raises as `collect`; no file is opened."""
@@ -449,7 +476,8 @@ class LazyFrame:
             )
 
     def _report(self) -> _parts.Report:
-        return _parts.Report(self.plan(), self.files(), self._calls, self._schemas, self.notations())
+        self.notations()
+        return _parts.Report(self.plan(), self.files(), self._calls, self._schemas, self._kinds_of_sources())
 
 
 class GroupBy:
@@ -485,29 +513,27 @@ class GroupBy:
     def _grouped(self, outputs: List[Output], call: str) -> LazyFrame:
         aggregates = list(dict.fromkeys(part for _, node in outputs for part in parts(node) if part[0] == "agg"))
         inputs = [part[2] for part in aggregates if part[2] is not None and part[1] != "len"]
-        frame, keys = self._with_keys(call)
-        frame, columns = frame._of_columns(inputs, call)
+        key_names, names = [name for name, _ in self._keys], [name for name, _ in outputs]
+        taken = [*key_names, *names]
+        frame, keys = self._with_keys(taken, call)
+        frame, nodes = frame._constants_apart(inputs, taken, call)
+        frame, columns = frame._of_columns(nodes, taken, call)
         of_inputs = dict(zip(inputs, columns))
-        is_plain = keys == [name for name, _ in self._keys] and all(node[0] == "agg" for _, node in outputs)
-        if is_plain:
-            named_aggs = outputs
-        else:
-            named_aggs = list(zip(frame._private(len(aggregates)), aggregates))
+        is_plain = keys == key_names and all(node[0] == "agg" for _, node in outputs)
+        named_aggs = outputs if is_plain else list(zip(frame._private(taken), aggregates))
         grouped = frame._after(*_group_step(frame._schema, keys, named_aggs, of_inputs, call))
         if is_plain:
             return grouped
         swaps = {node: ("col", name) for name, node in named_aggs}
-        selected = [(name, ("col", key)) for (name, _), key in zip(self._keys, keys)]
-        return grouped._selected([*selected, *((name, replaced(node, swaps)) for name, node in outputs)], call)
+        grouped, nodes = grouped._constants_apart([replaced(node, swaps) for _, node in outputs], taken, call)
+        return grouped._selected([*((name, ("col", key)) for name, key in zip(key_names, keys)), *zip(names, nodes)], call)
 
-    def _with_keys(self, call: str) -> Tuple[LazyFrame, List[str]]:
+    def _with_keys(self, taken: Sequence[str], call: str) -> Tuple[LazyFrame, List[str]]:
         """The frame with a column for each key, and these columns: a computed key under its own name, if no column has it."""
-        frame = self._frame
         computed = [(name, node) for name, node in self._keys if node != ("col", name)]
-        own = {name for name, _ in computed if name not in frame._schema}
-        private = (name for name in frame._private(2 * len(computed)) if name not in own)
-        new = {name: name if name in own else next(private) for name, _ in computed}
-        frame, nodes = frame._hoisted([node for _, node in computed], call)
+        frame, nodes = self._frame._hoisted([node for _, node in computed], taken, call)
+        private = frame._private(taken)
+        new = {name: next(private) if name in self._frame._schema else name for name, _ in computed}
         if computed:
             frame = frame._with([(new[name], node) for (name, _), node in zip(computed, nodes)], call)
         return frame, [new.get(name, name) for name, _ in self._keys]

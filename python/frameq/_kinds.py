@@ -8,6 +8,7 @@ from ._faults import UnsupportedError
 
 LEAST, MOST = -(2**63), 2**63 - 1
 MOST_PLACES = 18
+_EXACT = decimal.Context(prec=decimal.MAX_PREC, Emin=decimal.MIN_EMIN, Emax=decimal.MAX_EMAX)
 
 
 class Kind(enum.Enum):
@@ -72,6 +73,8 @@ Date = DateKind()
 Notation = Union[Decimal, DateKind]
 ColumnKind = Union[Kind, Notation]
 Notations = Dict[str, Notation]
+# What a run is told of names, where an Int64 is digits.
+Declared = Dict[str, ColumnKind]
 
 _NAMES = {Kind.INT: "Int64", Kind.TEXT: "String", Kind.BOOL: "Boolean"}
 _OF_TYPES: Dict[Any, ColumnKind] = {int: Kind.INT, str: Kind.TEXT, bool: Kind.BOOL, datetime.date: Date}
@@ -124,6 +127,18 @@ def check_unicode(texts: Iterable[str], what: str) -> None:
             raise UnsupportedError(f"{what} is a Unicode text, without half of a surrogate pair, and not {text!r}")
 
 
+# ---- scales
+
+def number_of_scale(scale: int) -> ColumnKind:
+    """The kind of numbers with so many places: a decimal, or an Int64 if there are none."""
+    return Decimal(scale=scale) if scale else Kind.INT
+
+
+def scale_of(kind: ColumnKind) -> Optional[int]:
+    """How many places the numbers of a kind have; None if these are no numbers."""
+    return kind.scale if isinstance(kind, Decimal) else 0 if kind == Kind.INT else None
+
+
 # ---- values and their ints
 
 def fits(number: int) -> bool:
@@ -134,6 +149,11 @@ def fits(number: int) -> bool:
 def places_of(number: decimal.Decimal) -> int:
     """How many digits a number has behind the point, as it is written."""
     return max(0, -int(number.as_tuple().exponent))
+
+
+def least_places_of(number: Union[int, decimal.Decimal]) -> int:
+    """How many digits a number needs behind the point."""
+    return places_of(number.normalize(_EXACT)) if isinstance(number, decimal.Decimal) else 0
 
 
 def floor_at(number: Union[int, decimal.Decimal], scale: int) -> Tuple[int, bool]:

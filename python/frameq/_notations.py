@@ -1,60 +1,94 @@
-"""Which columns of a run are written as decimals or as dates, and the arguments that say so."""
-from typing import Any, Dict, Iterable, List, Mapping
+"""Which columns of a run are written as decimals or as dates: what the program is told of their names, and the arguments that say so."""
+from typing import Any, Dict, Iterable, List, Mapping, Optional, Sequence
 
 from ._faults import UnsupportedError
-from ._kinds import ColumnKind, Decimal, Kind, Notations, Schema
-
-_RESULT = "the result"
+from ._kinds import ColumnKind, Date, Declared, Kind, Notations, Schema
+from ._made import Made, made_by
 
 # What no name of an argument can have. An entry of `--decimal` has its name before its first `=`, and one of `--date` is all name.
 _UNSAID = {",": "a comma", "\0": "a character 0", "=": "an equals sign"}
 
+_INSTEAD = "give the column that the step makes another name, by alias or rename"
 
-def notations_of(sources: Iterable[Mapping[str, ColumnKind]], result: Schema) -> Notations:
-    """The notation of each name that has one. A name has the same in all sources and in the result, where it is an int of the plan."""
-    found: Dict[str, Dict[ColumnKind, str]] = {}
-    places = [*((f"source {number}", source) for number, source in enumerate(sources)), (_RESULT, result)]
-    for place, schema in places:
+
+def noted(schemas: Iterable[Mapping[str, ColumnKind]]) -> Notations:
+    """The notation of each name of these columns that has one. A name has the same in all schemas, where it is an int of the plan."""
+    found: Dict[str, Dict[ColumnKind, int]] = {}
+    for number, schema in enumerate(schemas):
         for name, kind in schema.items():
             if kind.value == Kind.INT.value:
-                found.setdefault(name, {}).setdefault(kind, place)
-    notations: Notations = {}
+                found.setdefault(name, {}).setdefault(kind, number)
     for name, kinds in found.items():
-        for kind in kinds:
-            if not isinstance(kind, Kind):
-                if len(kinds) > 1:
-                    raise UnsupportedError(_two_kinds(name, kinds))
-                notations[name] = kind
-    return notations
+        if len(kinds) > 1:
+            each = " and ".join(f"a {kind!r} in source {number}" for kind, number in kinds.items())
+            raise UnsupportedError(
+                f"the column {name!r} is {each}, and a run reads a name in one way: give both the same kind in their schemas, or another "
+                "name in the files of one"
+            )
+    return {name: kind for name, kinds in found.items() for kind in kinds if not isinstance(kind, Kind)}
 
 
-def _two_kinds(name: str, kinds: Dict[ColumnKind, str]) -> str:
-    """What is said where a name has two notations."""
-    each = " and ".join(f"a {kind!r} in {place}" for kind, place in kinds.items())
-    instead = (
-        "give the column of the result another name, by alias or rename"
-        if _RESULT in kinds.values()
-        else "give both the same kind in their schemas, or another name in the files of one"
-    )
-    return f"the column {name!r} is {each}, and a run writes a name in one way: {instead}"
+def declared(sources: Sequence[Schema], steps: Sequence[Dict[str, Any]], schemas: Sequence[Schema]) -> Declared:
+    """What the program is told of names: of sources, and of what steps make, whose columns are these before each step and after the last.
+
+    UnsupportedError says that it would have a column for another than the kind that it has here.
+    """
+    told: Declared = dict(noted(sources))
+    of_sources = {name: kind for source in sources for name, kind in source.items() if kind.value == Kind.INT.value}
+    made: Dict[str, List[Made]] = {}
+    for number, step in enumerate(steps):
+        for name, it in made_by(step, schemas[number], schemas[number + 1], sources).items():
+            made.setdefault(name, []).append(it)
+    for name, several in made.items():
+        if name in of_sources:
+            _check_name_of_source(name, of_sources[name], several)
+        else:
+            said = _said(name, several)
+            if said is not None:
+                told[name] = said
+    return told
 
 
-def words_of_run(notations: Notations, plan: Dict[str, Any], result: Mapping[str, ColumnKind]) -> List[str]:
-    """The arguments for a run of a plan with this result: of the names that are int columns of a source or of the result."""
-    ints = [name for source in plan["sources"] for name, kind in source["columns"] if kind == Kind.INT.value]
-    ints += [name for name, kind in result.items() if kind.value == Kind.INT.value]
-    return words_of({name: notations[name] for name in ints if name in notations})
+def _check_name_of_source(name: str, of_source: ColumnKind, several: Sequence[Made]) -> None:
+    for it in several:
+        if not it.is_right_in(of_source):
+            raise UnsupportedError(
+                f"the column {name!r} is a {of_source!r} in a source, and a step makes it a {it.kind!r}, which a run would not read so "
+                f"under this name: {_INSTEAD}"
+            )
 
 
-def words_of(notations: Notations) -> List[str]:
+def _said(name: str, several: Sequence[Made]) -> Optional[ColumnKind]:
+    """What the program is told of a name that steps make and no source has, so that it has each of these for its kind."""
+    last = max((number for number, it in enumerate(several) if not it.is_joined), default=-1)
+    told = [said for it in several[::-1] for said in ((None, Kind.INT) if it.kind == Kind.INT else (it.kind,))]
+    unsaid = ""
+    for said in dict.fromkeys([*told, None]):
+        if all(it.is_right_as(said, number >= last) for number, it in enumerate(several)):
+            unsaid = "" if said is None else _unsaid(name, said)
+            if not unsaid:
+                return said
+    if unsaid:
+        raise UnsupportedError(unsaid)
+    kinds = " and then ".join(f"a {kind!r}" for kind in dict.fromkeys(it.kind for it in several))
+    raise UnsupportedError(f"steps make the column {name!r} {kinds}, which a run would not read so under one name: {_INSTEAD}")
+
+
+def words_of(notations: Mapping[str, ColumnKind]) -> List[str]:
     """The arguments that say how these columns are written."""
     for name, kind in notations.items():
-        for mark, what in _UNSAID.items():
-            if mark in name and (mark != "=" or isinstance(kind, Decimal)):
-                raise UnsupportedError(
-                    f"the column {name!r} is a {kind!r}, and no argument can say so, since its name has {what}: "
-                    "give it another name in its files, or a column of the result by alias"
-                )
-    decimals = [f"{name}={kind.scale}" for name, kind in notations.items() if isinstance(kind, Decimal)]
-    dates = [name for name, kind in notations.items() if not isinstance(kind, Decimal)]
+        unsaid = _unsaid(name, kind)
+        if unsaid:
+            raise UnsupportedError(unsaid)
+    dates = [name for name, kind in notations.items() if kind == Date]
+    decimals = [f"{name}={getattr(kind, 'scale', 0)}" for name, kind in notations.items() if kind != Date]
     return [f"{word}={','.join(names)}" for word, names in (("--decimal", decimals), ("--date", dates)) if names]
+
+
+def _unsaid(name: str, kind: ColumnKind) -> str:
+    """Why no argument can say that a column is of this kind; nothing if one can."""
+    what = next((what for mark, what in _UNSAID.items() if mark in name and (mark != "=" or kind != Date)), None)
+    return "" if what is None else (
+        f"the column {name!r} is a {kind!r}, and no argument can say so, since its name has {what}: "
+        "give it another name in its files, or a column that a step makes by alias"
+    )

@@ -12,10 +12,10 @@ import tempfile
 import warnings
 from typing import TYPE_CHECKING, Any, Dict, Iterator, List, NamedTuple, Optional, Sequence, Tuple, Union
 
-from ._cuts import Cut, cuts, first_of_many_rows, gives_no_row_twice, names_of_other_dates, steps_to_most_matches
+from ._cuts import Cut, cuts, first_of_many_rows, gives_no_row_twice, steps_to_most_matches
 from ._faults import FrameqError, SumRangeError, UnsupportedError, fault, renumbered
-from ._kinds import Date, Kind, Notations, Schema
-from ._notations import words_of_run
+from ._kinds import Kind, Schema
+from ._notations import declared, noted, words_of
 from ._printed import end_of_names
 from ._program import Settings, find_program, printed
 from ._results import DataFrame, read_frame
@@ -37,16 +37,14 @@ _PIECE = 1 << 20
 
 
 class Report(NamedTuple):
-    """A plan, its files in order, the calls that made its steps, its columns before each step and after the last, and how ints are written.
-
-    An int is written by the name of its column, wherever that is in the plan: what a run prints, the next one reads.
+    """A plan, its files in order, the calls that made its steps, its columns before each step and after the last, and those of each source.
     """
 
     plan: Dict[str, Any]
     files: List[str]
     calls: Sequence[str]
     schemas: Sequence[Schema]
-    notations: Notations
+    sources: Sequence[Schema]
 
 
 def collect(report: Report, executor: "Executor", settings: Settings) -> DataFrame:
@@ -91,6 +89,14 @@ class _Run(NamedTuple):
     first_step: int = 0
 
 
+class _Words(NamedTuple):
+    """The arguments that say how ints are written in each run of a cut: in a task, in what tells its fault here, and in the last run."""
+
+    of_task: List[str]
+    of_fault: List[str]
+    of_rest: List[str]
+
+
 class _Parts:
     """A report that is run in parts, and what a program said beside an answer."""
 
@@ -109,7 +115,7 @@ class _Parts:
         self._first = sum(side["files"] for side in self._sides)
         self._files = report.files[self._first :]
         self._fits_one_run = len(report.files) <= MOST_FILES
-        self._dates = frozenset(name for name, kind in report.notations.items() if kind == Date)
+        self._names = frozenset(name for columns in (*report.sources, *report.schemas) for name in columns)
 
     def check(self) -> None:
         """Raises what a run of all files says before it reads: of the plan, and of the first file that cannot be opened."""
@@ -118,30 +124,35 @@ class _Parts:
                 raise UnsupportedError(f"each task reads files, and {file!r} can be read only once: write it to a file first")
         few = min(len(self._files), max(1, MOST_FILES - self._first))
         all_of = self._plan([*self._sides, {**self._main, "files": few}], self._steps)
-        self.done(_Run(all_of, self._words(all_of, self._report.schemas[-1]), [], []), ["--explain"])
+        self.done(_Run(all_of, self._words(self._report.sources, self._steps, self._report.schemas), [], []), ["--explain"])
         for number, file in enumerate(self._report.files):
             if not _can_be_opened(file):
-                alone = self._plan([{**self._source_of(number), "files": 1}], [])
-                self.done(_Run(alone, self._words(alone), [file], [number]))
+                source = self._source_of(number)
+                alone = self._plan([{**self._report.plan["sources"][source], "files": 1}], [])
+                self.done(_Run(alone, self._words_of_source(source), [file], [number]))
 
     def last(self) -> Union[_Run, str]:
         """The run that is left when the parts are there; or the file that has their rows, if these are the result."""
-        place, result = self._place(), self._report.schemas[-1]
-        for cut in cuts(self._steps, self._report.schemas, place, self._dates):
+        refused = None
+        for cut in cuts(self._steps, self._report.schemas, self._place(), self._names):
             if self._fits_one_run and cut.then and cut.then == self._steps:
                 break
-            files = self._rows_of_parts(cut)
+            try:
+                words = self._words_of_cut(cut)
+            except UnsupportedError as error:
+                refused = error
+                continue
+            files = self._rows_of_parts(cut, words)
             if files is not None and not cut.then:
                 return files[0]
             if files is not None:
-                return self._run(cut.then, result, files, [self._first] * len(files), _source(cut.columns), cut.at)
+                return self._run(cut.then, words.of_rest, files, [self._first] * len(files), _source(cut.then_schemas[0]), cut.at)
         if self._fits_one_run:
-            return self._run(self._steps, result, self._files, range(self._first, len(self._report.files)))
-        renamed = names_of_other_dates(self._report.schemas[place], self._dates)
-        if renamed:
+            return self._whole(self._files, range(self._first, len(self._report.files)))
+        if refused is not None:
             raise UnsupportedError(
-                f"over more than {MOST_FILES} files no column that is no Date may have the name of one where the rows of files are put "
-                f"together: give {', '.join(map(repr, renamed))} another name, by alias"
+                f"over more than {MOST_FILES} files the rows of files are put together before the last steps, and there {refused}; or give "
+                "the column that is put together another name, by alias"
             )
         raise UnsupportedError(
             f"over more than {MOST_FILES} files no text may be empty and not null where the rows of files are put together: let lit and "
@@ -166,10 +177,10 @@ class _Parts:
 
     # Before the parts.
 
-    def _source_of(self, number: int) -> Dict[str, Any]:
-        """The source of the file of this number."""
+    def _source_of(self, number: int) -> int:
+        """The number of the source of the file of this number."""
         ends = itertools.accumulate(source["files"] for source in self._report.plan["sources"])
-        return next(source for source, end in zip(self._report.plan["sources"], ends) if number < end)
+        return next(source for source, end in enumerate(ends) if number < end)
 
     def _place(self) -> int:
         """The number of the step before which the plan is cut: the first that looks at more than one row.
@@ -198,21 +209,21 @@ class _Parts:
 
     def _most_matches(self, join: Dict[str, Any], right: List[str]) -> float:
         """How many rows a join gives at most for one."""
-        steps = steps_to_most_matches(join, self._report.notations)
+        steps = steps_to_most_matches(join, self._report.sources[join["source"]])
         if steps is None:
             return 1
         plan = self._plan([self._sides[join["source"]]], steps)
-        status, text, _ = printed(plan, self._words(plan), right, self._settings)
+        status, text, _ = printed(plan, self._words_of_source(join["source"]), right, self._settings)
         # (a fault of these files is told by a run that joins them)
         return max([1, *(int(line.rpartition(b",")[2]) for line in text.splitlines()[1:])]) if status == 0 else math.inf
 
     # The parts.
 
-    def _rows_of_parts(self, cut: Cut) -> Optional[List[str]]:
+    def _rows_of_parts(self, cut: Cut, words: _Words) -> Optional[List[str]]:
         """Files with the rows of all parts, in order; or none if a sum of a part is out of range, since that of all files may fit."""
         room = tempfile.mkdtemp(dir=self._room)
         rows = _Rows(room, _MOST_ROWS if cut.then else math.inf)
-        tasks = [self._task(cut, number) for number in range(len(self._files))]
+        tasks = [self._task(cut, words.of_task, number) for number in range(len(self._files))]
         runs = [(task.plan, task.words, task.files) for task in tasks]
         with contextlib.closing(run_all(self._executor, runs, self._settings, room)) as all_told:
             for number, (task, told) in enumerate(zip(tasks, all_told)):
@@ -224,37 +235,35 @@ class _Parts:
         if isinstance(self._fault(task, told), SumRangeError):
             return None
         if told.status in (_FAULT, _UNREAD):
-            self.done(self._run_to_fault(cut, number))
+            self.done(self._run_to_fault(cut, words.of_fault, number))
         # (a file is not the same here, or the task ended in another way)
         raise self._fault(task, told)
 
-    def _task(self, cut: Cut, number: int) -> _Run:
+    def _task(self, cut: Cut, words: List[str], number: int) -> _Run:
         """The steps on a main file, over it and the sources up to the last that they join, with paths that are right in any folder."""
-        sides = self._sides[: 1 + max((step["join"]["source"] for step in cut.first if "join" in step), default=-1)]
+        sides = self._sides[: _sources_joined(cut.first)]
         numbers = [*range(sum(side["files"] for side in sides)), self._first + number]
         plan = self._plan([*sides, {**self._main, "files": 1}], cut.first)
-        words = self._words(plan, cut.columns)
         return _Run(plan, words, [os.path.abspath(self._report.files[file]) for file in numbers], numbers)
 
-    def _run_to_fault(self, cut: Cut, number: int) -> _Run:
+    def _run_to_fault(self, cut: Cut, words: List[str], number: int) -> _Run:
         """The run here that tells why the part of a main file has no rows.
 
         A grouping passes on the fault that its rows end in. Other steps may have one of their own at an earlier row.
         """
         if not cut.then or "group_by" in cut.then[0]:
-            return self._run(cut.first, cut.columns, self._files[number : number + 1], [self._first + number])
+            return self._run(cut.first, words, self._files[number : number + 1], [self._first + number])
         before, file = self._files[:number], self._files[number]
         if self._first + number + 1 > MOST_FILES:
             before = self._copied(before)
-        numbers = [*range(self._first, self._first + len(before)), self._first + number]
-        return self._run(self._steps, self._report.schemas[-1], [*before, file], numbers)
+        return self._whole([*before, file], [*range(self._first, self._first + len(before)), self._first + number])
 
     def _copied(self, files: Sequence[str]) -> List[str]:
         """Fewer files with the same fields."""
         rows = _Rows(tempfile.mkdtemp(dir=self._room), _MOST_ROWS)
         plan = self._plan([{"files": 1, "columns": [[name, Kind.TEXT.value] for name, _ in self._main["columns"]]}], [])
         for number, file in enumerate(files):
-            rows.add(self.done(_Run(plan, self._words(plan), [file], [self._first + number])))
+            rows.add(self.done(_Run(plan, [], [file], [self._first + number])))
         return rows.files
 
     # Plans and files.
@@ -262,24 +271,39 @@ class _Parts:
     def _plan(self, sources: Sequence[Dict[str, Any]], steps: Sequence[Dict[str, Any]]) -> Dict[str, Any]:
         return {**self._report.plan, "sources": list(sources), "steps": list(steps)}
 
-    def _words(self, plan: Dict[str, Any], result: Optional[Schema] = None) -> List[str]:
-        """How ints are written in a run of a plan: in its sources, and in its result, if that has other columns."""
-        return words_of_run(self._report.notations, plan, result or {})
+    # How ints are written in a run follows from its own sources and steps: a column that a part makes is one of a source in the last run.
+
+    def _words(self, sources: Sequence[Schema], steps: Sequence[Dict[str, Any]], schemas: Sequence[Schema]) -> List[str]:
+        return words_of(declared(sources, steps, schemas))
+
+    def _words_of_source(self, source: int) -> List[str]:
+        return words_of(noted([self._report.sources[source]]))
+
+    def _words_of_cut(self, cut: Cut) -> _Words:
+        """Raises where a run of the cut would have a column for another kind than it is: it has other sources than a run of all steps."""
+        *sides, main = self._report.sources
+        of_task = self._words([*sides[: _sources_joined(cut.first)], main], cut.first, cut.first_schemas)
+        of_fault = self._words(self._report.sources, cut.first, cut.first_schemas)
+        return _Words(of_task, of_fault, self._words([*sides, cut.then_schemas[0]], cut.then, cut.then_schemas) if cut.then else [])
+
+    def _whole(self, files: Sequence[str], numbers: Sequence[int]) -> _Run:
+        """All steps over files of the main source."""
+        return self._run(self._steps, self._words(self._report.sources, self._steps, self._report.schemas), files, numbers)
 
     def _run(
         self,
         steps: Sequence[Dict[str, Any]],
-        result: Schema,
+        words: List[str],
         files: Sequence[str],
         numbers: Sequence[int],
         source: Optional[Dict[str, Any]] = None,
         first: int = 0,
     ) -> _Run:
-        """Steps with this result over all sources that are joined, and files of the main source, or of another."""
+        """Steps over all sources that are joined, and files of the main source, or of another."""
         if self._first + len(files) > MOST_FILES:
             raise UnsupportedError("more rows of files are put together than one run takes: filter them before that, or group them")
         plan = self._plan([*self._sides, {**(source or self._main), "files": len(files)}], steps)
-        return _Run(plan, self._words(plan, result), [*self._report.files[: self._first], *files], [*range(self._first), *numbers], first)
+        return _Run(plan, words, [*self._report.files[: self._first], *files], [*range(self._first), *numbers], first)
 
     def _files_of_side(self, side: int) -> List[str]:
         """The files of a source that is joined."""
@@ -304,6 +328,11 @@ class _Rows:
         self._lines += lines
         with open(self.files[-1], "ab") as file:
             file.write(_MARK + frame if is_new else memoryview(frame)[end_of_names(frame) :])
+
+
+def _sources_joined(steps: Sequence[Dict[str, Any]]) -> int:
+    """How many sources there are up to the last that steps join."""
+    return 1 + max((step["join"]["source"] for step in steps if "join" in step), default=-1)
 
 
 def _source(columns: Schema) -> Dict[str, Any]:

@@ -11,7 +11,7 @@ import warnings
 from typing import IO, Any, Dict, Iterator, List, Mapping, NamedTuple, NoReturn, Optional, Sequence, Tuple, Union
 
 from ._faults import ArgumentsError, PlanJsonError, ProgramNotFoundError, UnsupportedError, fault
-from ._kinds import AnyKind, Kind, Notation, Notations, Schema, is_unicode, kind_of_type, schema_of
+from ._kinds import AnyKind, ColumnKind, Declared, Kind, Schema, is_unicode, kind_of_type, schema_of
 from ._notations import words_of
 from ._progress import open_screen, run_shown
 from ._results import DataFrame, read_frame
@@ -210,7 +210,7 @@ def run_plan(
     files: Sequence[Path],
     *,
     schema: Optional[Mapping[str, AnyKind]] = None,
-    notations: Optional[Mapping[str, Notation]] = None,
+    notations: Optional[Mapping[str, ColumnKind]] = None,
     batch: Optional[int] = None,
     workers: Optional[int] = None,
     program: Optional[Path] = None,
@@ -218,8 +218,8 @@ def run_plan(
 ) -> DataFrame:
     """Runs a plan that exists, a file or its JSON object, over files. Without the schema of its result each column is a text.
 
-    `notations` says which int columns of its sources, or of its result, are a Decimal or a Date, beside those of the schema. The other
-    arguments are those of `collect`.
+    `notations` says which int columns of its sources, or which steps make, are a Decimal or a Date, and which that steps make are an Int64,
+    beside those of the schema. The other arguments are those of `collect`.
 
     Each fault of the run is a FrameqError by its name. ArgumentsError also says that the schema has other columns than the result,
     WrongKindError that a cell of the result is not of its kind, and UnsupportedError that a name is written in two ways, or that a file is
@@ -227,23 +227,30 @@ def run_plan(
     """
     names = names_of_files(files, "run_plan")
     columns = None if schema is None else schema_of(schema)
-    words = words_of(_all_notations(columns or {}, notations or {}))
+    words = words_of(_all_notations(columns or {}, notations or {}, plan))
     frame = collect(plan, words, names, columns, (), Settings(batch, workers, program, progress))
     if columns is not None:
         frame._values()  # (so a kind that is not the result's is refused by this call)
     return frame
 
 
-def _all_notations(schema: Schema, given: Mapping[str, Notation]) -> Notations:
-    """The notations that are given, and those of the columns of a result."""
+def _all_notations(schema: Schema, given: Mapping[str, ColumnKind], plan: Plan) -> Declared:
+    """The notations that are given, and those of the columns of a result. Under a source's name the result may have another."""
     if not isinstance(given, Mapping):
         raise TypeError(f"notations are a mapping of names to a Decimal or a Date, and not a {type(given).__name__}")
-    notations: Notations = {}
-    for name, kind in [*given.items(), *schema.items()]:
-        kind = kind_of_type(kind)
-        if isinstance(kind, Kind):
-            if name in given and name not in schema:
-                raise UnsupportedError(f"a notation is a Decimal or a Date, and not a {kind!r}, of {name!r}")
-        elif notations.setdefault(name, kind) != kind:
+    notations: Declared = {name: kind_of_type(kind) for name, kind in given.items()}
+    for name, kind in notations.items():
+        if kind.value != Kind.INT.value:
+            raise UnsupportedError(f"a notation is a Decimal or a Date, or an Int64 where it is digits, and not a {kind!r}, of {name!r}")
+    for name, kind in schema.items():
+        if not isinstance(kind, Kind) and notations.setdefault(name, kind) != kind and name not in _names_of_sources(plan):
             raise UnsupportedError(f"the column {name!r} is a {notations[name]!r} and a {kind!r}, and a run writes a name in one way")
     return notations
+
+
+def _names_of_sources(plan: Plan) -> List[str]:
+    """The columns of the sources of a plan, as far as it is one."""
+    try:
+        return [name for source in (_plan_object(plan) or {})["sources"] for name, _ in source["columns"]]
+    except (KeyError, TypeError, ValueError):
+        return []

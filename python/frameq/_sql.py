@@ -22,7 +22,11 @@ _ANY_VALUES = {"int": 0, "text": "", "bool": False}
 
 
 def sql(
-    plan: Dict[str, Any], dialect: str = "sqlite", tables: Optional[Sequence[Table]] = None, notations: Optional[Notations] = None
+    plan: Dict[str, Any],
+    dialect: str = "sqlite",
+    tables: Optional[Sequence[Table]] = None,
+    notations: Optional[Notations] = None,
+    of_result: Optional[Notations] = None,
 ) -> str:
     """The query whose rows, in order, are those that frameq gives for a plan.
 
@@ -35,8 +39,8 @@ def sql(
     and so on, in the order of its files and of the rows in them. It is named `row`; while a column of any source has that name, in
     whatever letter case, an underscore is added at its end. The name is the same in all tables of a plan.
 
-    `notations` has the kinds of int columns, of sources and of the result, that are decimals or dates. They are DECIMAL(19, scale) and DATE
-    in the tables and in the query's rows, and the ints of the plan within the query. SQLite has neither.
+    `notations` has the kinds of int columns of sources that are decimals or dates, and `of_result` those of the result. They are
+    DECIMAL(19, scale) and DATE in the tables and in the query's rows, and the ints of the plan within the query. SQLite has neither.
 
     The query says what frameq says only where no value leaves 64 bits. Where one does, frameq ends with a fault, and the query
     gives an error or wrong rows, as the engine has it. SQLite goes on with floats. PostgreSQL gives an error, unless no row of the answer
@@ -50,7 +54,7 @@ def sql(
     ValueError says that a dialect is not one of these, that a plan is not one that frameq accepts, or that the dialect has no way
     to say something in it. A plan is not checked in all ways: frameq does that.
     """
-    writer = _Writer(dialect_named(dialect), *sources_of(plan, tables), notations or {})
+    writer = _Writer(dialect_named(dialect), *sources_of(plan, tables), notations or {}, of_result or {})
     frame = writer.start()
     for number, step in enumerate(plan["steps"]):
         frame = writer.step(frame, f"step{number}", step)
@@ -175,10 +179,12 @@ def _is_constant(expression: Any) -> bool:
 class _Writer:
     """Writes the subqueries of one plan. In each, `frame` is the frame before, and `other` the right side of a join."""
 
-    def __init__(self, dialect: Dialect, sources: Sequence[Dict[str, Any]], tables: Sequence[Table], notations: Notations) -> None:
+    def __init__(
+        self, dialect: Dialect, sources: Sequence[Dict[str, Any]], tables: Sequence[Table], notations: Notations, of_result: Notations
+    ) -> None:
         self.dialect = dialect
         self.sources = sources
-        self.notations = notations
+        self.notations, self.notations_of_result = notations, of_result
         self.tables = [dialect.table(table) for table in tables]
         self.taken = {dialect.fold(names_of_table(table)[-1]) for table in tables}
         self.row_name = row_column(sources)
@@ -222,8 +228,8 @@ class _Writer:
     def of_result(self, column: _Column) -> str:
         """A column of the last frame, as the query gives it."""
         value = f"frame.{column.identifier}"
-        if column.kind == "int" and column.name in self.notations:
-            return self.dialect.with_notations().of_int(value, self.notations[column.name])
+        if column.kind == "int" and column.name in self.notations_of_result:
+            return self.dialect.with_notations().of_int(value, self.notations_of_result[column.name])
         return value
 
     # -- subqueries

@@ -6,7 +6,7 @@ from typing import Any, Dict, List, Optional, Sequence, Union
 
 from ._dialects import Dialect, Table, dialect_named, quoted_text
 from ._kinds import Notations
-from ._notations import words_of_run
+from ._notations import words_of
 from ._program import word_of_file
 from ._sql import row_column, sources_of
 
@@ -83,5 +83,6 @@ def _printed(source: Dict[str, Any], file: str, program: str, notations: Notatio
     if file == "-":
         raise ValueError("the script reads no standard input: name a file")
     plan = {"version": 2, "sources": [{**source, "files": 1}], "steps": []}
-    words = " ".join(map(shlex.quote, [program, "--details", *words_of_run(notations, plan, {}), "--plan", "-", word_of_file(file)]))
+    of_source = {name: notations[name] for name, kind in source["columns"] if kind == "int" and name in notations}
+    words = " ".join(map(shlex.quote, [program, "--details", *words_of(of_source), "--plan", "-", word_of_file(file)]))
     return f"export LC_ALL=C; (printf %s {shlex.quote(json.dumps(plan))} | {words} || echo {',' * len(source['columns'])}) | {_FILTERS}"

@@ -196,6 +196,21 @@ FRAMES = {
         .group_by("user")
         .agg(fq.len().alias("events"), C("day").min().alias("first_day"), C("day").max().alias("last_day"))
     ),
+    "cookbook/amounts": lambda *f: (
+        scan(f, {"item": TEXT, "price": AMOUNT, "units": INT, "rate": AMOUNT})
+        .with_columns(total=C("price") * C("units"))
+        .with_columns(exact=C("total") * C("rate"))
+        .with_columns(tax=(C("exact") + decimal.Decimal("0.005")).quotient(1, 2))
+        .select("item", "total", "exact", "tax")
+    ),
+    "cookbook/monthly_vat": lambda *f: (
+        scan(f, {"day": DATE, "item": TEXT, "price": AMOUNT, "units": INT, "rate": INT})
+        .with_columns(month=C("day") // 100, net=C("price") * C("units"))
+        .with_columns(vat=(C("net") * C("rate") + decimal.Decimal("0.50")).quotient(100, 2))
+        .group_by("month", "rate")
+        .agg(C("net").sum(), C("vat").sum())
+        .with_columns(gross=C("net") + C("vat"))
+    ),
     "cookbook/distinct": lambda *f: scan(f, {"region": TEXT, "product": TEXT, "units": INT}).group_by("region", "product").agg(),
     "cookbook/mean": lambda *f: (
         scan(f, {"region": TEXT, "cents": INT})
@@ -289,10 +304,8 @@ FRAMES = {
     ),
 }
 
-# Examples whose plan the package does not write: a quotient as a decimal, a filter by a text, which it refuses at once, no run, and faults
-# by another option.
+# Examples whose plan the package does not write: a filter by a text, which it refuses at once, no run, and faults by another option.
 OTHERS = {
-    "cookbook/amounts",
     "export_cleaning/3_condition",
     "export_cleaning/check",
     "export_cleaning/draft",
@@ -339,14 +352,18 @@ class Examples(unittest.TestCase):
                 self.assertEqual(self.frame(name).plan(), json.loads(read(name, "plan.json")))
 
     def test_notations(self):
-        """The decimals and the dates of each are those of its command."""
+        """The decimals and the dates of each are those of its command, which says less of what steps make."""
         for name in FRAMES:
             options, _ = words_of(name)
             with self.subTest(name):
                 notations = self.frame(name).notations()
-                decimals = {f"{column}={kind.scale}" for column, kind in notations.items() if kind != DATE}
-                self.assertEqual(decimals, {*options["--decimal"]})
-                self.assertEqual({column for column, kind in notations.items() if kind == DATE}, {*options["--date"]})
+                dates = {column for column, kind in notations.items() if kind == DATE}
+                decimals = {column: f"{column}={getattr(kind, 'scale', 0)}" for column, kind in notations.items() if kind != DATE}
+                self.assertEqual({*options["--decimal"]} - {*decimals.values()}, set())
+                self.assertEqual({*options["--date"]} - dates, set())
+                of_sources = {column for source in self.frame(name).plan()["sources"] for column, _ in source["columns"]}
+                said = {*options["--date"], *(entry.rpartition("=")[0] for entry in options["--decimal"])}
+                self.assertEqual(({*decimals} | dates) & of_sources - said, set())
 
     def test_values(self):
         """Amounts and days are values of Python."""

@@ -2,6 +2,7 @@
 import contextlib
 import copy
 import datetime
+import decimal
 import itertools
 import os
 import pickle
@@ -14,6 +15,7 @@ from unittest import mock
 from repository import fq, pandas, program
 
 from frameq._cuts import cuts
+from frameq._faults import fault
 from frameq._kinds import int_at, value_of_int
 from frameq._results import read_frame
 
@@ -66,36 +68,64 @@ class Expressions(unittest.TestCase):
     """Expressions as the plan language writes them, and their kinds."""
 
     def judged(self, expr):
-        lazy = frame().select(x=expr)
-        return steps(lazy)[0]["select"][0][1], lazy.collect_schema()["x"]
+        *before, last = steps(frame().select(x=expr))
+        written = last["select"][0][1]
+        return (written, *(step["with_columns"] for step in before)), frame().select(x=expr).collect_schema()["x"]
 
     def test_arithmetic(self):
         a, b, r, d, n = map(C, "abrdn")
+        cents, of_n, of_a = ["mul", A, 100], ["mul", N, 100], ["mul", A, 10]
         for expr, plan, kind in [
             (a + b, ["add", A, {"col": "b"}], D2),
+            (a + r, ["add", cents, R], D4),
+            (r - a, ["sub", R, cents], D4),
+            (a + n, ["add", A, of_n], D2),
             (a + Decimal("1.5"), ["add", A, 150], D2),
+            (a + Decimal("1.005"), ["add", of_a, 1005], fq.Decimal(scale=3)),
+            (n - Decimal("1.5"), ["sub", ["mul", N, 10], 15], fq.Decimal(scale=1)),
+            (n + Decimal("3.0"), ["add", N, 3], INT),
             (1 - a, ["sub", 100, A], D2),
             (Decimal("0.1000") + a, ["add", 10, A], D2),
+            (a + fq.lit(1, dtype=D4), ["add", cents, 10000], D4),
             (-a, ["neg", A], D2),
             (a * r, ["mul", A, R], fq.Decimal(scale=6)),
             (a * 3, ["mul", A, 3], D2),
             (n * a, ["mul", N, A], D2),
-            (a * Decimal("1.19"), ["mul", A, 119], D4),
-            (a * Decimal("1.50"), ["mul", A, 150], D4),
+            (a * Decimal("10.00"), ["mul", A, 1000], D4),
             (a * Decimal("7"), ["mul", A, 7], D2),
-            (n * Decimal("1.00"), ["mul", N, 100], D2),
+            (n * Decimal("1.00"), of_n, D2),
             (n + Decimal("3"), ["add", N, 3], INT),
-            (r + a * Decimal("1.00"), ["add", R, ["mul", A, 100]], D4),
-            (a // 100, ["floordiv", A, 100], INT),
-            (a % n, ["mod", A, N], INT),
+            (r + a * Decimal("1.00"), ["add", R, cents], D4),
+            (a // 100, ["floordiv", A, 10000], INT),
+            (a // Decimal("2.0"), ["floordiv", A, 200], INT),
+            (a // n, ["floordiv", A, of_n], INT),
+            (a // b, ["floordiv", A, {"col": "b"}], INT),
+            (r // a, ["floordiv", R, cents], INT),
+            (a // r, ["floordiv", cents, R], INT),
+            (n // a, ["floordiv", of_n, A], INT),
+            (n // 7, ["floordiv", N, 7], INT),
+            (a % n, ["mod", A, of_n], D2),
+            (a % r, ["mod", cents, R], D4),
+            (a % 1, ["mod", A, 100], D2),
+            (7 % a, ["mod", 700, A], D2),
+            (a % Decimal("0.125"), ["mod", of_a, 125], fq.Decimal(scale=3)),
+            (a.quotient(n, 2), ["floordiv", A, N], D2),
+            (a.quotient(b, 4), ["floordiv", ["mul", A, 10000], {"col": "b"}], D4),
+            ((a * 19).quotient(100, 2), ["floordiv", ["mul", A, 19], 100], D2),
+            (n.quotient(7, 2), ["floordiv", of_n, 7], D2),
+            (r.quotient(1, 2), ["floordiv", R, 100], D2),
+            (a.quotient(n, 0), ["floordiv", A, of_n], INT),
             (d // 100, ["floordiv", D, 100], INT),
             (d % 100, ["mod", D, 100], INT),
+            (d // n, ["floordiv", D, N], INT),
             (d.dt.year(), ["floordiv", D, 10000], INT),
             (d.dt.month(), ["mod", ["floordiv", D, 100], 100], INT),
             (d.dt.day() + 1, ["add", ["mod", D, 100], 1], INT),
             (a.fill_null(0), ["fill_null", A, 0], D2),
             (a.fill_null(Decimal("-0.5")), ["fill_null", A, -50], D2),
+            (a.fill_null(Decimal("0.001")), ["fill_null", of_a, 1], fq.Decimal(scale=3)),
             (a.fill_null(b), ["fill_null", A, {"col": "b"}], D2),
+            (n.fill_null(a), ["fill_null", of_n, A], D2),
             (d.fill_null(DAY), ["fill_null", D, 20240305], DATE),
             (fq.lit(Decimal("1.50")), 150, D2),
             (fq.lit(Decimal("1.5"), dtype=D2), 150, D2),
@@ -104,14 +134,68 @@ class Expressions(unittest.TestCase):
             (fq.lit(DAY), 20240305, DATE),
             (fq.lit(None, dtype=D2), {"null": "int"}, D2),
             (fq.lit(None, dtype=DATE), {"null": "int"}, DATE),
+            (fq.lit(None, dtype=INT) + a, ["add", {"null": "int"}, A], D2),
             (fq.lit(1) + Decimal("1.5"), ["add", 10, 15], fq.Decimal(scale=1)),
+            (fq.lit(7) // Decimal("1.5"), ["floordiv", 70, 15], INT),
         ]:
             with self.subTest(expr):
-                self.assertEqual(self.judged(expr), (plan, kind))
+                self.assertEqual(self.judged(expr), ((plan,), kind))
+
+    def test_constants(self):
+        """A number that the program would read as another one in a product or a quotient, and a day without eight digits, is a column."""
+        a, d, n = map(C, "adn")
+        own, cents, early = {"col": "_0"}, lambda number: [["_0", number]], datetime.date(1, 1, 1)
+        for expr, plan, constant, kind in [
+            (a * Decimal("1.19"), ["mul", A, own], 119, D4),
+            (Decimal("1.50") * a, ["mul", own, A], 150, D4),
+            (n * Decimal("0.01"), ["mul", N, own], 1, D2),
+            (a * (fq.lit(1) + Decimal("0.5")), ["mul", A, own], ["add", 10, 5], fq.Decimal(scale=3)),
+            (a * fq.lit(None, dtype=D2), ["mul", A, own], {"null": "int"}, D4),
+            (a // Decimal("0.5"), ["floordiv", A, own], 50, INT),
+            (a // 0, ["floordiv", A, own], 0, INT),
+            (7 // a, ["floordiv", own, A], 700, INT),
+            (fq.lit(1).quotient(a, 2), ["floordiv", 10000, A], None, D2),
+            (fq.lit(2).quotient(a, 2), ["floordiv", own, A], 20000, D2),
+            (d >= early, ["ge", D, own], 10101, BOOL),
+            (d == 0, ["eq", D, own], 0, BOOL),
+            (d.fill_null(early), ["fill_null", D, own], 10101, DATE),
+            (d // (fq.lit(2) * 50), ["floordiv", D, own], ["mul", 2, 50], INT),
+        ]:
+            with self.subTest(expr):
+                self.assertEqual(self.judged(expr), ((plan, *([] if constant is None else [cents(constant)])), kind))
+
+    def test_columns_of_constants(self):
+        """They stand before the step that reads them, have names that nothing else in the plan has, and do not stay."""
+        rate, right = Decimal("1.19"), fq.scan_csv("right.csv", schema={"n": INT, "_0": INT})
+        names = [[name, {"col": name}] for name in ("a", "n")]
+        plain = frame(a=D2, n=INT)
+        self.assertEqual(
+            steps(plain.filter(C("a") * rate > 5)),
+            [{"with_columns": [["_0", 119]]}, {"filter": ["gt", ["mul", A, {"col": "_0"}], 50000]}, {"select": names}],
+        )
+        twice = plain.join(right, on="n", how="semi").with_columns(x=C("a") * rate, y=C("n") * rate, _1=C("a")).drop("x", "y", "_1")
+        twice = twice.with_columns(a=C("a") * rate)
+        self.assertEqual(steps(twice)[1], {"with_columns": [["_2", 119]]})
+        self.assertEqual(steps(twice)[6]["with_columns"], [["a", ["mul", A, {"col": "_3"}]]])
+        self.assertEqual(
+            steps(plain.group_by(k=C("a") * rate).agg(x=(C("a") * rate).sum() * Decimal("0.5"))),
+            [
+                {"with_columns": [["_0", 119]]},
+                {"with_columns": [["k", ["mul", A, {"col": "_0"}]]]},
+                {"with_columns": [["_1", 119]]},
+                {"with_columns": [["_2", ["mul", A, {"col": "_1"}]]]},
+                {"group_by": {"keys": ["k"], "aggs": [["_3", "sum", "_2"]]}},
+                {"with_columns": [["_4", 5]]},
+                {"select": [["k", {"col": "k"}], ["x", ["mul", {"col": "_3"}, {"col": "_4"}]]]},
+            ],
+        )
+        rolled = plain.with_columns(s=(C("a") * rate).rolling_sum(2))
+        self.assertEqual([*steps(rolled)[0]], ["with_columns"])
+        self.assertEqual(list(rolled.collect_schema().items()), [("a", D2), ("n", INT), ("s", D4)])
 
     def test_comparisons(self):
         """A bound that is no value of the column is the next one below it, and one past all values is never, or always, passed."""
-        a, d, n = map(C, "adn")
+        a, d, n, r = map(C, "adnr")
         for expr, plan in [
             (a > 1, ["gt", A, 100]),
             (a == Decimal("1.50"), ["eq", A, 150]),
@@ -138,26 +222,33 @@ class Expressions(unittest.TestCase):
             (d.is_between(DAY, "e", closed="left"), ["and", ["ge", D, 20240305], ["lt", D, {"col": "e"}]]),
             (d == 20240305, ["eq", D, 20240305]),
             (fq.lit(Decimal("1.0")) == 1, True),
+            (a > r, ["gt", ["mul", A, 100], R]),
+            (n == a, ["eq", ["mul", N, 100], A]),
+            (a.eq_missing(r), ["eq_missing", ["mul", A, 100], R]),
         ]:
             with self.subTest(expr):
-                self.assertEqual(self.judged(expr), (plan, BOOL))
+                self.assertEqual(self.judged(expr), ((plan,), BOOL))
         self.assertEqual(steps(frame().filter(C("a") > Decimal("1.005"), d=DAY))[0]["filter"], ["and", ["gt", A, 100], ["eq", D, 20240305]])
 
     def test_refused(self):
         """What has no meaning, and what would not be exact, with what to do instead."""
-        a, r, d, e, n, t = map(C, "ardent")
+        a, b, r, d, e, n, t = map(C, "abrdent")
         for expr, words in [
-            (lambda: a + r, "a Decimal(scale=2) times Decimal('1.00') is a Decimal(scale=4)"),
-            (lambda: a > r, "a Decimal(scale=2) times Decimal('1.00') is a Decimal(scale=4)"),
-            (lambda: a + n, "a Int64 times Decimal('1.00') is a Decimal(scale=2)"),
-            (lambda: n == a, "a Int64 times Decimal('1.00') is a Decimal(scale=2)"),
-            (lambda: n + Decimal("1.5"), "a Int64 times Decimal('1.0') is a Decimal(scale=1)"),
-            (lambda: a + Decimal("1.005"), "Decimal('1.005') is no Decimal(scale=2): it has more than 2 places"),
-            (lambda: a + MOST, "does not fit 64 bits"),
-            (lambda: a.fill_null(Decimal("0.001")), "more than 2 places"),
-            (lambda: a // Decimal("0.5"), "// and % are by an Int64, and not by a Decimal(scale=1)"),
-            (lambda: n % a, "// and % are by an Int64"),
-            (lambda: 1 // d, "// and % are by an Int64"),
+            (lambda: a + MOST, "is no Decimal(scale=2) here: the int that it is does not fit 64 bits"),
+            (lambda: a + Decimal("1e-19"), "the scale of a Decimal is 1 to 18"),
+            (lambda: a // MOST, "does not fit 64 bits"),
+            (lambda: r + fq.lit(MOST // 100, dtype=D2), "does not fit 64 bits"),
+            (lambda: a.quotient(r, 15), "the dividend has the places of the divisor and of the quotient, and 19 are too many"),
+            (lambda: a.quotient(b, 19), "the scale of a quotient is 0 to 18, and not 19"),
+            (lambda: a.quotient(b, True), "the scale of a quotient"),
+            (lambda: d.quotient(100, 0), "a quotient is of two numbers"),
+            (lambda: a.quotient(t, 2), "a quotient is of two numbers"),
+            (lambda: a / b, "quotient(other, 2) keeps two places"),
+            (lambda: a // t, "String"),
+            (lambda: a % t, "String"),
+            (lambda: 1 // d, "// and % by an Int64"),
+            (lambda: d // a, "// and % by an Int64"),
+            (lambda: d % Decimal("0.5"), "// and % by an Int64"),
             (lambda: (r * r * r * r) * (r * a), "22 are more than 18"),
             (lambda: a * t, "String"),
             (lambda: a == "1.50", "String"),
@@ -193,7 +284,7 @@ class Expressions(unittest.TestCase):
     def test_types_of_refusals(self):
         """A kind that does not fit is a TypeError, as with other kinds."""
         with self.assertRaises(TypeError):
-            frame().select(x=C("a") + C("r"))
+            frame().select(x=C("a") + C("t"))
         with self.assertRaises(TypeError):
             frame().group_by("t").agg(C("d").sum())
 
@@ -201,6 +292,7 @@ class Expressions(unittest.TestCase):
         """What is shown of literals, and the name of one."""
         self.assertEqual(repr(C("a") > Decimal("1.005")), "gt(col('a'), lit(Decimal('1.005')))")
         self.assertEqual(repr(C("d").dt.year() == 2024), "eq(col('d').dt.year(), lit(2024))")
+        self.assertEqual(repr(C("a").quotient(fq.len(), 2)), "col('a').quotient(len(), 2)")
         self.assertEqual(repr(fq.lit(DAY)), "lit(datetime.date(2024, 3, 5))")
         self.assertEqual(repr(fq.lit(3, dtype=D2)), "lit(Decimal('3.00'))")
         self.assertEqual(list(frame().select(Decimal("1.5")).collect_schema().items()), [("literal", fq.Decimal(scale=1))])
@@ -213,7 +305,7 @@ class Steps(unittest.TestCase):
         """Sums, ends, and the least and greatest keep a scale and a date; numbers of rows are ints."""
         functions = ("min", "max", "first", "last", "count", "n_unique")
         aggs = {f"{name} {column}": getattr(C(column), name)() for column in "ad" for name in functions}
-        after = frame().group_by(month=C("d") // 100).agg(C("a").sum(), fq.len(), mean=C("a").sum() // fq.len() * Decimal("0.01"), **aggs)
+        after = frame().group_by(month=C("d") // 100).agg(C("a").sum(), fq.len(), mean=C("a").sum().quotient(fq.len(), 2), **aggs)
         kinds = after.collect_schema()
         self.assertEqual([kinds[name] for name in ("month", "a", "len", "mean")], [INT, D2, INT, D2])
         for name in aggs:
@@ -260,12 +352,12 @@ class Arguments(unittest.TestCase):
             return file.read().splitlines()[2:]
 
     def test_words(self):
-        """Each call that runs the program says which columns are decimals and dates: those of sources, and of the result."""
+        """Each call that runs the program says which columns are decimals and dates: those of sources, and those that steps make."""
         right = fq.scan_csv("right.csv", schema={"k": INT, "until": DATE})
         lazy = fq.scan_csv("main.csv", schema={"k": INT, "a": D2, "d": DATE, "t": TEXT}).join(right, on="k").select(
-            total=C("a") * Decimal("1.5"), first="until", n="k"
+            total=C("a") * Decimal("1.5"), first="until", n="k", whole=C("a") // 100
         )
-        noted = ["--decimal=a=2,total=3", "--date=until,d,first"]
+        noted = ["--decimal=a=2,_0=1,total=3,whole=0", "--date=until,d,first"]
         files = ["right.csv", "main.csv"]
         for call, words in [
             (lambda: lazy.collect(program=self.program), ["--details", *noted, *files]),
@@ -276,7 +368,7 @@ class Arguments(unittest.TestCase):
             (lambda: lazy.sink_csv("x", program=self.program), ["--details", "--output", os.path.abspath("x"), *noted, *files]),
         ]:
             with self.subTest(words):
-                self.assertEqual(self.words(call, "total,first,n\n"), words)
+                self.assertEqual(self.words(call, "total,first,n,whole\n"), words)
 
     def test_words_of_plans(self):
         """A plan that exists has the notations that are given, and those of the schema of its result."""
@@ -291,7 +383,9 @@ class Arguments(unittest.TestCase):
                 run = lambda given=given: fq.run_plan(lazy.plan(), lazy.files(), program=self.program, **given)
                 said = self.words(run, "total,n\n1.50,202403\n")
                 self.assertEqual(said, ["--details", *words, "main.csv"])
-        for given in [{"notations": {"a": INT}}, {"notations": {"total": D4}, "schema": {"total": D2, "n": INT}}]:
+        given = {"notations": {"a": D2, "n": INT}, "schema": {"a": D4}}
+        self.assertEqual(self.words(lambda: fq.run_plan(lazy.plan(), lazy.files(), program=self.program, **given))[1], "--decimal=a=2,n=0")
+        for given in [{"notations": {"a": TEXT}}, {"notations": {"total": D4}, "schema": {"total": D2, "n": INT}}]:
             with self.subTest(given), self.assertRaises(fq.UnsupportedError):
                 fq.run_plan(lazy.plan(), lazy.files(), program=self.program, **given)
 
@@ -323,13 +417,61 @@ class Arguments(unittest.TestCase):
                 with self.subTest((name, kind)), self.assertRaisesRegex(fq.UnsupportedError, said):
                     call(lazy)
 
-    def test_two_notations(self):
-        """A name that would be written in two ways is refused where the run is asked for, and not before."""
+    def test_told(self):
+        """What a run is told of what steps make: a scale or a date, digits where it could be read otherwise, and not that of counts."""
+        a, b, d, n = map(C, "abdn")
+        for lazy, told in [
+            (frame().select(x=a * b, y=d, z=a), {"x": D4, "y": DATE, "z": D2}),
+            (frame().select(x=a // 100, y=a // b, z=a // 7), {"x": INT, "z": INT}),
+            (frame().select(x=n * 100, y=d // 100, z=n // 100 % 10), {}),
+            (frame().select(x=n * Decimal("1.00"), y=fq.lit(Decimal("1.5"))), {"x": D2, "y": fq.Decimal(scale=1)}),
+            (frame().group_by("t").agg(fq.len(), x=a.sum(), y=a.count(), z=d.max()), {"x": D2, "z": DATE}),
+            (frame().group_by("t").agg(x=a.sum() // fq.len()), {"_0": D2, "x": INT}),
+            (frame().with_columns(s=a.rolling_sum(2)), {"s": D2}),
+            (frame().with_columns(x=a).with_columns(x=C("x") * a).with_columns(x=C("x") // 100), {"x": INT}),
+            (frame().with_columns(x=a).with_columns(x=n), {}),
+            (frame().with_columns(x=n).with_columns(x=a), {"x": D2}),
+            (frame().with_columns(x=fq.lit(0)).with_columns(x=a), {}),
+            (frame().with_columns(x=d % 100).select(**{"x,y": a * b, "z,": d}), {}),
+            (frame().join(fq.scan_csv("right.csv", schema={"n": INT, "a": D2, "d": DATE}), on="n"), {"a_right": D2, "d_right": DATE}),
+        ]:
+            with self.subTest(steps(lazy)):
+                notations = lazy.notations()
+                self.assertEqual({name: kind for name, kind in notations.items() if name not in COLUMNS}, told)
+                self.assertEqual({name: kind for name, kind in notations.items() if name in COLUMNS}, frame().notations())
+
+    def test_names_of_sources(self):
+        """What a step makes under a source's name is what follows for it, and is not told."""
+        a, r, d, n = map(C, "ardn")
+        for lazy in [
+            frame().with_columns(a=a * r),
+            frame().with_columns(a=(a * 119).quotient(100, 2)),
+            frame().with_columns(a=d, r=a, n=a, d=r),
+            frame().with_columns(n=n * 100, d=d % 100),
+            frame().with_columns(a=fq.lit(Decimal("0.00")), r=fq.lit(None, dtype=D4), d=fq.lit(DAY), n=fq.lit(5)),
+            frame().group_by("t").agg(a=fq.len(), r=a.sum(), d=n.max(), n=d.max()),
+            frame().group_by("t").agg(a=fq.len()).filter(a.rolling_sum(2) > 1),
+            frame().rename({"a": "r", "r": "a"}),
+            frame().with_columns(a=fq.lit("x"), d=fq.lit(True)),
+        ]:
+            with self.subTest(steps(lazy)):
+                self.assertEqual(lazy.notations(), frame().notations())
+
+    def test_refused_under_names(self):
+        """What a run would have for another kind under its name is refused where the run is asked for, and not before."""
+        a, b, d, n = map(C, "abdn")
         plain = fq.scan_csv("right.csv", schema={"n": INT, "a": INT})
         for lazy, words in [
-            (frame().with_columns(a=C("a") * C("r")), "'a' is a Decimal(scale=2) in source 0 and a Decimal(scale=6) in the result"),
-            (frame().select(d=C("d") // 100), "another name, by alias"),
-            (frame().select(n="a"), "'n' is a Int64 in source 0 and a Decimal(scale=2) in the result"),
+            (frame().select(a=a // 100), "'a' is a Decimal(scale=2) in a source, and a step makes it a Int64"),
+            (frame().select(a=n), "another name, by alias or rename"),
+            (frame().select(a=a.quotient(b, 4)), "a step makes it a Decimal(scale=4)"),
+            (frame().select(d=d // 100), "'d' is a Date in a source, and a step makes it a Int64"),
+            (frame().select(a=fq.lit(5)), "a step makes it a Int64"),
+            (frame().select(n=n * Decimal("1.00")), "a step makes it a Decimal(scale=2)"),
+            (frame().select(x=a * Decimal("1.00")).select(x=C("x") * C("x")), "'x' a Decimal(scale=4) and then a Decimal(scale=8)"),
+            (frame().with_columns(x=a * Decimal("1.19")).with_columns(_0=n), "'_0' a Decimal(scale=2) and then a Int64"),
+            (frame().select("n", x=fq.lit(Decimal("1.5"))).select(x="n"), "'x' a Decimal(scale=1) and then a Int64"),
+            (frame().select(**{"x,y": a // 100}), "'x,y' is a Int64, and no argument can say so, since its name has a comma"),
             (frame().join(plain, on="n", how="semi"), "give both the same kind"),
         ]:
             with self.subTest(words):
@@ -339,8 +481,6 @@ class Arguments(unittest.TestCase):
                     with self.assertRaises(fq.UnsupportedError) as raised:
                         getattr(lazy, name)(*given)
                     self.assertIn(words, str(raised.exception))
-        frame().with_columns(a=C("a") * C("r")).select(product="a").notations()
-        frame().with_columns(a=fq.lit("x"), d=fq.lit(True)).notations()
 
 
 class Results(unittest.TestCase):
@@ -528,8 +668,14 @@ class Runs(unittest.TestCase):
             (lazy.group_by(C("_0").dt.day().alias("y")).agg(C("a").max(), d=C("d").last()),
              "y,a,d\n1,1.50,2024-03-05\n,2.00,2024-03-06\n2,0.01,2023-01-01\n"),
             (lazy.with_columns(a=C("a") * C("a")).group_by("k").agg(s=C("a").sum()), "k,s\n1,2.2501\n2,4.0000\n"),
-            (lazy.with_columns(d=C("d") // 100).group_by("d").agg(s=C("a").sum()).select(month="d", s="s"),
-             "month,s\n202403,3.50\n202301,0.01\n"),
+            (lazy.group_by(month=C("d") // 100).agg(s=C("a").sum()), "month,s\n202403,3.50\n202301,0.01\n"),
+            (lazy.with_columns(d=C("d") % 100).group_by("d").agg(a=fq.len()), "d,a\n5,1\n6,1\n1,1\n"),
+            (lazy.group_by("k").agg(n=C("a").count(), m=C("a").sum().quotient(fq.len(), 3)), "k,n,m\n1,2,0.755\n2,1,2.000\n"),
+            (lazy.with_columns(x=C("a") * Decimal("0.5")).with_columns(C("x") // 1).with_columns(s=C("x").rolling_sum(2)).select("x", "s"),
+             "x,s\n0,\n1,1\n0,1\n"),
+            (lazy.with_columns(price=C("a") * C("a"), s=C("a").rolling_sum(2)).join(rights, on="k")
+             .select("k", "price", "s", "price_right"),
+             "k,price,s,price_right\n1,2.2500,,0.50\n2,4.0000,3.50,1.50\n2,4.0000,3.50,2.50\n1,0.0001,2.01,0.50\n"),
             (lazy.with_columns(s=C("a").rolling_sum(2)).select("s", "d"), "s,d\n,2024-03-05\n3.50,2024-03-06\n2.01,2023-01-01\n"),
             (lazy.join(rights, on="k").group_by("most").agg(total=(C("a") * C("price")).sum()),
              "most,total\n0.01,0.7550\n0.02,3.0000\n3.00,5.0000\n"),
@@ -540,27 +686,160 @@ class Runs(unittest.TestCase):
                     self.assertEqual(self.same(after), text)
 
     def test_names_of_parts(self):
-        """The groups of parts have no name of a date for what is none."""
+        """The groups of parts have names that nothing else has."""
         lazy = self.scan("_0,k\n", _0=DATE, k=INT).group_by("k").agg(fq.len(), first=C("_0").min())
-        cut = next(cuts(steps(lazy), [{"_0": DATE, "k": INT}, lazy.collect_schema()], 0, {"_0"}))
-        self.assertEqual(cut.columns, {"k": INT, "_1": INT, "_2": DATE})
+        cut = next(cuts(steps(lazy), [{"_0": DATE, "k": INT}, lazy.collect_schema()], 0, {"_0", "k"}))
+        self.assertEqual(cut.then_schemas[0], {"k": INT, "_1": INT, "_2": DATE})
 
     def test_many_files(self):
-        """More files than one run takes: a column that has the name of a date, and is none, is refused where it would come back."""
+        """More files than one run takes: a column that the last run would read in two ways is refused where it would come back."""
         lazy = self.scan(*["d,a\n2024-03-05,1.50\n"] * 20, d=DATE, a=D2)
+        right = self.scan("d,x\n2024-03-05,7.5\n", name="right", d=DATE, x=fq.Decimal(scale=1))
         with ThreadPoolExecutor(2) as executor:
             result = lazy.group_by("d").agg(C("a").sum()).collect(program=self.program, executor=executor)
             self.assertEqual(result.rows(), [(DAY, Decimal("30.00"))])
-            other = lazy.with_columns(d=C("d") // 100).group_by("d").agg(s=C("a").sum()).select("s")
-            with self.assertRaisesRegex(fq.UnsupportedError, "'d' another name"):
+            other = lazy.with_columns(x=C("a") * C("a")).group_by("x").agg(fq.len(), C("d").max()).join(right, on="d")
+            with self.assertRaisesRegex(fq.UnsupportedError, "more than 16 files .* 'x' is .* in source 0 and .* in source 1.* by alias"):
                 other.collect(program=self.program, executor=executor)
+            again = lazy.select("d", y=C("a") * C("a")).group_by("y").agg(fq.len(), C("d").max()).join(right, on="d")
+            self.assertEqual(again.collect(program=self.program, executor=executor).write_csv(), "y,len,d,x\n2.2500,20,2024-03-05,7.5\n")
+
+
+def floor(left, right, scale=0):
+    """The quotient of two numbers by Python's decimals, rounded down to so many places."""
+    exact = decimal.Context(prec=80).divide(Decimal(left), Decimal(right))
+    return exact.quantize(Decimal(1).scaleb(-scale), decimal.ROUND_FLOOR)
+
+
+def rest(left, right):
+    return left - right * floor(left, right)
+
+
+def by_python(call, row):
+    """What a function of Python's numbers gives of a row: null where it meets one, and of a quotient by 0."""
+    try:
+        return call(*row)
+    except (TypeError, ZeroDivisionError, decimal.InvalidOperation):
+        return None
+
+
+class Values(unittest.TestCase):
+    """What expressions give, row by row, beside Python's own decimals."""
+
+    ROWS = [
+        ("12.50", "4.00", "0.0190", 3), ("-12.50", "4.00", "-3.0001", -7), ("0.00", "0.00", "0.0000", 0), (None, "1.00", None, 2),
+        ("99999.99", "-0.03", "1.9999", None), ("-0.01", None, "100.0000", 100), ("1250.00", "12.50", "0.5000", 1),
+        ("-100.00", "0.50", "7.0000", -1),
+    ]
+    # Each expression, how many places it has, and what Python makes of it.
+    TABLE = [
+        (C("a") // 100, 0, lambda a, b, r, n: floor(a, 100)),
+        (C("a") % 100, 2, lambda a, b, r, n: rest(a, 100)),
+        (C("a") // 1, 0, lambda a, b, r, n: floor(a, 1)),
+        (C("a") % 1, 2, lambda a, b, r, n: rest(a, 1)),
+        (C("a") // -7, 0, lambda a, b, r, n: floor(a, -7)),
+        (C("a") % -7, 2, lambda a, b, r, n: rest(a, -7)),
+        (C("a") // 0, 0, lambda a, b, r, n: None),
+        (C("a") % 0, 2, lambda a, b, r, n: None),
+        (C("a") // C("n"), 0, lambda a, b, r, n: floor(a, n)),
+        (C("a") % C("n"), 2, lambda a, b, r, n: rest(a, n)),
+        (C("n") // C("a"), 0, lambda a, b, r, n: floor(n, a)),
+        (C("n") % C("b"), 2, lambda a, b, r, n: rest(n, b)),
+        (C("a") // C("b"), 0, lambda a, b, r, n: floor(a, b)),
+        (C("r") // C("a"), 0, lambda a, b, r, n: floor(r, a)),
+        (C("a") % C("r"), 4, lambda a, b, r, n: rest(a, r)),
+        (C("a") // Decimal("0.003"), 0, lambda a, b, r, n: floor(a, Decimal("0.003"))),
+        (C("a") % Decimal("0.003"), 3, lambda a, b, r, n: rest(a, Decimal("0.003"))),
+        (100 // C("r"), 0, lambda a, b, r, n: floor(100, r)),
+        (7 % C("b"), 2, lambda a, b, r, n: rest(7, b)),
+        (C("a") + C("r"), 4, lambda a, b, r, n: a + r),
+        (C("n") - C("a"), 2, lambda a, b, r, n: n - a),
+        (C("a") + Decimal("0.005"), 3, lambda a, b, r, n: a + Decimal("0.005")),
+        (C("n") - Decimal("1.5"), 1, lambda a, b, r, n: n - Decimal("1.5")),
+        (C("a").fill_null(C("n")), 2, lambda a, b, r, n: n if a is None else a),
+        (C("n").fill_null(C("r")), 4, lambda a, b, r, n: r if n is None else n),
+        (C("a").fill_null(Decimal("0.125")), 3, lambda a, b, r, n: Decimal("0.125") if a is None else a),
+        (C("a") * C("r"), 6, lambda a, b, r, n: a * r),
+        (C("a") * Decimal("1.19"), 4, lambda a, b, r, n: a * Decimal("1.19")),
+        (C("n") * Decimal("0.01"), 2, lambda a, b, r, n: n * Decimal("0.01")),
+        ((C("a") * 19).quotient(100, 2), 2, lambda a, b, r, n: floor(a * 19, 100, 2)),
+        (C("a").quotient(C("b"), 4), 4, lambda a, b, r, n: floor(a, b, 4)),
+        (C("n").quotient(7, 3), 3, lambda a, b, r, n: floor(n, 7, 3)),
+        (C("r").quotient(1, 2), 2, lambda a, b, r, n: floor(r, 1, 2)),
+        (C("a").quotient(Decimal("0.3"), 1), 1, lambda a, b, r, n: floor(a, Decimal("0.3"), 1)),
+        (fq.lit(1).quotient(C("b"), 5), 5, lambda a, b, r, n: floor(1, b, 5)),
+        ((C("a") + C("n")).quotient(C("b") - C("r"), 2) - C("n"), 2, lambda a, b, r, n: floor(a + n, b - r, 2) - n),
+        (C("a") // 100 * 100 + C("a") % 100 - C("a"), 2, lambda a, b, r, n: floor(a, 100) * 100 + rest(a, 100) - a),
+    ]
+    TRUTHS = [
+        (C("a") > C("r"), lambda a, b, r, n: a > r),
+        (C("n") <= C("a"), lambda a, b, r, n: n <= a),
+        (C("b") == C("n"), lambda a, b, r, n: b - n == 0),
+        (C("a") // 100 < Decimal("0.5"), lambda a, b, r, n: floor(a, 100) < Decimal("0.5")),
+        (C("a") % 1 == Decimal("0.5"), lambda a, b, r, n: rest(a, 1) == Decimal("0.5")),
+    ]
+
+    def setUp(self):
+        self.program = program()
+        room = tempfile.TemporaryDirectory()
+        self.addCleanup(room.cleanup)
+        path = os.path.join(room.name, "main.csv")
+        with open(path, "w", encoding="utf-8") as file:
+            file.write("a,b,r,n\n" + "".join(",".join("" if it is None else str(it) for it in row) + "\n" for row in self.ROWS))
+        self.lazy = fq.scan_csv(path, schema={"a": D2, "b": D2, "r": D4, "n": INT})
+        self.rows: list = [[Decimal(it) if isinstance(it, str) else it for it in row] for row in self.ROWS]
+
+    def test_numbers(self):
+        result = self.lazy.select(**{f"x{number}": expr for number, (expr, _, _) in enumerate(self.TABLE)}).collect(program=self.program)
+        for number, (expr, scale, call) in enumerate(self.TABLE):
+            wanted = [by_python(call, row) for row in self.rows]
+            with self.subTest(expr):
+                self.assertEqual(result.schema[f"x{number}"], fq.Decimal(scale=scale) if scale else INT)
+                self.assertEqual(result[f"x{number}"], wanted)
+
+    def test_truths(self):
+        result = self.lazy.select(**{f"x{number}": expr for number, (expr, _) in enumerate(self.TRUTHS)}).collect(program=self.program)
+        for number, (expr, call) in enumerate(self.TRUTHS):
+            with self.subTest(expr):
+                self.assertEqual(result[f"x{number}"], [by_python(call, row) for row in self.rows])
+
+    def test_groups(self):
+        """Means and shares of groups, and what is computed of a sum and a number of rows."""
+        groups = self.lazy.group_by(negative=C("a") < 0).agg(
+            whole=C("a").sum() // fq.len(), mean=C("a").sum().quotient(fq.len(), 2), of_values=C("a").sum().quotient(C("a").count(), 4),
+            share=C("a").sum().quotient(C("r").sum(), 3), net=(C("a") * Decimal("1.19")).sum() - fq.len(),
+        )
+        expected = []
+        for key in (False, True, None):
+            rows = [row for row in self.rows if by_python(lambda a, *_: a < 0, row) is key]
+            a, r = ([row[place] for row in rows if row[place] is not None] for place in (0, 2))
+            total = sum(a, Decimal("0.00"))
+            by_count = by_python(lambda total, count: floor(total, count, 4), (total, len(a)))
+            share = by_python(lambda total, r: floor(total, r, 3), (total, sum(r, Decimal(0))))
+            net = total * Decimal("1.19") - len(rows)
+            expected.append((key, int(floor(total, len(rows))), floor(total, len(rows), 2), by_count, share, net))
+        self.assertEqual(groups.collect(program=self.program).rows(), expected)
+
+    def test_refused_plans(self):
+        """A plan by hand whose notations differ, or need a name, and the call of the package that a refusal would name."""
+        plan = self.lazy.plan()
+        for expression, words in [(["add", A, R], "notations differ"), (["floordiv", A, 100], "a scale has to be named")]:
+            plan["steps"] = [{"select": [["n", N], ["x", expression]]}]
+            with self.subTest(words), self.assertRaisesRegex(fq.ArgumentsError, words) as raised:
+                fq.run_plan(plan, self.lazy.files(), notations=self.lazy.notations(), program=self.program)
+            self.assertEqual((raised.exception.status, raised.exception.step, raised.exception.item), (2, 0, 1))
+        error = fault("frameq: --decimal, --date: step 1: notations differ\n  why\n", 2, plan, [], ["select(..)", "filter(..)"])
+        self.assertEqual((type(error), error.call, error.item, error.details), (fq.ArgumentsError, "filter(..)", None, ("why",)))
 
 
 class Queries(unittest.TestCase):
     """Queries and scripts."""
 
     def test_sql(self):
-        """Tables and rows have decimals and dates where an engine has them, and the query has ints."""
+        """Tables and rows have decimals and dates where an engine has them, each of its own scale, and the query has ints."""
+        query = frame(a=D2).with_columns(a=C("a") * C("a") % 1).sql("postgres")
+        for part in ['frame."a" * CAST(100 AS DECIMAL(3, 0))', 'CAST(0.0001 AS DECIMAL(4, 4)) AS DECIMAL(19, 4)) AS "a"', "BIGINT '10000'"]:
+            self.assertIn(part, query)
         lazy = frame(a=D2, d=DATE, t=TEXT).filter(C("a") > Decimal("1.005"))
         for dialect, parts in [
             ("postgres", ['frame."a" * CAST(100 AS DECIMAL(3, 0))', 'MAKE_DATE(CAST(frame."d" / 10000 AS INTEGER)', '(frame."a" > BIGINT']),
