@@ -47,6 +47,12 @@ LEFT = '{"join":{"source":0,"on":["k"],"how":"left"}}'
 INNER = '{"join":{"source":0,"on":["k"],"how":"inner"}}'
 COUNTED = '{"group_by":{"keys":["k"],"aggs":[["n","len"]]}}'
 ROLLED = '{"rolling_sum":{"column":"v","window":3,"min_samples":2,"name":"r"}}'
+NOTED = [
+    LEFT,
+    '{"with_columns":[["t",["mul",{"col":"p"},{"col":"n"}]]]}',
+    '{"group_by":{"keys":["k"],"aggs":[["s","sum","t"],["d","max","day"]]}}',
+    '{"rolling_sum":{"column":"s","window":2,"min_samples":1,"name":"r"}}',
+]
 OVER_TEN = '{"filter":["gt",{"col":"v"},10]}'
 JOINED = ["k,w\n1,a\n,b\n1,c\n", "k,v\n2,10\n1,20\n,30\n"]
 K_W_AND_K_V = [source(1, "k int", "w text"), source(1, "k int", "v int")]
@@ -74,9 +80,12 @@ ROWS = [
     Row("amounts and dates", plan([source(2, "day int", "v int")], '{"with_columns":[["w",["mul",{"col":"v"},2]]]}'),
         ["day,v\n2024-02-29,1.5\n", "day,v\n,-.05\n"], frame("day,v,w\n2024-02-29,1.50,3.00\n,-0.05,-0.10\n"),
         ("--decimal", "v=2", "--date", "day", "--decimal", "w=2")),
+    Row("notations that follow", plan([source(1, "k int", "p int"), source(1, "k int", "n int", "day int")], ",".join(NOTED)),
+        ["k,p\n1,1.50\n2,2.25\n", "k,n,day\n1,2,2024-02-29\n2,1,2024-03-01\n1,1,2024-03-02\n"],
+        frame("k,s,d,r\n1,4.50,2024-03-02,4.50\n2,2.25,2024-03-01,6.75\n"), ("--decimal", "p=2", "--date", "day")),
     Row("an amount of too many places", plan([source(1, "v int")], ""), ["v\n1.5\n1.25\n"], fault(4, "file 0, row 2, column 0: bad cell"),
         ("--decimal", "v=1")),
-    Row("no scale", plan([source(1, "v int")], ""), ["v\n1.5\n"], fault(2, "--decimal takes NAME=SCALE, with a scale from 1 to 18"),
+    Row("no scale", plan([source(1, "v int")], ""), ["v\n1.5\n"], fault(2, "--decimal takes NAME=SCALE, with a scale from 0 to 18"),
         ("--decimal", "v=2,v")),
     Row("two ways to write a name", plan([source(1, "v int")], ""), ["v\n1.5\n"], fault(2, "--decimal, --date: a name stands twice"),
         ("--decimal", "v=2", "--date", "v")),
@@ -102,8 +111,11 @@ DETAILS = [
     ("a column", plan([source(1, "x int")], OVER_TEN), "", 3, "plan: step 0: no such column", '  "v"; there are "x"\n'),
     ("an amount", plan([source(1, "x int")], ""), "x\n1.5\n1.25\n", 4, "file 0, row 2, column 0: bad cell",
         '  F:3: column "x": "1.25" is not a decimal of at most 1 place\n', "--decimal", "x=1"),
-    ("a scale", plan([source(1, "x int")], ""), "x\n", 2, "--decimal takes NAME=SCALE, with a scale from 1 to 18",
+    ("a scale", plan([source(1, "x int")], ""), "x\n", 2, "--decimal takes NAME=SCALE, with a scale from 0 to 18",
         "  --decimal \"y\"\n", "--decimal", "x=2,y"),
+    ("a sum of two scales", plan([source(1, "x int", "y int")], '{"with_columns":[["z",["add",{"col":"x"},{"col":"y"}]]]}'), "", 2,
+        "--decimal, --date: step 0, item 0: notations differ", '  "x" has scale 2 and "y" has scale 0: multiply "y" by 100\n',
+        "--decimal", "x=2"),
     ("a name", plan([source(1, "x int", "t text")], ""), "x,t\n", 2, "--decimal, --date: no such int column",
         '  "t" is not an int column\n  source 0: "x"\n  the frame: "x"\n', "--decimal", "x=2", "--date", "t"),
 ]

@@ -3,8 +3,10 @@ import json
 import random
 from collections import namedtuple
 
+import following
 import oracle
-from oracle import DATE, GREATEST, KINDS, LEAST, MOST_PLACES
+from oracle import GREATEST, KINDS, LEAST
+from plans import DATE, MOST_PLACES
 
 # The most sources and files of a plan.
 MOST_SOURCES, MOST_FILES = 8, 16
@@ -321,20 +323,269 @@ def wrong_plan_text(draw, value):
     return with_double_version(draw, value)
 
 
+# ---- plans with notations: each step is drawn with what follows for the columns before it
+
+# The names of columns with notations; no source has the last ones.
+NOTED_NAMES = [*(name for name in NAMES if "," not in name), "b_right", "k_right", "t", "u", "v"]
+NAMES_OF_SOURCES = ["a", "b", "c", "k", "é", "x,y", "a_right"]
+SCALES = [0, 0, 1, 2, 2, 2, 3, 4, 4, 9, 10, MOST_PLACES - 1, MOST_PLACES]
+FACTORS = [2, 3, 7, 10, 10, 100, 100, 100, 1000, -10, -100, 20, 50, 119, 250, 1200, 10_000, 10**18, 0, 1]
+AMOUNTS_BESIDE = [5, 50, 100, 1250, -350, 20240229]
+PARTS_OF_DAYS = [1, 1, 100, 100, 100, 10_000, 10_000, 7, -100, ["mul", 10, 10]]
+
+# How plans with notations end by what follows from them, with the weight of each.
+JUDGEMENTS = {"": 44, following.DIFFER: 22, following.UNNAMED: 34}
+MOST_TRIES = 12
+
+# Stand in the place of numbers in steps, so that days are compared and cut.
+NUMBERS_OF_DAYS = [100, 10_000, 20240229, 20240301, 19000228, 101, 10101, 99991231]
+
+# What a step is drawn for: the kinds of the columns before it, the notations of those that are ints, the columns of the sources before the
+# last, the version of the plan, and the notations that arguments give to names, if they are given.
+Before = namedtuple("Before", "columns notations joins version wished")
+
+
+def noted_number(draw, notation):
+    """A literal beside something of a notation."""
+    if draw.often(6):
+        return {"null": "int"}
+    if notation == DATE and draw.often(90):
+        return draw.choice(NUMBERS_OF_DAYS if draw.often(15) else [20240229, 20240301, 19000228, 99991231, -20240229])
+    number = draw.choice(FACTORS if draw.often(60) else AMOUNTS_BESIDE)
+    if draw.often(8):
+        return [draw.choice(oracle.ARITHMETIC), number, draw.choice(FACTORS)]
+    return ["neg", number] if draw.often(5) else number
+
+
+def noted_leaf(draw, notations, wanted):
+    """A column of a notation if there is one, seldom another, or a literal."""
+    names = [name for name, notation in notations.items() if notation == wanted]
+    if draw.often(3 if names else 60):
+        names = list(notations)
+    return {"col": draw.choice(names)} if names and draw.often(85) else noted_number(draw, wanted)
+
+
+def noted_product(draw, scales, wanted, part):
+    """A product or a quotient that may have a scale, with a literal that moves the point or without one, seldom one that may not have it.
+    `part` draws a part of a scale."""
+    change, zeros, other = draw.randrange(8), draw.choice([1, 1, 2, 3]), draw.choice([0, *scales])
+    if change == 0:
+        return ["mul", part(max(0, wanted - zeros)), 10**zeros]
+    if change in (1, 4):
+        return ["floordiv", part(min(wanted + zeros, MOST_PLACES)), draw.choice([1, 1, -1, 2, 12]) * 10**zeros]
+    if change == 2:
+        return ["floordiv", part(min(wanted + other, MOST_PLACES)), part(other)]
+    if change == 3:
+        return [draw.choice(["mul", "floordiv"]), part(wanted), draw.choice(FACTORS)]
+    if change == 5:
+        return [draw.choice(["mul", "mul", "floordiv"]), part(other), part(draw.choice([0, *scales]))]
+    other = min(other, wanted)
+    return ["mul", *draw.sample([part(other), part(wanted - other)], 2)]
+
+
+def noted_int(draw, notations, wanted, depth):
+    """An int expression that mostly may have a notation, with at most so many operators one in another."""
+    if draw.often(4):
+        wanted = draw.choice([0, DATE, *notations.values()])
+    if depth == 0 or draw.often(25):
+        return noted_leaf(draw, notations, wanted)
+    part = lambda notation: noted_int(draw, notations, notation, depth - 1)
+    if wanted == DATE and draw.often(95):
+        return ["fill_null", part(DATE), noted_number(draw, DATE) if draw.often(30) else part(DATE)]
+    if wanted == DATE:
+        return draw.choice([["neg", part(DATE)], ["add", part(DATE), 1], ["sub", part(DATE), part(DATE)]])
+    if wanted == 0 and DATE in notations.values() and draw.often(40):
+        other = draw.choice([draw.choice(PARTS_OF_DAYS)] * 3 + [noted_number(draw, 0), part(0)])
+        return [draw.choice(["floordiv", "mod"]), part(DATE), other]
+    if draw.often(45):
+        return noted_product(draw, [notation for notation in notations.values() if notation != DATE], wanted, part)
+    if draw.often(10):
+        return ["neg", part(wanted)]
+    sides = [part(wanted), noted_number(draw, wanted) if draw.often(30) else part(wanted)]
+    return [draw.choice(["add", "add", "sub", "sub", "mod", "fill_null"]), *draw.sample(sides, 2)]
+
+
+def noted_truth(draw, before, depth):
+    """A truth value, mostly by a comparison of ints."""
+    wanted = draw.choice([0, *before.notations.values()])
+    whole = noted_int(draw, before.notations, wanted, depth)
+    change = draw.randrange(10)
+    if change < 6 or depth == 0:
+        other = noted_number(draw, wanted) if draw.often(35) else noted_int(draw, before.notations, wanted, 1)
+        return [draw.choice(oracle.COMPARISONS), *draw.sample([whole, other], 2)]
+    if change == 6:
+        return [draw.choice(["is_null", "is_not_null"]), whole]
+    if change == 7:
+        return expression(draw, {name: kind for name, kind in before.columns.items() if kind != "int"}, "bool", 1)
+    if change == 8:
+        return ["not", noted_truth(draw, before, depth - 1)]
+    return [draw.choice(oracle.LOGIC), noted_truth(draw, before, depth - 1), noted_truth(draw, before, depth - 1)]
+
+
+def notation_for(draw, before, name):
+    """A notation for what is made under a name: mostly the one that arguments give it, or that it has."""
+    if name in before.wished and draw.often(75):
+        return before.wished[name]
+    if name in before.notations and draw.often(50):
+        return before.notations[name]
+    return draw.choice([0, *before.notations.values()])
+
+
+def names_of_items(draw, before, least, most):
+    """Names for what a step makes, some of them those of columns that are there, most of all of those that may be keys of a join."""
+    keys = [name for columns in before.joins for name in columns if name in before.notations]
+    return list(dict.fromkeys(draw.some([*NOTED_NAMES, *before.notations, *keys, *keys], least, most)))
+
+
+def noted_item(draw, before, name):
+    if draw.often(10):
+        return [name, noted_truth(draw, before, 1)]
+    if draw.often(5):
+        return [name, expression(draw, before.columns, "text", 1)]
+    return [name, noted_int(draw, before.notations, notation_for(draw, before, name), draw.randint(0, 3))]
+
+
+def noted_column(draw, before, name):
+    """An int column for an aggregate of a name, if there is one."""
+    wanted = notation_for(draw, before, name)
+    of_notation = [column for column, notation in before.notations.items() if notation == wanted]
+    return draw.choice(of_notation or list(before.notations) or list(before.columns))
+
+
+def noted_filter(draw, before):
+    """A filter, of which some keep all rows or those where its truth value is null too."""
+    truth = noted_truth(draw, before, 2)
+    return {"filter": draw.choice([truth, ["fill_null", truth, True], ["or", truth, True], ["or", truth, True]])}
+
+
+def noted_with_columns(draw, before):
+    return {"with_columns": [noted_item(draw, before, name) for name in names_of_items(draw, before, 1, 3)]}
+
+
+def noted_select(draw, before):
+    """Some columns as they are or by another name, and other items."""
+    names = names_of_items(draw, before, 1, 2)
+    kept = [name for name in draw.some(list(before.columns), 1, 5) if name not in names]
+    return {"select": [[name, {"col": name}] for name in kept] + [noted_item(draw, before, name) for name in names]}
+
+
+def noted_join(draw, before):
+    """A join if a source has a column that is there, or else items."""
+    has_common = any(set(before.columns.items()) & set(columns.items()) for columns in before.joins)
+    return join_step(draw, before.columns, before.joins, before.version) if has_common else noted_with_columns(draw, before)
+
+
+def noted_group_by(draw, before):
+    keys = draw.some(list(before.columns), 1, 2)
+    aggregates = []
+    for name in [name for name in names_of_items(draw, before, 0, 4) if name not in keys]:
+        function = draw.choice(["len", "sum", *oracle.FUNCTIONS])
+        column = column_name(draw, before.columns) if function != "sum" and draw.often(10) else noted_column(draw, before, name)
+        aggregates.append([name, function, column][:2 if function == "len" else 3])
+    return {"group_by": {"keys": keys, "aggs": aggregates}}
+
+
+def noted_rolling_sum(draw, before):
+    name = names_of_items(draw, before, 1, 1)[0]
+    return {"rolling_sum": {"column": noted_column(draw, before, name), "window": draw.choice([1, 2, 3]), "min_samples": 1, "name": name}}
+
+
+NOTED_STEPS = [
+    noted_filter, noted_with_columns, noted_with_columns, noted_select, noted_join, noted_join, noted_group_by, noted_rolling_sum,
+]
+WITH_ITEMS = [noted_with_columns, noted_select]  # which alone lack a scale
+
+
+def int_names(frames):
+    return {name for columns in frames for name, kind in columns.items() if kind == "int"}
+
+
+def judgement(value, wished):
+    """The columns after the last step of a plan, their notations where names are given these, and why it is refused, if it is; or None if
+    it is no plan."""
+    try:
+        read = oracle.plan_of(value)
+        sources, along = oracle.check(read)
+    except (oracle.Ending, oracle.WrongShape):
+        return None
+    names = int_names([*sources, *along])
+    given = {name: notation for name, notation in wished.items() if name in names}
+    try:
+        return along[-1], following.notations_along(read, sources, along, given)[-1], ""
+    except oracle.Ending as ending:
+        return along[-1], {}, ending.line.rpartition(": ")[2]
+
+
+def and_again(draw, value, before):
+    """A plan, seldom with one more step, which makes a name that its last step made or brought."""
+    judged = None if draw.often(80) else judgement(value, before.wished)
+    if not judged:
+        return value
+    ints = int_names(judged[:1])
+    made = following.made_by(oracle.step_of(before.version, value["steps"][-1]))
+    names = sorted(name for name in ints if name in made or name not in before.columns)
+    if not names:
+        return value
+    known = judged[1] or {**dict.fromkeys(ints, 0), **before.wished, **before.notations}
+    after = before._replace(columns=judged[0], notations={name: known[name] for name in sorted(ints)})
+    again = {draw.choice(["with_columns", "select"]): [noted_item(draw, after, draw.choice(names))]}
+    return {**value, "steps": [*value["steps"], again]}
+
+
+def with_step(draw, value, wished, why, tries):
+    """A plan with a step more, or two, after which it is refused for this reason, or "", if one of so many draws has it so; or else the
+    plan."""
+    columns, notations, _ = judgement(value, wished)
+    joins = [dict(one["columns"]) for one in value["sources"][:-1]]
+    before = Before(columns, notations, joins, value["version"], wished)
+    for _ in range(tries):
+        step = draw.choice(WITH_ITEMS if why == following.UNNAMED else NOTED_STEPS)
+        longer = and_again(draw, {**value, "steps": [*value["steps"], step(draw, before)]}, before)
+        judged = judgement(longer, wished)
+        if judged and judged[2] == why:
+            return longer
+    return value
+
+
+def noted_source(draw, version, key):
+    """A source of ints in the first place; others are joined to the main one by its key."""
+    names = draw.some([name for name in NAMES_OF_SOURCES if name != key], 1, 4)
+    columns = [[key, "int"], *([name, draw.choice(["int", "int", "int", *KINDS])] for name in names)]
+    one = {"files": draw.choice([1, 1, 1, 2]), "columns": draw.sample(columns, len(columns))}
+    if version == 2 and draw.often(40):
+        one["null_values"] = null_values(draw)[:16]
+    return one
+
+
+def noted_plan(draw, versions):
+    """A plan, and the notations that its names are given. It mostly ends as it is to end by what follows from them."""
+    version, key = draw.choice(versions), draw.choice(NAMES_OF_SOURCES)
+    names = [name for name in NOTED_NAMES if draw.often(85 if name in NAMES_OF_SOURCES else 45)]
+    wished = {name: DATE if draw.often(20) else draw.choice(SCALES) for name in names}
+    sources = [noted_source(draw, version, key) for _ in range(draw.choice([1, 2, 2, 3]))]
+    value = {"version": version, "sources": sources, "steps": []}
+    why = draw.choices(list(JUDGEMENTS), list(JUDGEMENTS.values()))[0]
+    for _ in range(draw.randint(0 if why else 1, 5)):
+        value = with_step(draw, value, wished, "", MOST_TRIES)
+    if why:
+        value = with_step(draw, value, wished, why, 6 * MOST_TRIES)
+    return value, wished
+
+
 # ---- notations
 
 UNKNOWN_NOTATIONS = [f"{UNKNOWN}=2", "a =2", "A=2"]
-WRONG_NOTATIONS = ["a", "a=", "a=0", f"a={MOST_PLACES + 1}", "a=-2", "a=2.0", "a= 2", "a=2=", "a=1=2", "x,y=2",
+WRONG_NOTATIONS = ["a", "a=", "a=-1", f"a={MOST_PLACES + 1}", "a=-2", "a=2.0", "a= 2", "a=2=", "a=1=2", "x,y=2",
                    "a=99999999999999999999", "a=2,"]
 
 
 def frames_of(value):
-    """The columns of each source of a plan, and those of its result where no step is refused."""
+    """The columns of each source of a plan, and those after each step where none is refused."""
     try:
         sources, columns_along = oracle.check(oracle.plan_of(value))
     except (oracle.Ending, oracle.WrongShape):
         return [dict(one["columns"]) for one in value["sources"]]
-    return [*sources, columns_along[-1]]
+    return [*sources, *columns_along]
 
 
 def entry_of_decimal(draw, name, scale):
@@ -353,9 +604,9 @@ def lists_of(draw, notations):
         "--decimal": [entry_of_decimal(draw, name, notation) for name, notation in notations.items() if notation != DATE],
         "--date": [name for name, notation in notations.items() if notation == DATE],
     }
-    if draw.often(4):
+    if draw.often(3):
         entries["--decimal"].insert(draw.randint(0, len(entries["--decimal"])), draw.choice(UNKNOWN_NOTATIONS))
-    if draw.often(4):
+    if draw.often(3):
         entries["--date"].append(draw.choice([UNKNOWN, *NAMES, *notations, *notations]))
     if draw.often(2):
         entries["--decimal"].append(draw.choice(WRONG_NOTATIONS))
@@ -363,18 +614,17 @@ def lists_of(draw, notations):
     return draw.sample(lists, len(lists))
 
 
-def notations_of(draw, value):
-    """Notations of int columns of a plan, of its sources or of its result, in any order. A name with a comma cannot have one."""
-    names = {name for columns in frames_of(value) for name, kind in columns.items() if kind == "int" and "," not in name}
+def notations_of(draw, value, wished=None):
+    """Notations of int columns of a plan, of its sources or after any step, in any order: those that are wished, or any. A name with a
+    comma cannot have one."""
     drawn = {}
-    for name in draw.sample(sorted(names), len(names)):
-        if draw.often(85):
-            drawn[name] = DATE if draw.often(45) else draw.choice([1, 2, 2, 2, 3, 9, MOST_PLACES - 1, MOST_PLACES])
+    names = sorted(name for name in int_names(frames_of(value)) if "," not in name)
+    for name in draw.sample(names, len(names)):
+        if wished is not None and name in wished:
+            drawn[name] = wished[name]
+        if wished is None and draw.often(60):
+            drawn[name] = DATE if draw.often(30) else draw.choice(SCALES)
     return drawn
-
-
-# Stand in the place of numbers in steps, so that days are compared and cut.
-NUMBERS_OF_DAYS = [100, 10_000, 20240229, 20240301, 19000228, 101, 10101, 99991231]
 
 
 def with_days(draw, value):
@@ -414,6 +664,9 @@ WRONG_DAYS = ["2023-02-29", "1900-02-29", "2024-04-31", "2024-01-32", "2024-01-0
               "2024-01", "٢٠٢٤-01-05"]
 
 
+WHOLE_DECIMALS = ["1.", "1.0", ".5", "0.0", "-.0", "1.50"]  # which a column of scale 0 doesn't take
+
+
 def with_point(number, scale):
     """The digits before and behind the point of a number without its sign."""
     digits = f"{abs(number):0{scale + 1}}"
@@ -446,6 +699,8 @@ def wrong_decimal(draw, scale):
 
 def wrong_field(draw, kind, notation):
     if kind == "int" and notation is not None and draw.often(85):
+        if notation == 0:
+            return draw.choice(WHOLE_DECIMALS).encode()
         return draw.choice(WRONG_DAYS).encode() if notation == DATE else wrong_decimal(draw, notation)
     return draw.choice(WRONG_FIELDS).encode() if draw.often(90) else b"\xff"
 
@@ -457,7 +712,7 @@ def field(draw, kind, notation, care, nulls):
         return wrong_field(draw, kind, notation)
     if draw.often(18):
         return b""
-    if kind == "int" and notation is not None:
+    if kind == "int" and notation:
         return draw.choice(DAYS).encode() if notation == DATE else decimal_field(draw, notation, care)
     if kind == "int":
         number = draw.choice(EDGES if draw.often(care.edges) else SMALL)
@@ -544,12 +799,16 @@ def case(seed, number, versions=(1, 2), rows=None, noted=0):
     draw, apart = Draw(f"{seed}, {number}"), Draw(f"{seed}, {number}, notations")
     value, notations, lists = plan(draw, versions), {}, []
     if apart.often(noted):
-        value["steps"] = with_days(apart, value["steps"])
+        wished = None
+        if apart.often(10):
+            value["steps"] = with_days(apart, value["steps"])
+        else:
+            value, wished = noted_plan(apart, versions)
         with_null_days(apart, value["sources"])
-        notations = notations_of(apart, value)
+        notations = notations_of(apart, value, wished)
         lists = lists_of(apart, notations)
     files = files_of(draw, value, rows, notations)
-    text = wrong_plan_text(draw, value) if draw.often(10) else text_of(draw, value)
+    text = wrong_plan_text(draw, value) if draw.often(4 if lists else 10) else text_of(draw, value)
     batch = draw.choice([1, 2, 3, 7, 64, 1000, 65536])
     workers = 16 if len(files) == MOST_FILES else draw.randint(1, 16)
     return Case(text, files, batch, workers, lists)

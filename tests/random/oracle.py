@@ -14,6 +14,12 @@ import math
 import re
 from collections import namedtuple
 
+import following
+from plans import (
+    DATE, MOST_PLACES, Aggregate, Binary, Column, Ending, Filter, GroupBy, Join, Literal, Plan, RollingSum, Select, Source, Unary,
+    WithColumns,
+)
+
 LEAST, GREATEST = -2**63, 2**63 - 1
 MOST_COLUMNS = 64
 MOST_ROWS_OF_A_FILE = 2_147_483_647
@@ -23,39 +29,12 @@ MOST_JOINED_ROWS = 4_294_967_295
 Answer = namedtuple("Answer", "status output error")
 
 
-class Ending(Exception):
-    """Why there is no frame: the exit status, and the line that says so."""
-
-    def __init__(self, status, line):
-        super().__init__(line)
-        self.status = status
-        self.line = line
-
-
 def fits(number):
     """Whether a whole number fits 64 bits."""
     return LEAST <= number <= GREATEST
 
 
-# ---- plans as data
-
-Plan = namedtuple("Plan", "sources steps")
-Source = namedtuple("Source", "files columns nulls")
-
-Column = namedtuple("Column", "name")
-Literal = namedtuple("Literal", "kind cell")
-Unary = namedtuple("Unary", "operator operand")
-Binary = namedtuple("Binary", "operator left right")
-
-Filter = namedtuple("Filter", "predicate")
-WithColumns = namedtuple("WithColumns", "outputs")
-Select = namedtuple("Select", "outputs")
-Join = namedtuple("Join", "source on how nulls_equal")
-GroupBy = namedtuple("GroupBy", "keys aggregates")
-RollingSum = namedtuple("RollingSum", "column window min_samples name")
-
-# An output of a grouping; `len` reads no column.
-Aggregate = namedtuple("Aggregate", "name function column")
+# ---- the words of plans, which plans.py has as data
 
 KINDS = ("int", "text", "bool")
 ARITHMETIC = ("add", "sub", "mul", "floordiv", "mod")
@@ -455,10 +434,7 @@ def check(plan):
 
 # ---- notations: how the ints of a name are written in CSV (docs/GUIDE.md, Amounts and dates)
 
-# A notation is the scale of a decimal, or DATE. Notations are a dict from names to them.
-
-DATE = "date"
-MOST_PLACES = 18
+# Notations are a dict from names to them. following.py has those of the columns that steps make.
 
 # No number is rounded in it.
 EXACT = decimal.Context(
@@ -470,8 +446,8 @@ def decimal_entry(entry):
     """The name and the scale of an entry of --decimal; its first `=` stands between them."""
     name, _, digits = entry.partition("=")
     scale = re.fullmatch("[+-]?0*([0-9]{1,2})", digits) if "=" in entry else None
-    if not scale or digits.startswith("-") or not 1 <= int(scale[1]) <= MOST_PLACES:
-        raise Ending(2, f"--decimal takes NAME=SCALE, with a scale from 1 to {MOST_PLACES}")
+    if not scale or digits.startswith("-") or int(scale[1]) > MOST_PLACES:
+        raise Ending(2, f"--decimal takes NAME=SCALE, with a scale from 0 to {MOST_PLACES}")
     return name, int(scale[1])
 
 
@@ -482,7 +458,7 @@ def entries_of(arguments):
 
 
 def notations_of(entries, frames):
-    """The notations that entries give to the int columns of these frames: those of each source, and that of the result."""
+    """The notations that entries give to the int columns of these frames: those of each source, and that after each step."""
     notations = {}
     for name, notation in entries:
         if name in notations:
@@ -515,7 +491,7 @@ def int_of_date(field):
 
 
 def text_of_int(notation, number):
-    if notation is None:
+    if not notation:
         return str(number)
     if notation != DATE:
         return f"{decimal.Decimal(number).scaleb(-notation, EXACT):f}"
@@ -581,7 +557,7 @@ def cell_of(kind, notation, field):
         raise ValueError(field)
     if notation == DATE:
         return int_of_date(field)
-    if notation is not None:
+    if notation:
         return int_of_decimal(notation, field)
     # (without the zeros before its digits, of which Python's int takes some thousands at most)
     number = re.fullmatch(rb"([+-]?)0*([0-9]{1,19})", field)
@@ -887,13 +863,15 @@ def printed(columns, rows, notations=None):
 # ---- the program
 
 def output_of(plan_text, files, entries):
-    """The frame's text. The plan is judged first, then its check, the number of files, the names with notations, and the run."""
+    """The frame's text. The plan is judged first, then its check, the number of files, the names with notations, what follows from them
+    step by step, and the run."""
     plan = read_plan(plan_text)
     sources, columns_along = check(plan)
     if len(files) != files_wanted(plan):
         raise Ending(2, f"inputs: wanted {files_wanted(plan)}, got {len(files)}")
-    notations = notations_of(entries, [*sources, columns_along[-1]])
-    return printed(columns_along[-1], meaning(plan, sources, columns_along, files, notations), notations)
+    notations = notations_of(entries, [*sources, *columns_along])
+    *_, of_frame = following.notations_along(plan, sources, columns_along, notations)
+    return printed(columns_along[-1], meaning(plan, sources, columns_along, files, notations), of_frame)
 
 
 def answer(plan_text, files, arguments=()):
